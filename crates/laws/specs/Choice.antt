@@ -1,0 +1,47 @@
+-- A case by a test, and tests joined: what definitions are written with. Assumes nothing.
+use mathlib.Core.Path.{_≡_, refl, sym, ap, subst, _∙_}
+use mathlib.Core.Bool.{Bool, true, false}
+use mathlib.Core.List.{List, [], _∷_}
+use Prim.Native.Nat.{ℕ}
+use lib.Dec.{T, eqb}
+
+abbrev pub pick : {A : Type 0} → Bool → A → A → A
+pick true a b = a
+pick false a b = b
+
+abbrev pub both : Bool → Bool → Bool
+both true b = b
+both false b = false
+
+abbrev pub either : Bool → Bool → Bool
+either true b = true
+either false b = b
+
+abbrev pub opposite : Bool → Bool
+opposite true = false
+opposite false = true
+
+-- n is one of these
+abbrev pub oneOf : List ℕ → ℕ → Bool
+oneOf [] n = false
+oneOf (x ∷ xs) n = either (eqb n x) (oneOf xs n)
+
+pub both-left : (a b : Bool) → T (both a b) → T a
+both-left true b t = tt
+both-left false b t = t
+
+pub both-right : (a b : Bool) → T (both a b) → T b
+both-right true b t = t
+both-right false b t = absurd t
+
+pub both-make : (a b : Bool) → T a → T b → T (both a b)
+both-make true b t u = u
+both-make false b t u = t
+
+-- a test that holds is true, and what is true holds
+pub T-true : (b : Bool) → T b → b ≡ true
+T-true true t = refl
+T-true false t = absurd t
+
+pub true-T : (b : Bool) → b ≡ true → T b
+true-T b e = subst (λ (b : Bool). T b) (sym e) tt

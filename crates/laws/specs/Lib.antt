@@ -1,0 +1,7 @@
+pub mod Choice
+pub mod Integer
+pub mod Sum
+pub mod Operation
+pub mod Table
+pub mod Block
+pub mod Linear
