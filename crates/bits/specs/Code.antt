@@ -1,0 +1,48 @@
+-- A table of codewords, and what reading a codeword finds. Assumes nothing.
+use Prim.Native.Nat.{ℕ, zero, suc, _+_}
+use mathlib.Core.List.{List, [], _∷_}
+use mathlib.Core.Bool.{Bool, true, false}
+use lib.Dec.{eqb}
+use lib.ListN.{length, drop}
+use Rattle.laws.specs.Choice.{pick, both, either}
+use Rattle.refusals.specs.declared.Reason.the-variants.{BitsEnd, NoCodeword}
+use Rattle.bits.specs.Bits.{Bit, O, I, same}
+use Rattle.bits.specs.Read.{Read, got, bad, Reader}
+
+-- a codeword and its meaning
+pub data Entry : Type 0 where
+  entry : List Bit → ℕ → Entry
+
+-- w is a beginning of bs
+abbrev pub starts : List Bit → List Bit → Bool
+starts [] bs = true
+starts (x ∷ w) [] = false
+starts (x ∷ w) (b ∷ bs) = both (same x b) (starts w bs)
+
+-- bs is a beginning of some codeword of the table
+unfoldable pub longer : List Entry → List Bit → Bool
+longer [] bs = false
+longer (entry w m ∷ tab) bs = either (starts bs w) (longer tab bs)
+
+-- the first codeword of the table that bs begins with: its meaning, the bits and the place after it; else what `other` says
+unfoldable pub lookup : List Entry → List Bit → ℕ → Read ℕ → Read ℕ
+lookup [] bs at other = other
+lookup (entry w m ∷ tab) bs at other =
+    let found = got m (drop (length w) bs) (at + length w) in
+    elim (starts w bs) [ true ↦ found | false ↦ lookup tab bs at other ]
+
+-- "if the bits left are a proper beginning of one (no bits included), the refusal is 3; if no codeword fits, 8."
+unfoldable pub word : List Entry → Reader ℕ
+word tab = λ bs at.
+    let none = bad (pick (longer tab bs) BitsEnd NoCodeword) at in
+    lookup tab bs at none
+
+-- the codeword of the meaning m, or nothing where it has none
+unfoldable pub wordOf : List Entry → ℕ → List Bit
+wordOf [] m = []
+wordOf (entry w m′ ∷ tab) m = pick (eqb m′ m) w (wordOf tab m)
+
+-- m has a codeword
+unfoldable pub has : List Entry → ℕ → Bool
+has [] m = false
+has (entry w m′ ∷ tab) m = either (eqb m′ m) (has tab m)

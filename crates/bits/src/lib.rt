@@ -1,0 +1,1 @@
+// Bits of lent bytes: fields, codewords, and the bit writer.
