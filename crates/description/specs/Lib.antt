@@ -1,0 +1,4 @@
+pub mod Vector
+pub mod Value
+pub mod Flat
+pub mod Valid

@@ -1,0 +1,1 @@
+// A description of a picture in three lent slices: its layout and its validity.
