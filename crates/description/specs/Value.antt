@@ -2,7 +2,7 @@
 use Prim.Native.Nat.{ℕ}
 use mathlib.Core.List.{List}
 use Rattle.words.specs.Words.{Coefficient}
-use Rattle.description.specs.Vector.{Vector}
+use Rattle.description.specs.Vector.{Vector, Before}
 
 -- The coefficients of a block in transmission order; none where it isn't sent. An INTRA block's first is its DC code, with run 0: the codes that it may not have are those that a level may not have.
 abbrev pub Block : Type 0
@@ -15,6 +15,10 @@ pub record Macroblock : Type 0 where
   pub mquant : ℕ
   pub vector : Vector
   pub blocks : List Block
+
+-- what a macroblock leaves behind for the next one's vector
+abbrev pub after : Macroblock → Before
+after m = record { address = m .address; vector = m .vector }
 
 pub record Group : Type 0 where
   pub gquant : ℕ

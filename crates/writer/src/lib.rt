@@ -1,0 +1,1 @@
+// From a valid description to the bits of its picture.
