@@ -2,12 +2,19 @@
 //! reconstruction, writer, blocks, sender, receiver and lister, and a maker of test inputs.
 
 pub mod bits;
+pub mod block;
 pub mod codewords;
 pub mod description;
+pub mod edges;
 pub mod format;
+pub mod lister;
+pub mod maker;
+pub mod random;
 pub mod reader;
+pub mod receiver;
 pub mod reconstruction;
 pub mod refusal;
+pub mod sender;
 pub mod tables;
 pub mod transform;
 pub mod writer;
