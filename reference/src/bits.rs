@@ -164,9 +164,10 @@ impl Bits {
         }
     }
 
+    /// A codeword as printed.
     pub fn word(&mut self, word: &str) {
-        for bit in digits(word) {
-            self.push(bit);
+        for digit in word.bytes().filter(|&digit| digit != b' ') {
+            self.push(digit == b'1');
         }
     }
 

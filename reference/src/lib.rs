@@ -1,8 +1,10 @@
 //! An independent implementation of Pagesorrel, from document 01 and H.261 alone: reader,
 //! reconstruction, writer, blocks, sender, receiver and lister, and a maker of test inputs.
 
+pub mod annex_a;
 pub mod bits;
 pub mod block;
+pub mod check;
 pub mod codewords;
 pub mod description;
 pub mod edges;
@@ -15,6 +17,7 @@ pub mod receiver;
 pub mod reconstruction;
 pub mod refusal;
 pub mod sender;
+pub mod stream;
 pub mod tables;
 pub mod transform;
 pub mod writer;

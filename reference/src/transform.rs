@@ -10,14 +10,26 @@ pub type Block = [[i32; 8]; 8];
 const MAGNITUDES: [i64; 9] = [2048, 2841, 2676, 2408, 2048, 1609, 1108, 565, 0];
 
 /// "Table A\[u\]\[x\] is 2048·√2·C(u)·cos((2x+1)uπ/16) rounded."
-pub fn table_a(u: usize, x: usize) -> i64 {
-    // The angle in sixteenths of π; a whole turn is 32 of them.
-    let angle = (2 * x + 1) * u % 32;
-    match angle {
-        0..=8 => MAGNITUDES[angle],
-        9..=16 => -MAGNITUDES[16 - angle],
-        17..=24 => -MAGNITUDES[angle - 16],
-        _ => MAGNITUDES[32 - angle],
+pub const TABLE_A: [[i64; 8]; 8] = table_a();
+
+const fn table_a() -> [[i64; 8]; 8] {
+    let mut table = [[0; 8]; 8];
+    let mut at = 0;
+    while at < 64 {
+        let (u, x) = (at / 8, at % 8);
+        table[u][x] = cosine((2 * x + 1) * u);
+        at += 1;
+    }
+    table
+}
+
+/// The table's value for an angle in sixteenths of π; a whole turn is 32 of them.
+const fn cosine(sixteenths: usize) -> i64 {
+    match sixteenths % 32 {
+        angle @ 0..=8 => MAGNITUDES[angle],
+        angle @ 9..=16 => -MAGNITUDES[16 - angle],
+        angle @ 17..=24 => -MAGNITUDES[angle - 16],
+        angle => MAGNITUDES[32 - angle],
     }
 }
 
@@ -62,13 +74,13 @@ pub fn inverse_transform(block: &Block) -> Block {
     let mut rows = [[0i64; 8]; 8];
     for (v, row) in rows.iter_mut().enumerate() {
         for (x, sum) in row.iter_mut().enumerate() {
-            *sum = (0..8).map(|u| i64::from(block[v][u]) * table_a(u, x)).sum();
+            *sum = (0..8).map(|u| i64::from(block[v][u]) * TABLE_A[u][x]).sum();
         }
     }
     let mut output = [[0; 8]; 8];
     for (y, line) in output.iter_mut().enumerate() {
         for (x, sample) in line.iter_mut().enumerate() {
-            let sum: i64 = (0..8).map(|v| rows[v][x] * table_a(v, y)).sum();
+            let sum: i64 = (0..8).map(|v| rows[v][x] * TABLE_A[v][y]).sum();
             *sample = (sum + (1 << 24)).div_euclid(1 << 25).clamp(-256, 255) as i32;
         }
     }
@@ -87,7 +99,7 @@ mod tests {
                 let weight = if u == 0 { 0.5f64.sqrt() } else { 1.0 };
                 let cosine = ((2 * x + 1) as f64 * u as f64 * PI / 16.0).cos();
                 let exact = 2048.0 * 2f64.sqrt() * weight * cosine;
-                assert_eq!(table_a(u, x), exact.round() as i64, "u {u} x {x}");
+                assert_eq!(TABLE_A[u][x], exact.round() as i64, "u {u} x {x}");
             }
         }
     }
