@@ -8,7 +8,7 @@ use reference::format::Format;
 mod commands;
 
 const USAGE: &str = "usage:
-  reference words|blocks|render|pictures|write|send|deliver|lists SEED COUNT FOLDER
+  reference words|blocks|render|pictures|write|send|deliver|lists|packs SEED COUNT FOLDER
   reference annex-a > COEFFICIENTS
   reference annex-a-figures < OUTPUTS
   reference list < BLOCKS
@@ -43,7 +43,9 @@ fn run(arguments: &[&str]) -> Outcome {
         ["frames", format] => output(&commands::streams::frames(named(format)?, &input()?)),
         ["pack", format, clip] => {
             let clip = clip.parse().map_err(|_| USAGE)?;
-            output(&commands::streams::pack(named(format)?, clip, &input()?)?)
+            let packed = commands::streams::pack(named(format)?, clip, &input()?)?;
+            eprint!("{}", packed.errors);
+            output(&packed.blocks)
         }
         ["decode", format] => output(&commands::streams::decode(named(format)?, &input()?)),
         ["compare", format, raw, samples] => {

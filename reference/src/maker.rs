@@ -19,6 +19,9 @@ pub enum Style {
     DenseRefresh,
     /// As many bits as the limit allows, to the bit.
     Full,
+    /// Levels of 1 to 3 alone, which other decoders' transforms stand as well.
+    Tame,
+    TameRefresh,
 }
 
 const STYLES: [Style; 7] = [
@@ -37,7 +40,14 @@ impl Style {
     }
 
     fn is_refresh(self) -> bool {
-        matches!(self, Style::Refresh | Style::DenseRefresh)
+        matches!(
+            self,
+            Style::Refresh | Style::DenseRefresh | Style::TameRefresh
+        )
+    }
+
+    fn is_tame(self) -> bool {
+        matches!(self, Style::Tame | Style::TameRefresh)
     }
 
     /// One macroblock of so many is sent.
@@ -54,6 +64,7 @@ impl Style {
     fn most_coefficients(self, random: &mut Random) -> usize {
         match self {
             Style::Dense | Style::DenseRefresh | Style::Full => 64,
+            Style::Tame | Style::TameRefresh => 4,
             _ => random.pick(&[1, 2, 4, 8, 20]),
         }
     }
@@ -126,6 +137,32 @@ fn macroblock(random: &mut Random, format: Format, index: usize, style: Style) -
         }
     }
     keep_a_level(random, &mut made);
+    if style.is_tame() {
+        tame(&mut made);
+    }
+    made
+}
+
+fn tame(macroblock: &mut Macroblock) {
+    let dc_places = usize::from(description::is_intra(macroblock.kind));
+    for block in &mut macroblock.levels {
+        for level in &mut block[dc_places..] {
+            *level = (*level).clamp(-3, 3);
+        }
+    }
+}
+
+/// One macroblock of each of the ten types, in few bits.
+pub fn sampler(random: &mut Random, format: Format) -> Description {
+    let mut made = Description::empty(format);
+    let mut index = 0;
+    let room = format.macroblock_count() / 11;
+    for kind in 1..=10 {
+        index += 1 + random.below(room);
+        while made.macroblocks[index].kind != kind {
+            made.macroblocks[index] = macroblock(random, format, index, Style::Tame);
+        }
+    }
     made
 }
 

@@ -77,6 +77,31 @@ fn what_is_read_is_valid() {
     assert!(accepted > 10);
 }
 
+/// A cut picture is refused by 3, or ends at an MBA place of the last group.
+#[test]
+fn a_cut_is_3_or_a_shorter_picture() {
+    let mut random = Random::new(9);
+    for format in Format::ALL {
+        for _ in 0..5 {
+            let small = maker::sampler(&mut random, format);
+            assert!(small.is_valid(format));
+            let bits = maker::loose_picture(&mut random, &small);
+            for count in 0..bits.count {
+                match read(&bits.bytes, count, format) {
+                    Ok(shorter) => {
+                        assert_eq!(shorter.group_quantisers, small.group_quantisers);
+                        assert!(shorter.is_valid(format));
+                    }
+                    Err(refusal) => {
+                        assert_eq!(refusal.number, 3);
+                        assert!(refusal.place <= count);
+                    }
+                }
+            }
+        }
+    }
+}
+
 #[test]
 fn noise_is_refused_with_a_place_in_it() {
     let mut random = Random::new(4);

@@ -5,6 +5,7 @@ pub mod blocks;
 pub mod deliver;
 pub mod lists;
 pub mod made;
+pub mod packs;
 pub mod pictures;
 pub mod render;
 pub mod send;

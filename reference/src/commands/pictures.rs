@@ -52,7 +52,8 @@ impl Collector {
     }
 }
 
-/// All edges first, then `count` random pictures.
+/// All edges first, then a small picture with every cut and every flipped bit, then `count` random
+/// pictures.
 pub fn make(seed: u64, count: usize) -> Made {
     let mut random = Random::new(seed);
     let mut out = Collector {
@@ -62,6 +63,16 @@ pub fn make(seed: u64, count: usize) -> Made {
     };
     for edge in edges() {
         out.push(edge.opened, &edge.bytes, edge.count);
+    }
+    let small = maker::sampler(&mut random, Format::Qcif);
+    let bits = maker::loose_picture(&mut random, &small);
+    for place in 0..=bits.count {
+        out.push_bits(Format::Qcif, &bits.cut(place));
+    }
+    for place in 0..bits.count {
+        let mut flipped = bits.clone();
+        flipped.flip(place);
+        out.push_bits(Format::Qcif, &flipped);
     }
     for number in 0..count {
         let format = if number % 4 == 3 {

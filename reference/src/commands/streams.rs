@@ -10,21 +10,33 @@ use reference::stream::pictures;
 
 use super::Slices;
 
-/// Each picture of the stream under the next number; refused ones are named on standard error.
-pub fn pack(format: Format, clip: u16, raw: &[u8]) -> Result<Vec<u8>, String> {
+/// The blocks of a packed stream, and a line for each refused picture.
+pub struct Packed {
+    pub blocks: Vec<u8>,
+    pub errors: String,
+}
+
+/// Each picture of the stream under the next number.
+pub fn pack(format: Format, clip: u16, raw: &[u8]) -> Result<Packed, String> {
     let mut sender = Sender::open(format, clip).map_err(|refusal| refusal.to_string())?;
     let mut first = vec![0; format.store_length()];
     let mut second = vec![0; format.store_length()];
     let mut out = vec![0; format.sent_length()];
-    let mut packed = Vec::new();
+    let mut packed = Packed {
+        blocks: Vec::new(),
+        errors: String::new(),
+    };
     for picture in pictures(raw, format) {
         let answer = picture.answer.and_then(|description| {
             let slices = Slices::of(&description);
             sender.send(slices.lent(), &mut first, &mut second, &mut out)
         });
         match answer {
-            Ok(sent) => packed.extend(&out[..BLOCK_LENGTH * sent.blocks]),
-            Err(refusal) => eprintln!("byte {}: {refusal}", picture.place / 8),
+            Ok(sent) => packed.blocks.extend(&out[..BLOCK_LENGTH * sent.blocks]),
+            Err(refusal) => {
+                let line = format!("byte {}: {refusal}\n", picture.place / 8);
+                packed.errors.push_str(&line);
+            }
         }
     }
     Ok(packed)
@@ -99,6 +111,7 @@ pub fn compare(format: Format, raw: &[u8], theirs: &[u8]) -> Result<String, Stri
         differing: 0,
     };
     let mut drift = 0;
+    let mut types = [0usize; 11];
     let grey = vec![128; length];
     let mut own = grey.clone();
     let mut last = &grey[..];
@@ -107,6 +120,9 @@ pub fn compare(format: Format, raw: &[u8], theirs: &[u8]) -> Result<String, Stri
             .answer
             .as_ref()
             .map_err(|refusal| format!("byte {}: {refusal}", picture.place / 8))?;
+        for macroblock in &description.macroblocks {
+            types[usize::from(macroblock.kind)] += 1;
+        }
         let one = Difference::between(&reconstruct(description, last), samples);
         over_theirs.largest = over_theirs.largest.max(one.largest);
         over_theirs.differing += one.differing;
@@ -115,10 +131,11 @@ pub fn compare(format: Format, raw: &[u8], theirs: &[u8]) -> Result<String, Stri
         last = samples;
     }
     Ok(format!(
-        "{} pictures accepted; over the other's last picture: largest difference {}, {:.4} % of samples differ; over our own: largest {}\n",
+        "{} pictures accepted; over the other's last picture: largest difference {}, {:.4} % of samples differ; over our own: largest {}; macroblocks of types 0 to 10: {:?}\n",
         read.len(),
         over_theirs.largest,
         100.0 * over_theirs.differing as f64 / theirs.len() as f64,
-        drift
+        drift,
+        types
     ))
 }

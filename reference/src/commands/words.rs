@@ -130,10 +130,10 @@ fn coefficient_words(position: Position, random: &mut Random) -> Vec<String> {
     }
     for level in [0, 1, 2, 15, 16, 127, -1, -2, -127, -128] {
         for run in [0, 1, 26, 27, 62, 63, random.below(64) as u8] {
-            words.push(codewords::escape_word(run, level).replace(' ', ""));
+            words.push(codewords::escape_word(run, level));
         }
     }
-    words
+    words.iter().map(|word| word.replace(' ', "")).collect()
 }
 
 /// The shortest rows of bits that begin no codeword.
