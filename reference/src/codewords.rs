@@ -59,17 +59,24 @@ fn tcoeff_book(position: Position) -> Codebook<Tabled> {
 
 /// Table 5's word for a pair, with its sign bit, where it has one.
 pub fn tabled_word(position: Position, run: u8, level: i8) -> Option<String> {
-    let magnitude = level.unsigned_abs();
     let sign = if level < 0 { '1' } else { '0' };
-    let word = if position == Position::First && (run, magnitude) == (0, 1) {
-        tables::FIRST_RUN_0_LEVEL_1
-    } else {
-        let pair = tables::TCOEFF
-            .iter()
-            .find(|&&(r, m, _)| (r, m) == (run, magnitude));
-        pair?.2
-    };
+    let word = unsigned_word(position, run, level.unsigned_abs())?;
     Some(format!("{word}{sign}"))
+}
+
+/// Table 5's word without its sign bit.
+pub fn unsigned_word(position: Position, run: u8, magnitude: u8) -> Option<&'static str> {
+    if position == Position::First && (run, magnitude) == (0, 1) {
+        return Some(tables::FIRST_RUN_0_LEVEL_1);
+    }
+    // The longest run and the largest level of the table.
+    if run > 26 || magnitude > 15 {
+        return None;
+    }
+    let pair = tables::TCOEFF
+        .iter()
+        .find(|&&(r, m, _)| (r, m) == (run, magnitude));
+    Some(pair?.2)
 }
 
 /// The 20 bits of an escape: 6, run 6, level 8.

@@ -94,12 +94,12 @@ mod tests {
 
     #[test]
     fn table_a_is_the_rounded_cosine() {
-        for u in 0..8 {
-            for x in 0..8 {
+        for (u, row) in TABLE_A.iter().enumerate() {
+            for (x, &value) in row.iter().enumerate() {
                 let weight = if u == 0 { 0.5f64.sqrt() } else { 1.0 };
                 let cosine = ((2 * x + 1) as f64 * u as f64 * PI / 16.0).cos();
                 let exact = 2048.0 * 2f64.sqrt() * weight * cosine;
-                assert_eq!(TABLE_A[u][x], exact.round() as i64, "u {u} x {x}");
+                assert_eq!(value, exact.round() as i64, "u {u} x {x}");
             }
         }
     }

@@ -6,7 +6,7 @@ use crate::codewords::{self, Position};
 use crate::description::{self, Description, Macroblock, Vector};
 use crate::format::{Format, MACROBLOCKS_PER_GROUP, MACROBLOCKS_PER_ROW};
 use crate::refusal::Refusal;
-use crate::tables::STUFFING;
+use crate::tables::{self, STUFFING};
 
 const PICTURE_START_CODE: &str = "0000 0000 0000 0001 0000";
 const GROUP_START_CODE: &str = "0000 0000 0000 0001";
@@ -169,14 +169,19 @@ fn coefficients(bits: &mut Bits, levels: &[i8], mut position: Position, manner: 
             run += 1;
             continue;
         }
-        let tabled = codewords::tabled_word(position, run, level);
-        let word = match tabled {
-            Some(word) if !manner.escapes() => word,
-            _ => codewords::escape_word(run, level),
-        };
-        bits.word(&word);
+        match codewords::unsigned_word(position, run, level.unsigned_abs()) {
+            Some(word) if !manner.escapes() => {
+                bits.word(word);
+                bits.push(level < 0);
+            }
+            _ => {
+                bits.word(tables::ESCAPE);
+                bits.field(u32::from(run), 6);
+                bits.field(u32::from(level as u8), 8);
+            }
+        }
         run = 0;
         position = Position::Later;
     }
-    bits.word(crate::tables::END_OF_BLOCK);
+    bits.word(tables::END_OF_BLOCK);
 }
