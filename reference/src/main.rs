@@ -9,6 +9,7 @@ mod commands;
 
 const USAGE: &str = "usage:
   reference words|blocks|render|pictures|write|send|deliver|lists|packs SEED COUNT FOLDER
+  reference due
   reference annex-a > COEFFICIENTS
   reference annex-a-figures < OUTPUTS
   reference list < BLOCKS
@@ -34,6 +35,7 @@ fn main() -> ExitCode {
 
 fn run(arguments: &[&str]) -> Outcome {
     match *arguments {
+        ["due"] => output(commands::due::lines().as_bytes()),
         ["annex-a"] => output(&commands::annex_a::coefficients()),
         ["annex-a-figures"] => {
             let text = commands::annex_a::figures(&input()?)?;

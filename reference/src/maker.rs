@@ -1,8 +1,9 @@
 //! Random descriptions, loose writing, damage, and deliveries of blocks.
 
 use crate::bits::Bits;
-use crate::block::{self, BLOCK_LENGTH};
+use crate::block::{self, BLOCK_LENGTH, PAYLOAD_LENGTH};
 use crate::description::{self, Description, Macroblock, Vector};
+use crate::edges::edges;
 use crate::format::Format;
 use crate::random::Random;
 use crate::sender::{Sender, Which};
@@ -407,6 +408,32 @@ pub fn clip(random: &mut Random, format: Format, clip: u16, pictures: usize) -> 
     sent
 }
 
+/// Hand-made edges as pictures of a clip, each with the refresh mark, so that even a lost receiver reads
+/// them: the first few of each refusal that has a place, and of the accepted ones, which are no refresh.
+pub fn edge_blocks(format: Format, clip: u16) -> Vec<[u8; BLOCK_LENGTH]> {
+    const OF_EACH: usize = 6;
+    let mut taken = [0; 14];
+    let mut blocks = Vec::new();
+    let mut picture = 0;
+    for edge in edges() {
+        let number = edge.refusal.map_or(0, |refusal| refusal.number);
+        let is_block = edge.count > 0 && edge.count <= 8 * edge.bytes.len();
+        let seen = &mut taken[usize::from(number)];
+        if edge.opened != format || number == 2 || !is_block || *seen == OF_EACH {
+            continue;
+        }
+        *seen += 1;
+        let bits = Bits {
+            bytes: edge.bytes,
+            count: edge.count,
+        };
+        let made = block::blocks_of(clip, picture, true, &bits);
+        blocks.extend(made.iter().map(block::Block::to_bytes));
+        picture += 1;
+    }
+    blocks
+}
+
 /// Whether a delivery may bring bytes that the sender didn't make under a right sum.
 #[derive(Clone, Copy, PartialEq, Eq, Debug)]
 pub enum Honesty {
@@ -488,7 +515,7 @@ fn another_clips(random: &mut Random, format: Format, block: &[u8; BLOCK_LENGTH]
 /// Changed somewhere, with the right sum.
 fn forged(random: &mut Random, block: &[u8; BLOCK_LENGTH]) -> Vec<u8> {
     let mut bad = *block;
-    match random.below(10) {
+    match random.below(16) {
         0 => bad[..2].copy_from_slice(&[0, 0]),
         1 => bad[2] = random.byte(),
         2 => bad[4] = random.pick(&[0, 1, 16, 17, 65, 66, 255]),
@@ -500,8 +527,12 @@ fn forged(random: &mut Random, block: &[u8; BLOCK_LENGTH]) -> Vec<u8> {
         ),
         7 => bad[508 + random.below(2)] = 1,
         8 => bad[507] ^= 1,
+        9 => {
+            let at = 8 + random.below(16);
+            bad[at] ^= 1 << random.below(8);
+        }
         _ => {
-            let at = 8 + random.below(40);
+            let at = 8 + random.below(PAYLOAD_LENGTH);
             bad[at] ^= 1 << random.below(8);
         }
     }

@@ -42,6 +42,9 @@ pub fn make(seed: u64, count: usize) -> Made {
         for calls in hand_made(&mut random, format) {
             session(&mut made, format, 7, &calls);
         }
+        let edges = maker::edge_blocks(format, 7);
+        let calls: Vec<Call> = edges.iter().map(|block| Call::of(block.to_vec())).collect();
+        session(&mut made, format, 7, &calls);
     }
     for number in 0..count {
         let format = if number % 8 == 7 {

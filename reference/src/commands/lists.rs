@@ -10,10 +10,19 @@ use reference::writer::{self, Plain};
 
 use super::made::File;
 
-/// Document 01's example, an empty vault, and `count` random ones: list-N.input and list-N.expected.
+/// Document 01's example, other fixed vaults, and `count` random ones: list-N.input, list-N.expected.
 pub fn files(seed: u64, count: usize) -> Vec<File> {
     let mut random = Random::new(seed);
-    let mut vaults = vec![example(), Vec::new(), vec![0; BLOCK_LENGTH], vec![7; 100]];
+    let mut vaults = vec![
+        example(),
+        Vec::new(),
+        vec![0; BLOCK_LENGTH],
+        vec![7; 100],
+        // Ends catching, and lost.
+        example()[..BLOCK_LENGTH].to_vec(),
+        example()[BLOCK_LENGTH..2 * BLOCK_LENGTH].to_vec(),
+        maker::edge_blocks(Format::Qcif, 7).concat(),
+    ];
     for _ in 0..count {
         vaults.push(vault(&mut random));
     }

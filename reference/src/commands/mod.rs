@@ -3,6 +3,7 @@
 pub mod annex_a;
 pub mod blocks;
 pub mod deliver;
+pub mod due;
 pub mod lists;
 pub mod made;
 pub mod packs;
