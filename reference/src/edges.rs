@@ -119,7 +119,7 @@ impl Draft {
     }
 }
 
-/// Collects edges with running names.
+/// A growing list of edges.
 #[derive(Default)]
 struct Edges {
     list: Vec<Edge>,

@@ -17,6 +17,7 @@ pub mod receiver;
 pub mod reconstruction;
 pub mod refusal;
 pub mod sender;
+pub mod stores;
 pub mod stream;
 pub mod tables;
 pub mod transform;

@@ -5,6 +5,7 @@ use std::fmt;
 use crate::block::{Block, Position, BLOCK_LENGTH};
 use crate::format::Format;
 use crate::receiver::{Answer, Lent, Receiver, Stand};
+use crate::stores::Which;
 
 impl fmt::Display for Position {
     fn fmt(&self, out: &mut fmt::Formatter<'_>) -> fmt::Result {
@@ -75,7 +76,6 @@ impl Vault {
 
     /// The picture to show after an answer.
     pub fn shown(&self, answer: &Answer) -> Option<&[u8]> {
-        use crate::sender::Which;
         let (_, receiver) = self.clip.as_ref()?;
         match receiver.shown(answer)? {
             Which::First => Some(&self.first),

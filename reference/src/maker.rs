@@ -6,7 +6,8 @@ use crate::description::{self, Description, Macroblock, Vector};
 use crate::edges::edges;
 use crate::format::Format;
 use crate::random::Random;
-use crate::sender::{Sender, Which};
+use crate::sender::Sender;
+use crate::stores::Which;
 use crate::writer::{self, Manner, Plain};
 
 /// How much of a picture is sent, and how.

@@ -5,7 +5,7 @@ use crate::format::Format;
 use crate::reader::read;
 use crate::reconstruction::reconstruct;
 use crate::refusal::Refusal;
-use crate::sender::Which;
+use crate::stores::Which;
 
 #[derive(Clone, Copy, PartialEq, Eq, Debug)]
 pub enum Stand {
@@ -14,28 +14,12 @@ pub enum Stand {
     InStep(u16),
 }
 
-/// A place that is wanted. The part after the last and the picture after 4095 can be wanted, but never
-/// come.
-#[derive(Clone, Copy, PartialEq, Eq, PartialOrd, Ord, Debug)]
-struct Wanted {
-    picture: u16,
-    part: u8,
-}
-
-impl From<Position> for Wanted {
-    fn from(position: Position) -> Wanted {
-        Wanted {
-            picture: position.picture,
-            part: position.part,
-        }
-    }
-}
-
 #[derive(Clone, Copy, PartialEq, Eq, Debug)]
 pub struct Receiver {
     format: Format,
     clip: u16,
-    wanted: Wanted,
+    /// The part after the last and the picture after 4095 can be wanted, but never come.
+    wanted: Position,
     stand: Stand,
     /// The mark of the collection's part 0.
     refresh_mark: bool,
@@ -68,7 +52,7 @@ impl Receiver {
         Ok(Receiver {
             format,
             clip,
-            wanted: Wanted {
+            wanted: Position {
                 picture: 0,
                 part: 0,
             },
@@ -99,10 +83,9 @@ impl Receiver {
         if block.clip != self.clip {
             return Answer::Refused(Refusal::plain(23));
         }
-        let place = Wanted::from(block.position);
-        if place < self.wanted {
+        if block.position < self.wanted {
             Answer::Old(block.position)
-        } else if place == self.wanted && self.stand != Stand::Lost {
+        } else if block.position == self.wanted && self.stand != Stand::Lost {
             self.take(&block, lent)
         } else if block.position.part == 0 && block.is_refresh {
             self.stand = Stand::Catching;
@@ -121,13 +104,13 @@ impl Receiver {
             self.refresh_mark = block.is_refresh;
         }
         if !block.is_last {
-            self.wanted = Wanted {
+            self.wanted = Position {
                 picture,
                 part: part + 1,
             };
             return Answer::Taken(block.position);
         }
-        self.wanted = Wanted {
+        self.wanted = Position {
             picture: picture + 1,
             part: 0,
         };

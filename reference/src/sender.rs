@@ -5,25 +5,10 @@ use crate::description::Description;
 use crate::format::Format;
 use crate::reconstruction::reconstruct;
 use crate::refusal::Refusal;
+use crate::stores::Which;
 use crate::writer::write_picture;
 
 pub const PICTURES: u16 = 4096;
-
-/// One of the two lent stores.
-#[derive(Clone, Copy, PartialEq, Eq, Debug)]
-pub enum Which {
-    First,
-    Second,
-}
-
-impl Which {
-    pub fn other(self) -> Which {
-        match self {
-            Which::First => Which::Second,
-            Which::Second => Which::First,
-        }
-    }
-}
 
 #[derive(Clone, Copy, PartialEq, Eq, Debug)]
 pub struct Sender {

@@ -8,7 +8,7 @@ use reference::maker::{self, Honesty, Style};
 use reference::random::Random;
 use reference::receiver::{Answer, Lent, Receiver, Stand};
 use reference::refusal::Refusal;
-use reference::sender::Which;
+use reference::stores::Which;
 use reference::writer::write_picture;
 
 /// A receiver with its buffers.

@@ -8,7 +8,7 @@ use reference::format::Format;
 use reference::maker::{self, Honesty, Style};
 use reference::random::Random;
 use reference::receiver::{Answer, Lent, Receiver};
-use reference::sender::Which;
+use reference::stores::Which;
 use reference::writer::{self, Plain};
 
 use super::made::Made;
