@@ -1,0 +1,134 @@
+//! A block of 512 bytes: its fields, its making, and the judgement 1, 21, 22.
+
+use crate::bits::{bit_of, Bits};
+use crate::format::Format;
+use crate::refusal::Refusal;
+
+pub const BLOCK_LENGTH: usize = 512;
+pub const PAYLOAD_LENGTH: usize = 500;
+pub const PAYLOAD_BITS: usize = 4000;
+pub const LAST_PICTURE: u16 = 4095;
+
+const PAYLOAD_FROM: usize = 8;
+const PAYLOAD_TO: usize = PAYLOAD_FROM + PAYLOAD_LENGTH;
+const CHECK_FROM: usize = 510;
+const LAST_MARK: u8 = 1;
+const REFRESH_MARK: u8 = 2;
+
+/// A place in a clip; compares by picture, then part.
+#[derive(Clone, Copy, PartialEq, Eq, PartialOrd, Ord, Debug)]
+pub struct Position {
+    pub picture: u16,
+    pub part: u8,
+}
+
+/// The fields of a block that keeps the rules.
+#[derive(Clone, Debug, PartialEq, Eq)]
+pub struct Block {
+    pub clip: u16,
+    pub position: Position,
+    pub is_last: bool,
+    pub is_refresh: bool,
+    pub bits_used: usize,
+    pub payload: [u8; PAYLOAD_LENGTH],
+}
+
+/// "The sum of (i+1) times byte i over bytes 0..509, modulo 65,521."
+pub fn check_sum(block: &[u8]) -> u16 {
+    let sum: u64 = block[..CHECK_FROM]
+        .iter()
+        .zip(1u64..)
+        .map(|(&byte, weight)| weight * u64::from(byte))
+        .sum();
+    (sum % 65_521) as u16
+}
+
+/// Writes the right sum, whatever the other bytes hold.
+pub fn seal(block: &mut [u8; BLOCK_LENGTH]) {
+    let sum = check_sum(block);
+    block[CHECK_FROM..].copy_from_slice(&sum.to_be_bytes());
+}
+
+impl Block {
+    pub fn to_bytes(&self) -> [u8; BLOCK_LENGTH] {
+        let mut bytes = [0; BLOCK_LENGTH];
+        bytes[0..2].copy_from_slice(&self.clip.to_be_bytes());
+        bytes[2..4].copy_from_slice(&self.position.picture.to_be_bytes());
+        bytes[4] = self.position.part;
+        bytes[5] = u8::from(self.is_last) * LAST_MARK + u8::from(self.is_refresh) * REFRESH_MARK;
+        bytes[6..8].copy_from_slice(&(self.bits_used as u16).to_be_bytes());
+        bytes[PAYLOAD_FROM..PAYLOAD_TO].copy_from_slice(&self.payload);
+        seal(&mut bytes);
+        bytes
+    }
+
+    /// The fields, or 1, 21 or 22.
+    pub fn judge(bytes: &[u8], format: Format) -> Result<Block, Refusal> {
+        if bytes.len() != BLOCK_LENGTH {
+            return Err(Refusal::plain(1));
+        }
+        let pair = |at: usize| u16::from_be_bytes([bytes[at], bytes[at + 1]]);
+        if pair(CHECK_FROM) != check_sum(bytes) {
+            return Err(Refusal::plain(21));
+        }
+        let marks = bytes[5];
+        let mut payload = [0; PAYLOAD_LENGTH];
+        payload.copy_from_slice(&bytes[PAYLOAD_FROM..PAYLOAD_TO]);
+        let block = Block {
+            clip: pair(0),
+            position: Position {
+                picture: pair(2),
+                part: bytes[4],
+            },
+            is_last: marks & LAST_MARK != 0,
+            is_refresh: marks & REFRESH_MARK != 0,
+            bits_used: usize::from(pair(6)),
+            payload,
+        };
+        let spare_bytes = pair(PAYLOAD_TO);
+        if marks > (LAST_MARK | REFRESH_MARK) || spare_bytes != 0 || !block.keeps_rules(format) {
+            return Err(Refusal::plain(22));
+        }
+        Ok(block)
+    }
+
+    fn keeps_rules(&self, format: Format) -> bool {
+        self.clip != 0
+            && self.position.picture <= LAST_PICTURE
+            && self.position.part <= format.last_part()
+            && (!self.is_refresh || self.position.part == 0)
+            && (1..=PAYLOAD_BITS).contains(&self.bits_used)
+            && (self.is_last || self.bits_used == PAYLOAD_BITS)
+            && (self.bits_used..PAYLOAD_BITS).all(|place| !bit_of(&self.payload, place))
+    }
+}
+
+/// The blocks of a picture.
+pub fn blocks_of(clip: u16, picture: u16, is_refresh: bool, bits: &Bits) -> Vec<Block> {
+    let parts = bits.bytes.chunks(PAYLOAD_LENGTH);
+    let last = parts.len() - 1;
+    parts
+        .enumerate()
+        .map(|(part, bytes)| {
+            let mut payload = [0; PAYLOAD_LENGTH];
+            payload[..bytes.len()].copy_from_slice(bytes);
+            Block {
+                clip,
+                position: Position {
+                    picture,
+                    part: part as u8,
+                },
+                is_last: part == last,
+                is_refresh: is_refresh && part == 0,
+                bits_used: (bits.count - PAYLOAD_BITS * part).min(PAYLOAD_BITS),
+                payload,
+            }
+        })
+        .collect()
+}
+
+/// "1001 times the tick, over 30000, in f64: one division, rounded once, of two exactly converted whole
+/// numbers."
+pub fn due(tick: u16) -> f64 {
+    f64::from(1001 * u32::from(tick)) / 30_000.0
+}

@@ -1,0 +1,77 @@
+//! Vaults for the lister.
+
+use reference::block::{blocks_of, BLOCK_LENGTH};
+use reference::description::{Description, INTRA};
+use reference::format::Format;
+use reference::lister::list;
+use reference::maker::{self, Honesty};
+use reference::random::Random;
+use reference::writer::{self, Plain};
+
+use super::made::File;
+
+/// Document 01's example, other fixed vaults, and `count` random ones: list-N.input, list-N.expected.
+pub fn files(seed: u64, count: usize) -> Vec<File> {
+    let mut random = Random::new(seed);
+    let mut vaults = vec![
+        example(),
+        Vec::new(),
+        vec![0; BLOCK_LENGTH],
+        vec![7; 100],
+        // Ends catching, and lost.
+        example()[..BLOCK_LENGTH].to_vec(),
+        example()[BLOCK_LENGTH..2 * BLOCK_LENGTH].to_vec(),
+        maker::edge_blocks(Format::Qcif, 7).concat(),
+    ];
+    for _ in 0..count {
+        vaults.push(vault(&mut random));
+    }
+    vaults
+        .into_iter()
+        .enumerate()
+        .flat_map(|(number, input)| {
+            let expected = list(&input).into_bytes();
+            [
+                (format!("list-{number}.input"), input),
+                (format!("list-{number}.expected"), expected),
+            ]
+        })
+        .collect()
+}
+
+/// Picture 0 of clip 7 in two parts, the first part again.
+fn example() -> Vec<u8> {
+    let mut description = Description::empty(Format::Qcif);
+    for macroblock in &mut description.macroblocks {
+        macroblock.kind = INTRA;
+        for block in &mut macroblock.levels {
+            block[0] = 100;
+        }
+    }
+    let bits = writer::picture(&description, &mut Plain);
+    let blocks: Vec<_> = blocks_of(7, 0, true, &bits)
+        .iter()
+        .map(|block| block.to_bytes())
+        .collect();
+    [blocks[0], blocks[1], blocks[0]].concat()
+}
+
+fn vault(random: &mut Random) -> Vec<u8> {
+    let clip = random.between(1, 65_535) as u16;
+    let pictures = random.between(2, 12) as usize;
+    let sent = maker::clip(random, Format::Qcif, clip, pictures);
+    let blocks: Vec<[u8; BLOCK_LENGTH]> = sent.into_iter().flat_map(|one| one.blocks).collect();
+    let honesty = random.pick(&[Honesty::Honest, Honesty::Forged]);
+    let mut input = maker::delivery(random, Format::Qcif, &blocks, honesty).concat();
+    if random.chance(3) {
+        // Something before the clip is found.
+        let mut noise = random.bytes(BLOCK_LENGTH);
+        noise.extend(&input);
+        input = noise;
+    }
+    if random.chance(3) {
+        let length = random.between(1, BLOCK_LENGTH as i64 - 1) as usize;
+        input.extend(random.bytes(length));
+    }
+    input
+}

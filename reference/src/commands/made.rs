@@ -1,0 +1,29 @@
+//! The subcommands that make inputs and expected outputs from a seed.
+
+/// A file's name and its bytes.
+pub type File = (String, Vec<u8>);
+
+/// An input and what is expected of it, under the subcommand's name.
+pub struct Made {
+    pub input: Vec<u8>,
+    pub expected: Vec<u8>,
+}
+
+pub fn files(name: &str, seed: u64, count: usize) -> Option<Vec<File>> {
+    let made = match name {
+        "words" => return Some(super::words::files(seed, count)),
+        "lists" => return Some(super::lists::files(seed, count)),
+        "packs" => return Some(super::packs::files(seed, count)),
+        "blocks" => super::blocks::make(seed, count),
+        "render" => super::render::make(seed, count),
+        "pictures" => super::pictures::make(seed, count),
+        "write" => super::write::make(seed, count),
+        "send" => super::send::make(seed, count),
+        "deliver" => super::deliver::make(seed, count),
+        _ => return None,
+    };
+    Some(vec![
+        (format!("{name}.input"), made.input),
+        (format!("{name}.expected"), made.expected),
+    ])
+}

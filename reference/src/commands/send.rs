@@ -1,0 +1,147 @@
+//! Sessions of a sender.
+
+use reference::check::check;
+use reference::description::Description;
+use reference::format::Format;
+use reference::maker::{self, Style};
+use reference::random::Random;
+use reference::sender::Sender;
+
+use super::made::Made;
+use super::write::{near_limit, spoil};
+use super::Slices;
+
+/// What every byte of the buffers holds before a session: output, first store, second store.
+const BEFORE: [u8; 3] = [165, 17, 34];
+
+/// Which buffer is lent without its last byte: none, first store, second store, output.
+const LENGTH_KINDS: u8 = 4;
+
+struct Call {
+    times: usize,
+    length_kind: u8,
+    slices: Slices,
+}
+
+impl Call {
+    fn once(description: &Description) -> Call {
+        Call {
+            times: 1,
+            length_kind: 0,
+            slices: Slices::of(description),
+        }
+    }
+}
+
+pub fn make(seed: u64, count: usize) -> Made {
+    let mut random = Random::new(seed);
+    let mut made = Made {
+        input: Vec::new(),
+        expected: Vec::new(),
+    };
+    session(&mut made, Format::Qcif, 0, &[]);
+    session(&mut made, Format::Cif, 0, &[]);
+    let calls = to_the_last_picture(&mut random);
+    session(&mut made, Format::Qcif, 65_535, &calls);
+    for number in 0..count {
+        let format = if number % 4 == 3 {
+            Format::Cif
+        } else {
+            Format::Qcif
+        };
+        let clip = random.between(1, 65_535) as u16;
+        let calls = random_calls(&mut random, format);
+        session(&mut made, format, clip, &calls);
+    }
+    made
+}
+
+/// 4,096 pictures, and then 34 whatever comes, but for 1.
+fn to_the_last_picture(random: &mut Random) -> Vec<Call> {
+    let format = Format::Qcif;
+    let refresh = maker::description(random, format, Style::Refresh);
+    let empty = Description::empty(format);
+    let mut many = Call::once(&empty);
+    many.times = 4095;
+    let mut invalid = empty.clone();
+    invalid.temporal_reference = 32;
+    let mut short = Call::once(&empty);
+    short.length_kind = 3;
+    vec![
+        Call::once(&refresh),
+        many,
+        Call::once(&empty),
+        Call::once(&invalid),
+        short,
+    ]
+}
+
+fn random_calls(random: &mut Random, format: Format) -> Vec<Call> {
+    let mut calls = Vec::new();
+    let mut started = false;
+    for _ in 0..random.between(3, 9) {
+        let style = if !started && !random.chance(3) {
+            random.pick(&[Style::Refresh, Style::DenseRefresh])
+        } else {
+            Style::any(random)
+        };
+        let mut description = maker::description(random, format, style);
+        started |= description.is_refresh();
+        match random.below(8) {
+            0 => spoil(random, &mut description),
+            1 => description = near_limit(random, format),
+            2 => description = Description::empty(random.pick(&Format::ALL)),
+            _ => {}
+        }
+        let mut call = Call::once(&description);
+        if random.chance(8) {
+            call.length_kind = 1 + random.below(usize::from(LENGTH_KINDS) - 1) as u8;
+        }
+        if random.chance(20) {
+            call.slices.levels.pop();
+        }
+        calls.push(call);
+    }
+    calls
+}
+
+fn session(made: &mut Made, format: Format, clip: u16, calls: &[Call]) {
+    made.input.push(format.number());
+    super::put16(&mut made.input, usize::from(clip));
+    super::put32(&mut made.input, calls.len());
+    let mut sender = match Sender::open(format, clip) {
+        Ok(sender) => sender,
+        Err(refusal) => {
+            made.expected.extend(format!("{refusal}\n").bytes());
+            return;
+        }
+    };
+    made.expected.extend(b"opened\n");
+    let mut out = vec![BEFORE[0]; format.sent_length()];
+    let mut first = vec![BEFORE[1]; format.store_length()];
+    let mut second = vec![BEFORE[2]; format.store_length()];
+    for call in calls {
+        super::put16(&mut made.input, call.times);
+        made.input.push(call.length_kind);
+        call.slices.put(&mut made.input);
+        let mut line = String::new();
+        for _ in 0..call.times {
+            let less = |kind: u8| usize::from(call.length_kind == kind);
+            let first_length = first.len() - less(1);
+            let second_length = second.len() - less(2);
+            let out_length = out.len() - less(3);
+            let answer = sender.send(
+                call.slices.lent(),
+                &mut first[..first_length],
+                &mut second[..second_length],
+                &mut out[..out_length],
+            );
+            line = match answer {
+                Ok(sent) => format!("sent {} {}", sent.picture, sent.blocks),
+                Err(refusal) => refusal.to_string(),
+            };
+        }
+        let checks = format!("{} {} {}", check(&out), check(&first), check(&second));
+        made.expected.extend(format!("{line} {checks}\n").bytes());
+    }
+}

@@ -1,0 +1,141 @@
+//! Raw streams into blocks, blocks into frames, and the comparison with another decoder.
+
+use reference::block::BLOCK_LENGTH;
+use reference::format::Format;
+use reference::lister::Vault;
+use reference::receiver::Answer;
+use reference::reconstruction::reconstruct;
+use reference::sender::Sender;
+use reference::stream::pictures;
+
+use super::Slices;
+
+/// The blocks of a packed stream, and a line for each refused picture.
+pub struct Packed {
+    pub blocks: Vec<u8>,
+    pub errors: String,
+}
+
+/// Each picture of the stream under the next number.
+pub fn pack(format: Format, clip: u16, raw: &[u8]) -> Result<Packed, String> {
+    let mut sender = Sender::open(format, clip).map_err(|refusal| refusal.to_string())?;
+    let mut first = vec![0; format.store_length()];
+    let mut second = vec![0; format.store_length()];
+    let mut out = vec![0; format.sent_length()];
+    let mut packed = Packed {
+        blocks: Vec::new(),
+        errors: String::new(),
+    };
+    for picture in pictures(raw, format) {
+        let answer = picture.answer.and_then(|description| {
+            let slices = Slices::of(&description);
+            sender.send(slices.lent(), &mut first, &mut second, &mut out)
+        });
+        match answer {
+            Ok(sent) => packed.blocks.extend(&out[..BLOCK_LENGTH * sent.blocks]),
+            Err(refusal) => {
+                let line = format!("byte {}: {refusal}\n", picture.place / 8);
+                packed.errors.push_str(&line);
+            }
+        }
+    }
+    Ok(packed)
+}
+
+/// YUV4MPEG2 of the pictures finished in step.
+pub fn frames(format: Format, blocks: &[u8]) -> Vec<u8> {
+    // 4:3 over 352 by 288 makes a sample 12:11; chroma lies in the middle of four Y samples.
+    let header = format!(
+        "YUV4MPEG2 W{} H{} F30000:1001 Ip A12:11 C420jpeg\n",
+        format.width(),
+        format.height()
+    );
+    let mut output = header.into_bytes();
+    let mut vault = Vault::new(format);
+    for block in blocks.chunks_exact(BLOCK_LENGTH) {
+        let answer = vault.receive(block);
+        if let Answer::Finished(_) = answer {
+            output.extend(b"FRAME\n");
+            output.extend(vault.shown(&answer).expect("a finished picture"));
+        }
+    }
+    output
+}
+
+/// The samples of every accepted picture, each over the one before; a grey store stands first.
+pub fn decode(format: Format, raw: &[u8]) -> Vec<u8> {
+    let mut store = vec![128; format.store_length()];
+    let mut output = Vec::new();
+    for picture in pictures(raw, format) {
+        match picture.answer {
+            Ok(description) => {
+                store = reconstruct(&description, &store);
+                output.extend(&store);
+            }
+            Err(refusal) => eprintln!("byte {}: {refusal}", picture.place / 8),
+        }
+    }
+    output
+}
+
+/// How far one picture's samples lie from another's.
+struct Difference {
+    largest: u8,
+    differing: usize,
+}
+
+impl Difference {
+    fn between(ours: &[u8], theirs: &[u8]) -> Difference {
+        let distances = ours.iter().zip(theirs).map(|(&a, &b)| a.abs_diff(b));
+        Difference {
+            largest: distances.clone().max().unwrap_or(0),
+            differing: distances.filter(|&distance| distance != 0).count(),
+        }
+    }
+}
+
+/// Another decoder's samples against ours: each picture over the other decoder's own last picture, so
+/// that roundings don't add up, and over our own, where they do.
+pub fn compare(format: Format, raw: &[u8], theirs: &[u8]) -> Result<String, String> {
+    let length = format.store_length();
+    let read = pictures(raw, format);
+    if theirs.len() != length * read.len() {
+        return Err(format!(
+            "{} pictures in the stream, {} among the samples",
+            read.len(),
+            theirs.len() as f64 / length as f64
+        ));
+    }
+    let mut over_theirs = Difference {
+        largest: 0,
+        differing: 0,
+    };
+    let mut drift = 0;
+    let mut types = [0usize; 11];
+    let grey = vec![128; length];
+    let mut own = grey.clone();
+    let mut last = &grey[..];
+    for (picture, samples) in read.iter().zip(theirs.chunks(length)) {
+        let description = picture
+            .answer
+            .as_ref()
+            .map_err(|refusal| format!("byte {}: {refusal}", picture.place / 8))?;
+        for macroblock in &description.macroblocks {
+            types[usize::from(macroblock.kind)] += 1;
+        }
+        let one = Difference::between(&reconstruct(description, last), samples);
+        over_theirs.largest = over_theirs.largest.max(one.largest);
+        over_theirs.differing += one.differing;
+        own = reconstruct(description, &own);
+        drift = drift.max(Difference::between(&own, samples).largest);
+        last = samples;
+    }
+    Ok(format!(
+        "{} pictures accepted; over the other's last picture: largest difference {}, {:.4} % of samples differ; over our own: largest {}; macroblocks of types 0 to 10: {:?}\n",
+        read.len(),
+        over_theirs.largest,
+        100.0 * over_theirs.differing as f64 / theirs.len() as f64,
+        drift,
+        types
+    ))
+}

@@ -1,0 +1,24 @@
+//! An independent implementation of Pagesorrel, from document 01 and H.261 alone: reader,
+//! reconstruction, writer, blocks, sender, receiver and lister, and a maker of test inputs.
+
+pub mod annex_a;
+pub mod bits;
+pub mod block;
+pub mod check;
+pub mod codewords;
+pub mod description;
+pub mod edges;
+pub mod format;
+pub mod lister;
+pub mod maker;
+pub mod random;
+pub mod reader;
+pub mod receiver;
+pub mod reconstruction;
+pub mod refusal;
+pub mod sender;
+pub mod stores;
+pub mod stream;
+pub mod tables;
+pub mod transform;
+pub mod writer;

@@ -1,0 +1,90 @@
+//! The reference's command line. Formats are described in README.md.
+
+use std::io::{self, Read, Write};
+use std::process::ExitCode;
+
+use reference::format::Format;
+
+mod commands;
+
+const USAGE: &str = "usage:
+  reference words|blocks|render|pictures|write|send|deliver|lists|packs SEED COUNT FOLDER
+  reference due
+  reference annex-a > COEFFICIENTS
+  reference annex-a-figures < OUTPUTS
+  reference list < BLOCKS
+  reference frames qcif|cif < BLOCKS > YUV4MPEG2
+  reference pack qcif|cif CLIP < RAW > BLOCKS
+  reference decode qcif|cif < RAW > SAMPLES
+  reference compare qcif|cif RAW SAMPLES";
+
+/// What went wrong, in words for standard error.
+type Outcome = Result<(), String>;
+
+fn main() -> ExitCode {
+    let arguments: Vec<String> = std::env::args().skip(1).collect();
+    let arguments: Vec<&str> = arguments.iter().map(String::as_str).collect();
+    match run(&arguments) {
+        Ok(()) => ExitCode::SUCCESS,
+        Err(message) => {
+            eprintln!("{message}");
+            ExitCode::FAILURE
+        }
+    }
+}
+
+fn run(arguments: &[&str]) -> Outcome {
+    match *arguments {
+        ["due"] => output(commands::due::lines().as_bytes()),
+        ["annex-a"] => output(&commands::annex_a::coefficients()),
+        ["annex-a-figures"] => {
+            let text = commands::annex_a::figures(&input()?)?;
+            output(text.as_bytes())
+        }
+        ["list"] => output(reference::lister::list(&input()?).as_bytes()),
+        ["frames", format] => output(&commands::streams::frames(named(format)?, &input()?)),
+        ["pack", format, clip] => {
+            let clip = clip.parse().map_err(|_| USAGE)?;
+            let packed = commands::streams::pack(named(format)?, clip, &input()?)?;
+            eprint!("{}", packed.errors);
+            output(&packed.blocks)
+        }
+        ["decode", format] => output(&commands::streams::decode(named(format)?, &input()?)),
+        ["compare", format, raw, samples] => {
+            let text = commands::streams::compare(named(format)?, &file(raw)?, &file(samples)?)?;
+            output(text.as_bytes())
+        }
+        [name, seed, count, folder] => {
+            let seed = seed.parse().map_err(|_| USAGE)?;
+            let count = count.parse().map_err(|_| USAGE)?;
+            let files = commands::made::files(name, seed, count).ok_or(USAGE)?;
+            std::fs::create_dir_all(folder).map_err(|error| error.to_string())?;
+            for (name, bytes) in files {
+                let path = format!("{folder}/{name}");
+                std::fs::write(&path, bytes).map_err(|error| format!("{path}: {error}"))?;
+            }
+            Ok(())
+        }
+        _ => Err(USAGE.to_string()),
+    }
+}
+
+fn named(format: &str) -> Result<Format, String> {
+    Format::from_name(format).ok_or_else(|| USAGE.to_string())
+}
+
+fn input() -> Result<Vec<u8>, String> {
+    let mut bytes = Vec::new();
+    let outcome = io::stdin().lock().read_to_end(&mut bytes);
+    outcome.map_err(|error| error.to_string())?;
+    Ok(bytes)
+}
+
+fn file(path: &str) -> Result<Vec<u8>, String> {
+    std::fs::read(path).map_err(|error| format!("{path}: {error}"))
+}
+
+fn output(bytes: &[u8]) -> Outcome {
+    let outcome = io::stdout().lock().write_all(bytes);
+    outcome.map_err(|error| error.to_string())
+}

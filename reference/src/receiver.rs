@@ -1,0 +1,154 @@
+//! The receiver: blocks in any order to pictures in step.
+
+use crate::block::{Block, Position, PAYLOAD_BITS, PAYLOAD_LENGTH};
+use crate::format::Format;
+use crate::reader::read;
+use crate::reconstruction::reconstruct;
+use crate::refusal::Refusal;
+use crate::stores::Which;
+
+#[derive(Clone, Copy, PartialEq, Eq, Debug)]
+pub enum Stand {
+    Lost,
+    Catching,
+    InStep(u16),
+}
+
+#[derive(Clone, Copy, PartialEq, Eq, Debug)]
+pub struct Receiver {
+    format: Format,
+    clip: u16,
+    /// The part after the last and the picture after 4095 can be wanted, but never come.
+    wanted: Position,
+    stand: Stand,
+    /// The mark of the collection's part 0.
+    refresh_mark: bool,
+    /// The store that the next finished picture goes into; the other holds the last finished one.
+    into: Which,
+}
+
+#[derive(Clone, Copy, PartialEq, Eq, Debug)]
+pub enum Answer {
+    Old(Position),
+    Taken(Position),
+    Finished(u16),
+    Lost,
+    Refused(Refusal),
+}
+
+/// The three lent buffers.
+pub struct Lent<'a> {
+    pub collection: &'a mut [u8],
+    pub first: &'a mut [u8],
+    pub second: &'a mut [u8],
+}
+
+impl Receiver {
+    /// Clip 0 is refused by 22.
+    pub fn open(format: Format, clip: u16) -> Result<Receiver, Refusal> {
+        if clip == 0 {
+            return Err(Refusal::plain(22));
+        }
+        Ok(Receiver {
+            format,
+            clip,
+            wanted: Position {
+                picture: 0,
+                part: 0,
+            },
+            stand: Stand::Lost,
+            refresh_mark: false,
+            into: Which::First,
+        })
+    }
+
+    pub fn stand(&self) -> Stand {
+        self.stand
+    }
+
+    fn lengths_are_right(&self, lent: &Lent) -> bool {
+        lent.collection.len() == self.format.collection_length()
+            && lent.first.len() == self.format.store_length()
+            && lent.second.len() == self.format.store_length()
+    }
+
+    pub fn receive(&mut self, bytes: &[u8], lent: &mut Lent) -> Answer {
+        if !self.lengths_are_right(lent) {
+            return Answer::Refused(Refusal::plain(1));
+        }
+        let block = match Block::judge(bytes, self.format) {
+            Ok(block) => block,
+            Err(refusal) => return Answer::Refused(refusal),
+        };
+        if block.clip != self.clip {
+            return Answer::Refused(Refusal::plain(23));
+        }
+        if block.position < self.wanted {
+            Answer::Old(block.position)
+        } else if block.position == self.wanted && self.stand != Stand::Lost {
+            self.take(&block, lent)
+        } else if block.position.part == 0 && block.is_refresh {
+            self.stand = Stand::Catching;
+            self.take(&block, lent)
+        } else {
+            self.stand = Stand::Lost;
+            Answer::Lost
+        }
+    }
+
+    fn take(&mut self, block: &Block, lent: &mut Lent) -> Answer {
+        let Position { picture, part } = block.position;
+        let from = PAYLOAD_LENGTH * usize::from(part);
+        lent.collection[from..from + PAYLOAD_LENGTH].copy_from_slice(&block.payload);
+        if part == 0 {
+            self.refresh_mark = block.is_refresh;
+        }
+        if !block.is_last {
+            self.wanted = Position {
+                picture,
+                part: part + 1,
+            };
+            return Answer::Taken(block.position);
+        }
+        self.wanted = Position {
+            picture: picture + 1,
+            part: 0,
+        };
+        let count = PAYLOAD_BITS * usize::from(part) + block.bits_used;
+        match self.finish(count, lent) {
+            Ok(()) => {
+                self.stand = Stand::InStep(picture);
+                Answer::Finished(picture)
+            }
+            Err(refusal) => {
+                self.stand = Stand::Lost;
+                Answer::Refused(refusal)
+            }
+        }
+    }
+
+    /// 24 is judged after acceptance and before any sample is written.
+    fn finish(&mut self, count: usize, lent: &mut Lent) -> Result<(), Refusal> {
+        let description = read(lent.collection, count, self.format)?;
+        if description.is_refresh() != self.refresh_mark {
+            return Err(Refusal::plain(24));
+        }
+        let (store, reference) = match self.into {
+            Which::First => (&mut *lent.first, &*lent.second),
+            Which::Second => (&mut *lent.second, &*lent.first),
+        };
+        store.copy_from_slice(&reconstruct(&description, reference));
+        self.into = self.into.other();
+        Ok(())
+    }
+
+    /// The store that holds the picture to show, after the given answer; none where an empty part is
+    /// handed out.
+    pub fn shown(&self, answer: &Answer) -> Option<Which> {
+        let refused_by_length = *answer == Answer::Refused(Refusal::plain(1));
+        match self.stand {
+            Stand::InStep(_) if !refused_by_length => Some(self.into.other()),
+            _ => None,
+        }
+    }
+}

@@ -1,0 +1,88 @@
+//! The sender: descriptions to blocks, keeping the store that a receiver in step has.
+
+use crate::block::{blocks_of, BLOCK_LENGTH};
+use crate::description::Description;
+use crate::format::Format;
+use crate::reconstruction::reconstruct;
+use crate::refusal::Refusal;
+use crate::stores::Which;
+use crate::writer::write_picture;
+
+pub const PICTURES: u16 = 4096;
+
+#[derive(Clone, Copy, PartialEq, Eq, Debug)]
+pub struct Sender {
+    format: Format,
+    clip: u16,
+    /// The number of the next picture.
+    next: u16,
+    /// The store that the next picture goes into; the other is its reference.
+    into: Which,
+}
+
+/// What was sent: the picture's number and how many blocks it took.
+#[derive(Clone, Copy, PartialEq, Eq, Debug)]
+pub struct Sent {
+    pub picture: u16,
+    pub blocks: usize,
+}
+
+impl Sender {
+    /// Clip 0 is refused by 22.
+    pub fn open(format: Format, clip: u16) -> Result<Sender, Refusal> {
+        if clip == 0 {
+            return Err(Refusal::plain(22));
+        }
+        Ok(Sender {
+            format,
+            clip,
+            next: 0,
+            into: Which::First,
+        })
+    }
+
+    /// Refusals in the order 1, 34, 31, 33, 32; then nothing changes.
+    pub fn send(
+        &mut self,
+        (head, macroblocks, levels): (&[u8], &[u8], &[u8]),
+        first: &mut [u8],
+        second: &mut [u8],
+        out: &mut [u8],
+    ) -> Result<Sent, Refusal> {
+        let description = Description::from_slices(head, macroblocks, levels)?;
+        let store_length = self.format.store_length();
+        if first.len() != store_length
+            || second.len() != store_length
+            || out.len() != self.format.sent_length()
+        {
+            return Err(Refusal::plain(1));
+        }
+        if self.next == PICTURES {
+            return Err(Refusal::plain(34));
+        }
+        if !description.is_valid(self.format) {
+            return Err(Refusal::plain(31));
+        }
+        let is_refresh = description.is_refresh();
+        if self.next == 0 && !is_refresh {
+            return Err(Refusal::plain(33));
+        }
+        let bits = write_picture(&description, self.format)?;
+        let blocks = blocks_of(self.clip, self.next, is_refresh, &bits);
+        for (room, block) in out.chunks_mut(BLOCK_LENGTH).zip(&blocks) {
+            room.copy_from_slice(&block.to_bytes());
+        }
+        let (store, reference) = match self.into {
+            Which::First => (first, second),
+            Which::Second => (second, first),
+        };
+        store.copy_from_slice(&reconstruct(&description, reference));
+        let sent = Sent {
+            picture: self.next,
+            blocks: blocks.len(),
+        };
+        self.next += 1;
+        self.into = self.into.other();
+        Ok(sent)
+    }
+}
