@@ -4,3 +4,5 @@ pub mod Flat
 pub mod Valid
 pub mod Proper
 pub mod Spread
+pub mod Walk
+pub mod Described

@@ -142,10 +142,10 @@ module _ (w : ℕ) (store : List ℕ → ℕ → Macroblock → List ℕ) (row :
       ∙ simp append-assoc
 
 -- ---- the two: fields and levels
-abbrev storeFields : List ℕ → ℕ → Macroblock → List ℕ
+abbrev pub storeFields : List ℕ → ℕ → Macroblock → List ℕ
 storeFields l at m = sets l at (fieldsOf m)
 
-abbrev storeLevels : List ℕ → ℕ → Macroblock → List ℕ
+abbrev pub storeLevels : List ℕ → ℕ → Macroblock → List ℕ
 storeLevels l at m = putBlocks l at (m .blocks)
 
 abbrev pub levelsOf : Macroblock → List ℕ
@@ -182,7 +182,7 @@ abbrev pub gquants : List Group → List ℕ
 gquants [] = []
 gquants (x ∷ xs) = x .gquant ∷ gquants xs
 
-abbrev flat : List ℕ → List ℕ → List ℕ → Flat
+abbrev pub flat : List ℕ → List ℕ → List ℕ → Flat
 flat head macroblocks levels = record { head = head; macroblocks = macroblocks; levels = levels }
 
 flats : {h h′ m m′ l l′ : List ℕ} → h ≡ h′ → m ≡ m′ → l ≡ l′ → flat h m l ≡ flat h′ m′ l′
