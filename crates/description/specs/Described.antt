@@ -81,20 +81,20 @@ unfolding macroblocksIn
 macroblock-in f number k m h fields levels =
     let v = small-vector f number (m .address) (m .vector) (isMC (m .type)) (h .pointed) in
     let blocks : gathers 6 (levelsOf m ++ levels) ≡ m .blocks =
-        ap (λ (n : ℕ). gathers n (levelsOf m ++ levels)) (sym (h .blocked .six)) ∙ gathers-spreads (m .blocks) (h .blocked .fitting) levels in
+    ap (λ (n : ℕ). gathers n (levelsOf m ++ levels)) (sym (h .blocked .six)) ∙ gathers-spreads (m .blocks) (h .blocked .fitting) levels in
     let across : numberOf (byteOf (m .vector .horizontal)) ≡ m .vector .horizontal = back w8 tt (v .0) in
     let down : numberOf (byteOf (m .vector .vertical)) ≡ m .vector .vertical = back w8 tt (v .1) in
     let some : 1 ≤ m .type = leb→le 1 (m .type) (both-left (leb 1 (m .type)) (leb (m .type) 10) (h .typed)) in
     let past : drop 384 (levelsOf m ++ levels) ≡ levels = drop-at (levelsOf m) levels 384 (length-levels (m .type) (m .blocks) (h .blocked)) in
     described-sent (m .type) _ _ some
     ∙ ap₂ (λ (x : Macroblock) (xs : List Macroblock). x ∷ xs)
-      (λ i. record {
-        address = m .address;
-        type = m .type;
-        mquant = m .mquant;
-        vector = record { horizontal = across i; vertical = down i };
-        blocks = blocks i;
-      }) (ap (macroblocksIn k (m .address + 1) fields) past)
+    (λ i. record {
+      address = m .address;
+      type = m .type;
+      mquant = m .mquant;
+      vector = record { horizontal = across i; vertical = down i };
+      blocks = blocks i;
+    }) (ap (macroblocksIn k (m .address + 1) fields) past)
 
 -- one that isn't
 unsent-in : (k address : ℕ) (fields levels : List ℕ) → macroblocksIn (suc k) address (zeros 4 ++ fields) (zeros 384 ++ levels) ≡ macroblocksIn k (address + 1) fields levels
@@ -110,8 +110,8 @@ macroblocks-in f number last (m ∷ ms) h fields levels =
     walk-more (List Macroblock) macroblocksIn unsent-in last m ms (h .0) (h .1) fields levels
     ∙ macroblock-in f number (33 - m .address) m (h .2) (rows 4 fieldsOf (m .address) ms ++ fields) (rows 384 levelsOf (m .address) ms ++ levels)
     ∙ ap (λ (xs : List Macroblock). m ∷ xs)
-      (ap (λ (a : ℕ). macroblocksIn (33 - m .address) a (rows 4 fieldsOf (m .address) ms ++ fields) (rows 384 levelsOf (m .address) ms ++ levels)) e
-      ∙ macroblocks-in f number (m .address) ms (h .3) fields levels)
+    (ap (λ (a : ℕ). macroblocksIn (33 - m .address) a (rows 4 fieldsOf (m .address) ms ++ fields) (rows 384 levelsOf (m .address) ms ++ levels)) e
+    ∙ macroblocks-in f number (m .address) ms (h .3) fields levels)
 
 -- ---- groups
 groups-in : (f : Format) (numbers : List ℕ) (xs : List Group) → ProperGroups f numbers xs → groupsIn (gquants xs) (columns 4 fieldsOf xs) (columns 384 levelsOf xs) ≡ xs
@@ -126,8 +126,8 @@ groups-in f (number ∷ numbers) (x ∷ xs) h =
     ap₂ (λ (y : Group) (ys : List Group). y ∷ ys)
     (λ i. record { gquant = x .gquant; macroblocks = macroblocks-in f number 0 ms (h .1) fields levels i })
     (ap₂ (groupsIn (gquants xs))
-      (drop-at (rows 4 fieldsOf 0 ms) fields 132 (length-rows 4 storeFields fieldsOf fields-written f number 0 ms (h .1)))
-      (drop-at (rows 384 levelsOf 0 ms) levels 12672 (length-rows 384 storeLevels levelsOf levels-written f number 0 ms (h .1)))
+    (drop-at (rows 4 fieldsOf 0 ms) fields 132 (length-rows 4 storeFields fieldsOf fields-written f number 0 ms (h .1)))
+    (drop-at (rows 384 levelsOf 0 ms) levels 12672 (length-rows 384 storeLevels levelsOf levels-written f number 0 ms (h .1)))
     ∙ groups-in f numbers xs (h .2))
 
 -- ---- the theorem: what a proper picture's layout describes is the picture

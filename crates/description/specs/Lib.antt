@@ -6,3 +6,4 @@ pub mod Proper
 pub mod Spread
 pub mod Walk
 pub mod Described
+pub mod LaidOut

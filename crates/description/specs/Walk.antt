@@ -35,7 +35,7 @@ module _ (R : Type 0) (walk : ℕ → ℕ → List ℕ → List ℕ → R)
   walk-more last m ms l h fields levels =
       let skipped : ℕ = m .address - suc last in
       ap₂ (walk (33 - last) (suc last))
-        (append-assoc (zeros (skipped * 4)) (fieldsOf m ++ rows 4 fieldsOf (m .address) ms) fields)
-        (append-assoc (zeros (skipped * 384)) (levelsOf m ++ rows 384 levelsOf (m .address) ms) levels ∙ ap (λ (x : List ℕ). zeros (skipped * 384) ++ x) (append-assoc (levelsOf m) (rows 384 levelsOf (m .address) ms) levels))
+      (append-assoc (zeros (skipped * 4)) (fieldsOf m ++ rows 4 fieldsOf (m .address) ms) fields)
+      (append-assoc (zeros (skipped * 384)) (levelsOf m ++ rows 384 levelsOf (m .address) ms) levels ∙ ap (λ (x : List ℕ). zeros (skipped * 384) ++ x) (append-assoc (levelsOf m) (rows 384 levelsOf (m .address) ms) levels))
       ∙ skip skipped (suc (33 - m .address)) (suc last) (33 - last) _ _ (omega arith)
       ∙ ap (λ (a : ℕ). walk (suc (33 - m .address)) a (fieldsOf m ++ (rows 4 fieldsOf (m .address) ms ++ fields)) (levelsOf m ++ (rows 384 levelsOf (m .address) ms ++ levels))) (omega arith)
