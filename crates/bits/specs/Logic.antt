@@ -16,6 +16,7 @@ use Rattle.refusals.specs.Number.{number}
 use Rattle.bits.specs.Bits.{Bit, O, I, num, same}
 use Rattle.bits.specs.Read.{Read, got, refused, endless, bad, Reader, next, _>>=_, done, fieldFrom, field, Judged, fine, against, settle, judged, moved, whole, orEnd, loop}
 use Rattle.bits.specs.Code.{Entry, entry, starts, longer, lookup, word}
+use Rattle.bits.specs.Codes.{each, WordGot, word-got}
 
 -- ---- one read
 -- what was got is P, what was refused is Q, and the read ended
@@ -201,44 +202,39 @@ field-from k j (suc rest) e bs at v (b ∷ left) p t l =
 pub reads-field : {bound : ℕ} (k : ℕ) → Reads bound k (λ v left. v < 2 ^ k) (field k)
 reads-field k = record { gives = λ bs at b. field-from k 0 k (omega arith) bs at 0 bs at (took-none bs at) (lit< tt) }
 
--- ---- a codeword: every word of the table has a bit, and a meaning that is p
-abbrev pub worded : (ℕ → Bool) → List Entry → Bool
-worded p [] = true
-worded p (entry [] m ∷ table) = false
-worded p (entry (b ∷ w) m ∷ table) = both (p m) (worded p table)
-
-starts-shorter : (w bs : List Bit) → T (starts w bs) → length w ≤ length bs
-starts-shorter [] bs t = omega arith
-starts-shorter (x ∷ w) [] t = absurd t
-starts-shorter (x ∷ w) (b ∷ bs) t = omega (arith, starts-shorter w bs (both-right (same x b) (starts w bs) t))
-
--- a word of the table that the bits begin with, or what is found after it
-found-gives : (p : ℕ → Bool) (w : List Bit) (m : ℕ) (bs : List Bit) (at : ℕ) (later : Read ℕ) (s : Bool)
-    → T (p m) → 1 ≤ length w → (T s → length w ≤ length bs) → Gives 1 (λ m left. T (p m)) bs at later
-    → Gives 1 (λ m left. T (p m)) bs at (elim s [ true ↦ got m (drop (length w) bs) (at + length w) | false ↦ later ])
-found-gives p w m bs at later true t some l h =
-    let fits : length w ≤ length bs = l tt in
-    (record { end = omega (arith, length-drop (length w) bs); onward = omega arith }, t)
-found-gives p w m bs at later false t some l h = h
-
-lookup-gives : (p : ℕ → Bool) (table : List Entry) (bs : List Bit) (at : ℕ) (other : Read ℕ)
-    → T (worded p table) → Gives 1 (λ m left. T (p m)) bs at other → Gives 1 (λ m left. T (p m)) bs at (lookup table bs at other)
+-- ---- a codeword, of a table in which every codeword has a bit and a meaning that passes p
+-- the table finds a meaning, or leaves what other says
+lookup-ends : (Q : Refusal → Type 0) (table : List Entry) (bs : List Bit) (at : ℕ) (other : Read ℕ)
+    → Holds (λ m left place. Unit {0}) Q other → Holds (λ m left place. Unit {0}) Q (lookup table bs at other)
 unfolding lookup
-lookup-gives p [] bs at other t h = h
-lookup-gives p (entry [] m ∷ table) bs at other t h = absurd t
-lookup-gives p (entry (b ∷ w) m ∷ table) bs at other t h =
-    found-gives p (b ∷ w) m bs at (lookup table bs at other) (starts (b ∷ w) bs) (both-left (p m) (worded p table) t)
-    (omega arith) (starts-shorter (b ∷ w) bs) (lookup-gives p table bs at other (both-right (p m) (worded p table) t) h)
+lookup-ends Q [] bs at other h = h
+lookup-ends Q (entry w m ∷ table) bs at other h = from (starts w bs) (lookup-ends Q table bs at other h)
+  where
+    from : (s : Bool) → Holds (λ m left place. Unit {0}) Q (lookup table bs at other)
+        → Holds {A = ℕ} (λ m left place. Unit {0}) Q (elim s [ true ↦ got m (drop (length w) bs) (at + length w) | false ↦ lookup table bs at other ])
+    from true h = tt
+    from false h = h
 
 none-listed : (cut : Bool) → T (ofBits (pick cut BitsEnd NoCodeword))
 unfolding number
 none-listed true = tt
 none-listed false = tt
 
-pub reads-word : {bound : ℕ} (p : ℕ → Bool) (table : List Entry) → T (worded p table) → Reads bound 1 (λ m left. T (p m)) (word table)
+pub reads-word : {bound : ℕ} (p : ℕ → Bool) (table : List Entry) → T (each p table) → Reads bound 1 (λ m left. T (p m)) (word table)
 unfolding word
 reads-word p table t =
-    record { gives = λ bs at b. lookup-gives p table bs at _ t (record { listed = none-listed (longer table bs); within = omega arith }) }
+    record {
+      gives = λ bs at b. from bs at (word table bs at) refl
+        (lookup-ends (Fair (at + length bs)) table bs at _ (record { listed = none-listed (longer table bs); within = omega arith }));
+    }
+  where
+    from : (bs : List Bit) (at : ℕ) (x : Read ℕ) → word table bs at ≡ x → Holds (λ m left place. Unit {0}) (Fair (at + length bs)) x
+        → Gives 1 (λ m left. T (p m)) bs at x
+    from bs at (got m left place) e h =
+        let found = word-got p table bs at m left place t e in
+        (record { end = found .taken; onward = omega (arith, found .after) }, found .meant)
+    from bs at (refused r) e h = h
+    from bs at endless e h = h
 
 -- ---- no bits left
 -- where no bits are left, what is made of the end; else what is read

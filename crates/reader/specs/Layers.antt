@@ -15,7 +15,8 @@ use Rattle.refusals.specs.Number.{number}
 use Rattle.bits.specs.Bits.{Bit, O, I, bitsOf}
 use Rattle.bits.specs.Read.{Read, Reader, _>>=_, done, field, Judged, fine, against, judged}
 use Rattle.bits.specs.Code.{Entry, word}
-use Rattle.bits.specs.Logic.{ofBits, Reads, reads-weaker, reads-fewer, reads-done, reads-then, reads-turn, reads-map, reads-loop, reads-never, reads-pick, Judges, reads-judged, judges-pick, judges-fine, judges-against, reads-whole, reads-field, reads-word, reads-orEnd, worded}
+use Rattle.bits.specs.Codes.{each}
+use Rattle.bits.specs.Logic.{ofBits, Reads, reads-weaker, reads-fewer, reads-done, reads-then, reads-turn, reads-map, reads-loop, reads-never, reads-pick, Judges, reads-judged, judges-pick, judges-fine, judges-against, reads-whole, reads-field, reads-word, reads-orEnd}
 use Rattle.words.specs.Tables.{table1, table2, table3, table4, pairs, firstTable5, laterTable5, stuffing, startCode, endOfBlock, escape}
 use Rattle.words.specs.Words.{isIntra, isMC, hasMQUANT, hasCBP, Coefficient, coefficient, Event, sent, over, signed, escaped, paired, tcoeff, forbidden, allowed, coefficientRead}
 use Rattle.format.specs.Format.{formatBit, groupNumbers}
@@ -130,7 +131,7 @@ judges-fits ends room (sent c) h =
     judges-pick (leb room (c .run)) (λ y. judges-against CoefficientPast tt) (λ n. judges-fine (sent c) (leb-false room (c .run) n, h))
 judges-fits ends room over h = judges-fine over h
 
-coefficient-reads : {bound : ℕ} (ends : Bool) (room : ℕ) (table : List Entry) → T (worded (meant ends) table)
+coefficient-reads : {bound : ℕ} (ends : Bool) (room : ℕ) (table : List Entry) → T (each (meant ends) table)
     → Reads bound 1 (λ e left. Placed ends room e) (judged (coefficientRead table) (fits room))
 unfolding coefficientRead tcoeff
 coefficient-reads ends room table t =
@@ -152,23 +153,23 @@ coefficients-after ends more room (sent c) h p =
     reads-map (λ rest. c ∷ rest) (h (room - suc (c .run))) (λ rest left g. ((p .0, p .1, g .0), tt))
 coefficients-after ends more room over h p = reads-done (λ left. (tt, p))
 
-later-worded : T (worded (meant true) laterTable5)
+later-meanings : T (each (meant true) laterTable5)
 unfolding laterTable5 pairs
-later-worded = tt
+later-meanings = tt
 
-first-worded : T (worded (meant false) firstTable5)
+first-meanings : T (each (meant false) firstTable5)
 unfolding firstTable5 pairs
-first-worded = tt
+first-meanings = tt
 
 -- a turn reads a codeword
-coefficients-read : (turns : ℕ) (ends : Bool) (room : ℕ) (table : List Entry) → T (worded (meant ends) table)
+coefficients-read : (turns : ℕ) (ends : Bool) (room : ℕ) (table : List Entry) → T (each (meant ends) table)
     → Reads turns 0 (λ b left. Fits room b × Coming ends b) (coefficients turns room table)
 unfolding coefficients
 coefficients-read zero ends room table t = reads-never
 coefficients-read (suc turns) ends room table t =
     reads-weaker
     (reads-turn (coefficient-reads ends room table t)
-    (λ e left g. coefficients-after ends (λ left. coefficients turns left laterTable5) room e (λ room. coefficients-read turns true room laterTable5 later-worded) g))
+    (λ e left g. coefficients-after ends (λ left. coefficients turns left laterTable5) room e (λ room. coefficients-read turns true room laterTable5 later-meanings) g))
     zero-le (λ b left h. h)
 
 -- a block that is sent
@@ -185,12 +186,12 @@ intra-reads : {bound : ℕ} → Reads bound 8 (λ b left. Sent true b) intraBloc
 unfolding intraBlock
 intra-reads =
     reads-then dc-reads
-    (λ dc left d. reads-map (λ rest. coefficient 0 dc ∷ rest) (reads-loop (λ turns. coefficients-read turns true 63 laterTable5 later-worded))
+    (λ dc left d. reads-map (λ rest. coefficient 0 dc ∷ rest) (reads-loop (λ turns. coefficients-read turns true 63 laterTable5 later-meanings))
     (λ rest left g. ((lit≤ tt, d, g .0), refl)))
 
 inter-reads : {bound : ℕ} → Reads bound 0 (λ b left. Sent false b) interBlock
 unfolding interBlock
-inter-reads = reads-loop (λ turns. coefficients-read turns false 64 firstTable5 first-worded)
+inter-reads = reads-loop (λ turns. coefficients-read turns false 64 firstTable5 first-meanings)
 
 block-reads : {bound : ℕ} (intra : Bool) → Reads bound 0 (λ b left. Sent intra b) (pick intra intraBlock interBlock)
 block-reads true = reads-weaker intra-reads zero-le (λ b left h. h)
@@ -255,20 +256,20 @@ patterned-empty (I ∷ ps) ((c ∷ cs) ∷ bs) h = refl
 abbrev Pattern : ℕ → ℕ → Type 0
 Pattern type pattern = If (hasCBP type) (T (some (bitsOf 6 pattern))) (pattern ≡ pick (isIntra type) 63 0)
 
-table4-worded : T (worded (λ m. some (bitsOf 6 m)) table4)
+table4-meanings : T (each (λ m. some (bitsOf 6 m)) table4)
 unfolding table4
-table4-worded = tt
+table4-meanings = tt
 
 pattern-reads : {bound : ℕ} (type : ℕ) → Reads bound 0 (λ pattern left. Pattern type pattern) (patternRead type)
-pattern-reads type = optional-reads (hasCBP type) (pick (isIntra type) 63 0) (λ t. reads-word (λ m. some (bitsOf 6 m)) table4 table4-worded)
+pattern-reads type = optional-reads (hasCBP type) (pick (isIntra type) 63 0) (λ t. reads-word (λ m. some (bitsOf 6 m)) table4 table4-meanings)
 
 -- an INTRA type has no CBP
 abbrev typed : ℕ → Bool
 typed type = both (within 1 10 type) (pick (isIntra type) (opposite (hasCBP type)) true)
 
-table2-worded : T (worded typed table2)
+table2-meanings : T (each typed table2)
 unfolding table2
-table2-worded = tt
+table2-meanings = tt
 
 opposite-twice : (b : Bool) → T b → T (opposite (opposite b))
 opposite-twice true t = t
@@ -296,14 +297,14 @@ unfolding number
 judges-landing a b =
     judges-pick (inRange a) (λ y. judges-fine a y) (λ n. judges-pick (inRange b) (λ y. judges-fine b y) (λ n. judges-against VectorOut tt))
 
-table3-worded : T (worded (λ m. true) table3)
+table3-meanings : T (each (λ m. true) table3)
 unfolding table3
-table3-worded = tt
+table3-meanings = tt
 
 component-reads : {bound : ℕ} (before : ℤ) → Reads bound 1 (λ z left. T (inRange z)) (componentRead before)
 unfolding componentRead
 component-reads before =
-    reads-judged (reads-word (λ m. true) table3 table3-worded)
+    reads-judged (reads-word (λ m. true) table3 table3-meanings)
     (λ n left g. judges-landing (before +ℤ pairOf n .printed) (before +ℤ pairOf n .other))
 
 abbrev Ranged : Vector → Type 0
@@ -328,7 +329,7 @@ macroblock-reads : {bound : ℕ} (f : Format) (number : ℕ) (before : Before) (
     → Reads bound 1 (λ m left. (m .address ≡ before .address + s) × ProperMacroblock f number m) (macroblock f number before s)
 unfolding macroblock
 macroblock-reads f number before s =
-    reads-then (reads-word typed table2 table2-worded)
+    reads-then (reads-word typed table2 table2-meanings)
     (λ type left t. reads-then (optional-reads (hasMQUANT type) 0 (λ y. quantiser-reads))
     (λ mquant left q. reads-then (optional-reads (isMC type) zeroVector (λ y. vector-reads f number (before .address + s) (preceding before s)))
     (λ vector left v. reads-then (pattern-reads type)
@@ -362,12 +363,12 @@ judges-mba last address m some =
     start true = judges-against StartCodeLast tt
     start false = judges-fine ended tt
 
-table1-worded : T (worded (leb 1) table1)
+table1-meanings : T (each (leb 1) table1)
 unfolding table1
-table1-worded = tt
+table1-meanings = tt
 
 mba-reads : {bound : ℕ} (last : Bool) (address : ℕ) → Reads bound 1 (λ x left. Met last address x) (judged (word table1) (mbaOf last address))
-mba-reads last address = reads-judged (reads-word (leb 1) table1 table1-worded) (λ m left g. judges-mba last address m (leb→le 1 m g))
+mba-reads last address = reads-judged (reads-word (leb 1) table1 table1-meanings) (λ m left g. judges-mba last address m (leb→le 1 m g))
 
 -- in the last group no bit is left after the macroblocks
 abbrev Ended : Bool → List Bit → Type 0
