@@ -1,8 +1,8 @@
 -- What reading a picture can give, for any bytes and any N: an accepted picture is proper and took all N bits; a refusal is of document 01's table, at a place up to N. Assumes nothing.
-use Prim.Native.Nat.{ℕ, suc, _+_, _-_, _*_, _≤_, _<_}
-use mathlib.Core.Path.{_≡_, refl, sym, ap, subst, _∙_}
+use Prim.Native.Nat.{ℕ, suc, _+_, _-_, _*_, _≤_}
+use mathlib.Core.Path.{_≡_, refl, ap, subst, _∙_}
 use mathlib.Core.Bool.{Bool, true, false}
-use mathlib.Core.List.{List, [], _∷_}
+use mathlib.Core.List.{List, []}
 use native.Mathlib.Omega.{arith}
 use native.Mathlib.Nat.{le-refl, sub-zero}
 use lib.Dec.{T, leb, ltb, leb→le, le→leb}
@@ -17,7 +17,7 @@ use Rattle.bits.specs.Bits.{Bit, source}
 use Rattle.bits.specs.Read.{Read, got, refused, endless, bad}
 use Rattle.bits.specs.Value.{length-bits}
 use Rattle.bits.specs.Source.{source-left}
-use Rattle.bits.specs.Logic.{Holds, holds-weaker, ofBits, Fair, Took}
+use Rattle.bits.specs.Logic.{Holds, holds-weaker, Fair, Took}
 use Rattle.format.specs.Format.{limit}
 use Rattle.format.specs.declared.Format.{Format}
 use Rattle.description.specs.Value.{Picture}
