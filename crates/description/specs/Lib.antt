@@ -2,3 +2,8 @@ pub mod Vector
 pub mod Value
 pub mod Flat
 pub mod Valid
+pub mod Proper
+pub mod Spread
+pub mod Walk
+pub mod Described
+pub mod LaidOut
