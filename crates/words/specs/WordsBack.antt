@@ -1,0 +1,166 @@
+-- What is written for a meaning of Tables 1 to 5, or for a coefficient, is read back. Assumes nothing.
+use mathlib.Core.Path.{_≡_, refl, sym, ap, subst, _∙_}
+use mathlib.Core.List.{List, [], _∷_, _++_}
+use mathlib.Core.Bool.{Bool, true, false}
+use Prim.Native.Nat.{ℕ, zero, suc, _+_, _-_, _*_, _/_, _%_, _^_, _≤_, _<_}
+use native.Mathlib.Omega.{arith}
+use borrow.Author.Tests.{lt-ltb, le-ltb, ne-eqb, ltb-true, ltb-false}
+use lib.Dec.{T, eqb, leb, ltb, ltb→lt, lit<}
+use lib.ListN.{length, length-append}
+use Rattle.laws.specs.Choice.{pick, both, either, both-left, both-right, true-T}
+use Rattle.laws.specs.Table.{allB, all-at}
+use Rattle.bits.specs.Bits.{Bit, bitsOf}
+use Rattle.bits.specs.Read.{Read, Reader, done, field, fine}
+use Rattle.bits.specs.Code.{Entry, word, wordOf, has}
+use Rattle.bits.specs.ReadBack.{Reads, reads-done, reads-next, reads-judged, reads-whole, reads-field, length-bitsOf}
+use Rattle.bits.specs.WordBack.{free, reads-word, length-word}
+use Rattle.words.specs.Tables.{table1, table2, table3, table4, pairs, firstTable5, laterTable5, pair, endOfBlock, escape}
+use Rattle.words.specs.Words.{Coefficient, coefficient, Event, sent, over, signed, escaped, paired, tcoeff, forbidden, allowed, coefficientRead, negative, size, tcoeffOf}
+
+-- ---- Tables 1 to 4
+-- the meanings 1 to n have codewords
+abbrev from-one : ℕ → List Entry → Bool
+from-one n tab = allB n (λ k. has tab (suc k))
+
+module _ (tab : List Entry) (n m : ℕ) (a : T (free tab)) (all : T (from-one n tab)) (least : 0 < m) (most : m ≤ n) where
+  has-from-one : T (has tab m)
+  has-from-one = go m least most
+    where
+      go : (k : ℕ) → 0 < k → k ≤ n → T (has tab k)
+      go zero l h = absurd (omega arith)
+      go (suc k) l h = all-at n (λ k. has tab (suc k)) all k (omega arith)
+
+  reads-one : (rest : List Bit) → Reads (word tab) (wordOf tab m) rest m
+  reads-one rest = reads-word tab m rest a has-from-one
+
+  length-one : 1 ≤ length (wordOf tab m)
+  length-one = length-word tab m a has-from-one
+
+-- an MBA's step, stuffing, or a start code
+pub reads-table1 : (m : ℕ) (rest : List Bit) → 0 < m → m ≤ 35 → Reads (word table1) (wordOf table1 m) rest m
+unfolding table1 has
+reads-table1 m rest l h = reads-one table1 35 m tt tt l h rest
+
+pub length-table1 : (m : ℕ) → 0 < m → m ≤ 35 → 1 ≤ length (wordOf table1 m)
+unfolding table1 has
+length-table1 m l h = length-one table1 35 m tt tt l h
+
+-- a macroblock's type
+pub reads-table2 : (m : ℕ) (rest : List Bit) → 0 < m → m ≤ 10 → Reads (word table2) (wordOf table2 m) rest m
+unfolding table2 has
+reads-table2 m rest l h = reads-one table2 10 m tt tt l h rest
+
+-- a vector's difference
+pub reads-table3 : (m : ℕ) (rest : List Bit) → m < 32 → Reads (word table3) (wordOf table3 m) rest m
+unfolding table3 has
+reads-table3 m rest h = reads-word table3 m rest tt (all-at 32 (has table3) tt m h)
+
+-- a pattern
+pub reads-table4 : (m : ℕ) (rest : List Bit) → 0 < m → m ≤ 63 → Reads (word table4) (wordOf table4 m) rest m
+unfolding table4 has
+reads-table4 m rest l h = reads-one table4 63 m tt tt l h rest
+
+-- ---- Table 5
+not-zero : (code : ℕ) → forbidden code ≡ false → 0 < code
+not-zero zero e = let z : _≡_ {A = ℕ} 0 1 = cc in absurd (omega arith)
+not-zero (suc n) e = omega arith
+
+size-some : (code : ℕ) → code < 256 → 0 < code → 0 < size code
+size-some code l h = go (ltb code 128)
+  where
+    go : (b : Bool) → 0 < pick b code (256 - code)
+    go true = omega arith
+    go false = omega arith
+
+-- the sign and the size are the code
+signed-size : (code : ℕ) → code < 256 → signed (negative code) (size code) ≡ code
+signed-size code l = go (ltb code 128)
+  where
+    go : (b : Bool) → signed (pick b 0 1) (pick b code (256 - code)) ≡ code
+    go true = refl
+    go false = omega arith
+
+negative-bit : (code : ℕ) → negative code < 2
+negative-bit code = go (ltb code 128)
+  where
+    go : (b : Bool) → pick b 0 1 < 2
+    go true = lit< tt
+    go false = lit< tt
+
+-- what a codeword of Table 5 goes on with
+abbrev onward : ℕ → Reader Event
+onward m = pick (eqb m endOfBlock) (done over) (pick (eqb m escape) escaped (paired m))
+
+module _ (run level : ℕ) (least : 0 < level) (most : level < 16) where
+  not-end : eqb (pair run level) endOfBlock ≡ false
+  not-end = ne-eqb (pair run level) 0 (λ e. omega arith)
+
+  not-escape : eqb (pair run level) escape ≡ false
+  not-escape = ne-eqb (pair run level) 512 (λ e. omega arith)
+
+  reads-sign : (s : ℕ) (rest : List Bit) → s < 2 → Reads (onward (pair run level)) (bitsOf 1 s) rest (sent (coefficient run (signed s level)))
+  reads-sign s rest l =
+      let d : (run * 16 + level) / 16 ≡ run = omega arith in
+      let m : (run * 16 + level) % 16 ≡ level = omega arith in
+      record { back = λ at. rw (not-end, not-escape, reads-field 1 s rest l .back at, d, m) }
+
+reads-escaped : (run code : ℕ) (rest : List Bit) → run < 64 → code < 256 → Reads escaped (bitsOf 6 run ++ bitsOf 8 code) rest (sent (coefficient run code))
+reads-escaped run code rest l h =
+    reads-next _ (reads-field 6 run (bitsOf 8 code ++ rest) l)
+    (record { back = λ at. rw (reads-field 8 code rest h .back at) })
+
+module _ (table : List Entry) (isFree : T (free table)) (escapes : T (has table escape)) (c : Coefficient) (l : c .run < 64) (h : c .code < 256) (e : forbidden (c .code) ≡ false)
+  where
+    in-table : Bool
+    in-table = both (ltb (size (c .code)) 16) (has table (pair (c .run) (size (c .code))))
+
+    reads-case : (b : Bool) → in-table ≡ b → (rest : List Bit)
+        → Reads (tcoeff table)
+        (pick b (wordOf table (pair (c .run) (size (c .code))) ++ bitsOf 1 (negative (c .code))) (wordOf table escape ++ (bitsOf 6 (c .run) ++ bitsOf 8 (c .code)))) rest
+        (sent c)
+    unfolding tcoeff in-table
+    reads-case true t rest =
+        let both-hold : T in-table = true-T in-table t in
+        let small : size (c .code) < 16 = ltb→lt (size (c .code)) 16 (both-left (ltb (size (c .code)) 16) _ both-hold) in
+        let some : 0 < size (c .code) = size-some (c .code) h (not-zero (c .code) e) in
+        let s = reads-sign (c .run) (size (c .code)) some small (negative (c .code)) rest (negative-bit (c .code)) in
+        reads-whole
+        (reads-next onward
+        (reads-word table (pair (c .run) (size (c .code))) _ isFree (both-right (ltb (size (c .code)) 16) _ both-hold))
+        (rw (signed-size (c .code) h) at s))
+    reads-case false t rest =
+        reads-whole (reads-next onward (reads-word table escape _ isFree escapes) (reads-escaped (c .run) (c .code) rest l h))
+
+    pub reads-coefficient : (rest : List Bit) → Reads (coefficientRead table) (tcoeffOf table c) rest (sent c)
+    unfolding coefficientRead tcoeffOf in-table
+    reads-coefficient rest = reads-judged allowed (sent c) (reads-case in-table refl rest) (rw e)
+
+pub length-coefficient : (table : List Entry) (c : Coefficient) → 1 ≤ length (tcoeffOf table c)
+unfolding tcoeffOf
+length-coefficient table c = go (both (ltb (size (c .code)) 16) (has table (pair (c .run) (size (c .code)))))
+  where
+    at-least : (v w : List Bit) (k x : ℕ) → w ≡ bitsOf (suc k) x → 1 ≤ length (v ++ w)
+    at-least v w k x e = omega (arith, length-append v w, ap length e, length-bitsOf (suc k) x)
+
+    go : (b : Bool) → 1 ≤ length (pick b (wordOf table (pair (c .run) (size (c .code))) ++ bitsOf 1 (negative (c .code))) (wordOf table escape ++ (bitsOf 6 (c .run) ++ bitsOf 8 (c .code))))
+    go true = at-least (wordOf table (pair (c .run) (size (c .code)))) (bitsOf 1 (negative (c .code))) 0 (negative (c .code)) refl
+    go false =
+        omega (arith, length-append (wordOf table escape) (bitsOf 6 (c .run) ++ bitsOf 8 (c .code)), length-append (bitsOf 6 (c .run)) (bitsOf 8 (c .code)), length-bitsOf 8 (c .code))
+
+-- the first coefficient of a non-INTRA block, and the others
+pub reads-first : (c : Coefficient) (rest : List Bit) → c .run < 64 → c .code < 256 → forbidden (c .code) ≡ false
+    → Reads (coefficientRead firstTable5) (tcoeffOf firstTable5 c) rest (sent c)
+unfolding firstTable5 pairs has
+reads-first c rest l h e = reads-coefficient firstTable5 tt tt c l h e rest
+
+pub reads-later : (c : Coefficient) (rest : List Bit) → c .run < 64 → c .code < 256 → forbidden (c .code) ≡ false
+    → Reads (coefficientRead laterTable5) (tcoeffOf laterTable5 c) rest (sent c)
+unfolding laterTable5 pairs has
+reads-later c rest l h e = reads-coefficient laterTable5 tt tt c l h e rest
+
+-- EOB
+pub reads-over : (rest : List Bit) → Reads (coefficientRead laterTable5) (wordOf laterTable5 endOfBlock) rest over
+unfolding coefficientRead tcoeff laterTable5 pairs has
+reads-over rest =
+    let w = reads-word laterTable5 endOfBlock rest tt tt in
+    record { back = λ at. rw (w .back at) }
