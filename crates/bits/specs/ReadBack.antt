@@ -34,6 +34,12 @@ module _ {A : Type 0} where
         (g .back (at + length w) ∙ ap (λ (p : ℕ). got b rest p) (add-assoc at (length w) (length v) ∙ ap (λ (n : ℕ). at + n) (sym (length-append w v))));
   }
 
+  pub reads-end : {B : Type 0} {r : Reader A} {w rest : List Bit} {a : A} {b : B} (k : A → Reader B) → Reads r w rest a → k a ≡ done b → Reads (r >>= k) w rest b
+  reads-end k h e = record { back = λ at. rw (h .back at, e) }
+
+  pub reads-as : {r : Reader A} {w v rest : List Bit} {a : A} → w ≡ v → Reads r w rest a → Reads r v rest a
+  reads-as e h = rw e at h
+
   -- the fuel of a loop is more than the bits are
   pub reads-loop : {w rest : List Bit} {a : A} (turn : ℕ → Reader A) → ((n : ℕ) → length w ≤ n → Reads (turn (suc n)) w rest a) → Reads (loop turn) w rest a
   reads-loop {w} {rest} turn h = record { back = λ at. h (length (w ++ rest)) (omega (arith, length-append w rest)) .back at }

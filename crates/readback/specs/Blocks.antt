@@ -1,0 +1,192 @@
+-- Blocks are read back, and the pattern that is taken from them names those that are sent. Assumes nothing.
+use mathlib.Core.Path.{_≡_, refl, sym, ap, _∙_}
+use mathlib.Core.List.{List, [], _∷_, _++_}
+use mathlib.Core.Bool.{Bool, true, false}
+use Prim.Native.Nat.{ℕ, zero, suc, _+_, _-_, _*_, _/_, _%_, _^_, _≤_, _<_}
+use native.Mathlib.Nat.{pow-succ', one-le-pow, mul-assoc, div-eq-of-lt, add-mul-div-right}
+use native.Mathlib.Omega.{arith}
+use borrow.Author.Tests.{lt-leb}
+use lib.Dec.{lit<}
+use lib.ListN.{length, length-append}
+use Rattle.laws.specs.Choice.{pick}
+use Rattle.bits.specs.Bits.{Bit, O, I, bitOf, bitsOf}
+use Rattle.refusals.specs.declared.Reason.the-variants.{Forbidden}
+use Rattle.bits.specs.Read.{Reader, fine, against}
+use Rattle.bits.specs.Code.{Entry, word, wordOf}
+use Rattle.bits.specs.ReadBack.{Reads, reads-done, reads-next, reads-end, reads-judged, reads-loop, reads-field}
+use Rattle.words.specs.Tables.{table4, pairs, firstTable5, laterTable5, endOfBlock}
+use Rattle.words.specs.Words.{Coefficient, coefficient, sent, over, forbidden, coefficientRead, tcoeffOf}
+use Rattle.words.specs.WordsBack.{reads-table4, reads-first, reads-later, reads-over, length-coefficient}
+use Rattle.description.specs.Value.{Block}
+use Rattle.description.specs.Proper.{ProperCode, ProperBlock, Each, BeginsWithDC, Empty, Coded, SentBlocks}
+use Rattle.reader.specs.Grammar.{optional, fits, coefficientsAfter, coefficients, dcRead, intraBlock, interBlock, blocksRead}
+use Rattle.writer.specs.Write.{given, coefficientsOf, blockOf, blocksOf, present, patternOf}
+
+-- ---- one block
+-- each coefficient has a bit at least, and EOB has two
+more-bits : (cs : Block) → length cs < length (coefficientsOf cs)
+unfolding coefficientsOf wordOf laterTable5 pairs
+more-bits [] = lit< tt
+more-bits (c ∷ cs) =
+    omega (arith, length-append (tcoeffOf laterTable5 c) (coefficientsOf cs), length-coefficient laterTable5 c, more-bits cs)
+
+one-more : (table : List Entry) (w : List Bit) (c : Coefficient) (cs : Block) (turns room : ℕ) (rest : List Bit)
+    → Reads (coefficientRead table) w (coefficientsOf cs ++ rest) (sent c)
+    → c .run < room
+    → Reads (coefficients turns (room - suc (c .run)) laterTable5) (coefficientsOf cs) rest cs
+    → Reads (coefficients (suc turns) room table) (w ++ coefficientsOf cs) rest (c ∷ cs)
+unfolding coefficients
+one-more table w c cs turns room rest h l g =
+    reads-next (coefficientsAfter (λ left. coefficients turns left laterTable5) room)
+    (reads-judged (fits room) (sent c) h (rw (lt-leb room (c .run) l)))
+    (reads-end _ g refl)
+
+reads-coefficients : (cs : Block) (turns room : ℕ) (rest : List Bit) → length cs < turns → room ≤ 64 → ProperBlock room cs
+    → Reads (coefficients turns room laterTable5) (coefficientsOf cs) rest cs
+unfolding coefficients coefficientsOf
+reads-coefficients cs zero room rest l r p = absurd (omega arith)
+reads-coefficients [] (suc turns) room rest l r p =
+    reads-end (coefficientsAfter (λ left. coefficients turns left laterTable5) room) (reads-judged (fits room) over (reads-over rest) refl) refl
+reads-coefficients (c ∷ cs) (suc turns) room rest l r p =
+    one-more laterTable5 (tcoeffOf laterTable5 c) c cs turns room rest
+    (reads-later c (coefficientsOf cs ++ rest) (omega (arith, p .1)) (p .0 .small) (p .0 .allowed)) (p .1)
+    (reads-coefficients cs turns (room - suc (c .run)) rest (omega arith) (omega arith) (p .2))
+
+reads-inter : (c : Coefficient) (cs : Block) (rest : List Bit) → ProperBlock 64 (c ∷ cs) → Reads interBlock (blockOf false (c ∷ cs)) rest (c ∷ cs)
+unfolding interBlock
+reads-inter c cs rest p =
+    let w = tcoeffOf firstTable5 c in
+    reads-loop (λ turns. coefficients turns 64 firstTable5) (λ n l.
+    one-more firstTable5 w c cs n 64 rest (reads-first c (coefficientsOf cs ++ rest) (p .1) (p .0 .small) (p .0 .allowed)) (p .1)
+    (reads-coefficients cs n (64 - suc (c .run)) rest (omega (arith, length-append w (coefficientsOf cs), more-bits cs)) (omega arith) (p .2)))
+
+reads-dc : (code : ℕ) (rest : List Bit) → ProperCode code → Reads dcRead (bitsOf 8 code) rest code
+reads-dc code rest p = reads-judged (λ x. pick (forbidden x) (against Forbidden) (fine x)) code (reads-field 8 code rest (p .small)) (rw (p .allowed))
+
+reads-from-dc : (code : ℕ) (cs : Block) (rest : List Bit) → ProperCode code → ProperBlock 63 cs
+    → Reads intraBlock (bitsOf 8 code ++ coefficientsOf cs) rest (coefficient 0 code ∷ cs)
+unfolding intraBlock
+reads-from-dc code cs rest p q =
+    reads-next _ (reads-dc code (coefficientsOf cs ++ rest) p)
+    (reads-end _
+    (reads-loop (λ turns. coefficients turns 63 laterTable5)
+    (λ n l. reads-coefficients cs (suc n) 63 rest (omega (arith, more-bits cs)) (omega arith) q)) refl)
+
+reads-intra : (c : Coefficient) (cs : Block) (rest : List Bit) → ProperBlock 64 (c ∷ cs) → c .run ≡ 0 → Reads intraBlock (blockOf true (c ∷ cs)) rest (c ∷ cs)
+reads-intra c cs rest p e =
+    let q : ProperBlock 63 cs = rw e at (p .2) in
+    let same : coefficient 0 (c .code) ≡ c = ap (λ (r : ℕ). coefficient r (c .code)) (sym e) in
+    rw same at (reads-from-dc (c .code) cs rest (p .0) q)
+
+-- ---- the blocks that are sent
+abbrev marks : List Block → List Bit
+marks [] = []
+marks (b ∷ bs) = bitOf (present b) ∷ marks bs
+
+-- as the type says: INTRA blocks all begin with a DC code
+abbrev Starting : Bool → List Block → Type 0
+Starting true bs = Each BeginsWithDC bs
+Starting false bs = Unit {0}
+
+reads-marked : (intra : Bool) (bs : List Block) (rest : List Bit) → Each (ProperBlock 64) bs → Starting intra bs
+    → Reads (blocksRead intra (marks bs)) (blocksOf intra bs) rest bs
+unfolding blocksRead blocksOf
+reads-marked intra [] rest p s = reads-done [] rest
+reads-marked true ([] ∷ bs) rest p s = absurd (s .0)
+reads-marked false ([] ∷ bs) rest p s = reads-end _ (reads-marked false bs rest (p .1) tt) refl
+reads-marked true ((c ∷ cs) ∷ bs) rest p s =
+    reads-next _ (reads-intra c cs (blocksOf true bs ++ rest) (p .0) (s .0)) (reads-end _ (reads-marked true bs rest (p .1) (s .1)) refl)
+reads-marked false ((c ∷ cs) ∷ bs) rest p s =
+    reads-next _ (reads-inter c cs (blocksOf false bs ++ rest) (p .0)) (reads-end _ (reads-marked false bs rest (p .1) tt) refl)
+
+-- ---- the pattern
+pow-pos : (k : ℕ) → 0 < 2 ^ k
+pow-pos k = one-le-pow k 2 (lit< tt)
+
+present-bit : (b : Block) → present b < 2
+present-bit [] = lit< tt
+present-bit (c ∷ cs) = lit< tt
+
+less-case : (p q n : ℕ) → p < 2 → q < 2 ^ n → p * 2 ^ n + q < 2 ^ suc n
+less-case zero q n l h = omega arith
+less-case (suc zero) q n l h = omega arith
+less-case (suc (suc p)) q n l h = absurd (omega arith)
+
+pattern-less : (bs : List Block) → patternOf bs < 2 ^ length bs
+unfolding patternOf
+pattern-less [] = lit< tt
+pattern-less (b ∷ bs) = less-case (present b) (patternOf bs) (length bs) (present-bit b) (pattern-less bs)
+
+pattern-some : (bs : List Block) → Coded bs → 0 < patternOf bs
+unfolding patternOf
+pattern-some [] h = absurd h
+pattern-some ([] ∷ bs) h = omega (arith, pattern-some bs h)
+pattern-some ((c ∷ cs) ∷ bs) h = omega (arith, pattern-less bs)
+
+pattern-full : (bs : List Block) → Each BeginsWithDC bs → suc (patternOf bs) ≡ 2 ^ length bs
+unfolding patternOf
+pattern-full [] h = refl
+pattern-full ([] ∷ bs) h = absurd (h .0)
+pattern-full ((c ∷ cs) ∷ bs) h = full-case (patternOf bs) (length bs) (pattern-full bs (h .1))
+  where
+    full-case : (q n : ℕ) → suc q ≡ 2 ^ n → suc (1 * 2 ^ n + q) ≡ 2 ^ suc n
+    full-case q n e = omega arith
+
+pattern-none : (bs : List Block) → Each Empty bs → patternOf bs ≡ 0
+unfolding patternOf
+pattern-none [] h = refl
+pattern-none ([] ∷ bs) h = omega (arith, pattern-none bs (h .1))
+pattern-none ((c ∷ cs) ∷ bs) h = absurd (h .0)
+
+-- its bits
+higher : (m k x : ℕ) → m * 2 ^ suc k + x ≡ x + m * 2 * 2 ^ k
+higher m k x = omega (arith, ap (λ (n : ℕ). m * n) (pow-succ' 2 k), mul-assoc m 2 (2 ^ k))
+
+lower-bits : (k m x : ℕ) → bitsOf k (x + m * 2 ^ k) ≡ bitsOf k x
+lower-bits zero m x = refl
+lower-bits (suc k) m x =
+    let y = x / 2 ^ k in
+    let e : x + m * 2 ^ suc k ≡ x + m * 2 * 2 ^ k = omega (arith, higher m k x) in
+    let h : (y + m * 2) % 2 ≡ y % 2 = omega arith in
+    rw (e, add-mul-div-right x (m * 2) (pow-pos k), h, lower-bits k (m * 2) x)
+
+marks-bits : (bs : List Block) → bitsOf (length bs) (patternOf bs) ≡ marks bs
+unfolding patternOf
+marks-bits [] = refl
+marks-bits (b ∷ bs) =
+    let n = length bs in
+    let p = present b in
+    let q = patternOf bs in
+    let e : p * 2 ^ n + q ≡ q + p * 2 ^ n = omega arith in
+    let h : (0 + p) % 2 ≡ p = omega (arith, present-bit b) in
+    rw (e, add-mul-div-right q p (pow-pos n), div-eq-of-lt (pattern-less bs), h, lower-bits n p q, marks-bits bs)
+
+-- ---- both, as a macroblock of six blocks has them
+module _ (intra cbp : Bool) (bs : List Block) (rest : List Bit) (six : length bs ≡ 6) (s : SentBlocks intra cbp bs) where
+  starting : Starting intra bs
+  starting = go intra cbp s
+    where
+      go : (i c : Bool) → SentBlocks i c bs → Starting i bs
+      go true c h = h
+      go false true h = tt
+      go false false h = tt
+
+  pub reads-blocks : Each (ProperBlock 64) bs → Reads (blocksRead intra (bitsOf 6 (patternOf bs))) (blocksOf intra bs) rest bs
+  reads-blocks p =
+      let e : bitsOf 6 (patternOf bs) ≡ marks bs = ap (λ (n : ℕ). bitsOf n (patternOf bs)) (sym six) ∙ marks-bits bs in
+      rw e (reads-marked intra bs rest p starting)
+
+  pub reads-pattern : Reads (optional cbp (pick intra 63 0) (word table4)) (given cbp (wordOf table4 (patternOf bs))) rest (patternOf bs)
+  reads-pattern = go intra cbp s
+    where
+      most : patternOf bs ≤ 63
+      most = let e : 2 ^ length bs ≡ 64 = ap (λ (n : ℕ). 2 ^ n) six in omega (arith, pattern-less bs)
+
+      full : Each BeginsWithDC bs → patternOf bs ≡ 63
+      full h = let e : 2 ^ length bs ≡ 64 = ap (λ (n : ℕ). 2 ^ n) six in omega (arith, pattern-full bs h)
+
+      go : (i c : Bool) → SentBlocks i c bs → Reads (optional c (pick i 63 0) (word table4)) (given c (wordOf table4 (patternOf bs))) rest (patternOf bs)
+      go true true h = reads-table4 (patternOf bs) rest (omega (arith, full h)) most
+      go true false h = rw (full h) (reads-done 63 rest)
+      go false true h = reads-table4 (patternOf bs) rest (pattern-some bs h) most
+      go false false h = rw (pattern-none bs h) (reads-done 0 rest)
