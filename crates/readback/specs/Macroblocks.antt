@@ -1,0 +1,139 @@
+-- The macroblocks of a group are read back, up to and with what ends the group. Assumes nothing.
+use mathlib.Core.Path.{_≡_, refl, sym, ap, _∙_}
+use mathlib.Core.List.{List, [], _∷_, _++_, append-assoc}
+use mathlib.Core.Bool.{Bool, true, false}
+use Prim.Native.Nat.{ℕ, zero, suc, _+_, _-_, _≤_, _<_}
+use native.Mathlib.Omega.{arith}
+use borrow.Author.Tests.{le-ltb, ne-eqb}
+use lib.Dec.{eqb, lit<, lit≤}
+use lib.ListN.{length, length-append}
+use Rattle.laws.specs.Choice.{pick}
+use Rattle.refusals.specs.declared.Reason.the-variants.{QuantiserZero}
+use Rattle.bits.specs.Bits.{Bit, bitsOf}
+use Rattle.bits.specs.Read.{Reader, done, field, fine, against, judged, orEnd}
+use Rattle.bits.specs.Code.{word, wordOf}
+use Rattle.bits.specs.ReadBack.{Reads, reads-done, reads-next, reads-end, reads-as, reads-judged, reads-loop, reads-field}
+use Rattle.words.specs.Tables.{table1, table2, table4, stuffing, startCode}
+use Rattle.words.specs.Words.{isIntra, isMC, hasMQUANT, hasCBP}
+use Rattle.words.specs.WordsBack.{reads-table1, length-table1, reads-table2}
+use Rattle.format.specs.declared.Format.{Format}
+use Rattle.description.specs.Vector.{Vector, zeroVector, Before, atStart, preceding}
+use Rattle.description.specs.Value.{Macroblock, after}
+use Rattle.description.specs.Proper.{Quantiser, ProperMquant, ProperVector, ProperMacroblock, ProperMacroblocks}
+use Rattle.reader.specs.Grammar.{quantiser, optional, macroblock, Mba, step, stuffed, ended, mbaOf, mba, macroblocksAfter, macroblocksFrom}
+use Rattle.writer.specs.Write.{given, vectorOf, patternOf, blocksOf, macroblockOf, macroblocksOf}
+use Rattle.readback.specs.Blocks.{reads-blocks, reads-pattern}
+use Rattle.readback.specs.Vectors.{Ranged, ranged-zero, ranged-vector, reads-vector}
+
+-- ---- one macroblock
+pub reads-quantiser : (q : ℕ) (rest : List Bit) → Quantiser q → Reads quantiser (bitsOf 5 q) rest q
+reads-quantiser q rest h =
+    reads-judged (λ q. pick (eqb q 0) (against QuantiserZero) (fine q)) q (reads-field 5 q rest (omega (arith, h .most)))
+    (rw (ne-eqb q 0 (λ e. omega (arith, h .least))))
+
+reads-mquant : (has : Bool) (q : ℕ) (rest : List Bit) → ProperMquant has q → Reads (optional has 0 quantiser) (given has (bitsOf 5 q)) rest q
+reads-mquant true q rest h = reads-quantiser q rest h
+reads-mquant false q rest h = rw h (reads-done 0 rest)
+
+-- what is written after MBA
+abbrev bodyOf : Before → Macroblock → List Bit
+bodyOf before m =
+    wordOf table2 (m .type)
+    ++ (given (hasMQUANT (m .type)) (bitsOf 5 (m .mquant))
+    ++ (given (isMC (m .type)) (vectorOf (preceding before (m .address - before .address)) (m .vector))
+    ++ (given (hasCBP (m .type)) (wordOf table4 (patternOf (m .blocks)))
+    ++ blocksOf (isIntra (m .type)) (m .blocks))))
+
+module _ (f : Format) (number : ℕ) (before : Before) (m : Macroblock) (p : ProperMacroblock f number (before .address) m) (r : Ranged (before .vector)) where
+  -- MBA's step
+  abbrev stepTo : ℕ
+  stepTo = m .address - before .address
+
+  steps : before .address + stepTo ≡ m .address
+  steps = omega (arith, p .later)
+
+  same : (a : ℕ) → a ≡ m .address
+      → _≡_ {A = Macroblock} (record { address = a; type = m .type; mquant = m .mquant; vector = m .vector; blocks = m .blocks }) m
+  same a e = ap (λ (a : ℕ). record { address = a; type = m .type; mquant = m .mquant; vector = m .vector; blocks = m .blocks }) e
+
+  reads-body : (rest : List Bit) → Reads (macroblock f number before stepTo) (bodyOf before m) rest m
+  unfolding macroblock
+  reads-body rest =
+      let points : ProperVector f number (before .address + stepTo) (isMC (m .type)) (m .vector) = rw steps (p .vector) in
+      reads-next _ (reads-table2 (m .type) _ (p .typed) (p .known))
+      (reads-next _ (reads-mquant (hasMQUANT (m .type)) (m .mquant) _ (p .mquant))
+      (reads-next _ (reads-vector f number (before .address + stepTo) (isMC (m .type)) before stepTo (m .vector) _ r points)
+      (reads-next _ (reads-pattern (isIntra (m .type)) (hasCBP (m .type)) (m .blocks) _ (p .six) (p .sent))
+      (reads-end _ (reads-blocks (isIntra (m .type)) (hasCBP (m .type)) (m .blocks) rest (p .six) (p .sent) (p .fit)) (ap done (same _ steps))))))
+
+-- ---- what stands at an MBA place
+not-ended : {A : Type 0} (a : A) (r : Reader A) (bs : List Bit) (at : ℕ) → 1 ≤ length bs → orEnd a r bs at ≡ r bs at
+not-ended a r [] at l = absurd (omega arith)
+not-ended a r (b ∷ bs) at l = refl
+
+module _ (address s : ℕ) (rest : List Bit) (some : 0 < s) (in-group : address + s ≤ 33) where
+  is-step : (last : Bool) → mbaOf last address s ≡ fine (step s)
+  is-step last = rw (ne-eqb s 34 (λ e. omega arith), ne-eqb s 35 (λ e. omega arith), le-ltb 33 (address + s) in-group)
+
+  reads-step : (last : Bool) → Reads (judged (word table1) (mbaOf last address)) (wordOf table1 s) rest (step s)
+  reads-step last = reads-judged (mbaOf last address) (step s) (reads-table1 s rest some (omega arith)) (is-step last)
+
+  reads-mba : (last : Bool) → Reads (mba last address) (wordOf table1 s) rest (step s)
+  unfolding mba
+  reads-mba true =
+      let w = wordOf table1 s in
+      let l : 1 ≤ length w = length-table1 s some (omega arith) in
+      record { back = λ at. not-ended ended (judged (word table1) (mbaOf true address)) (w ++ rest) at (omega (arith, length-append w rest)) ∙ reads-step true .back at }
+  reads-mba false = reads-step false
+
+-- what ends a group: nothing in the last one, else the next start code
+abbrev pub ending : Bool → List Bit
+ending true = []
+ending false = bitsOf 16 0b0000000000000001
+
+-- and what comes after it: nothing in the last one
+abbrev pub Ending : Bool → List Bit → Type 0
+Ending true rest = rest ≡ []
+Ending false rest = Unit {0}
+
+reads-start : (rest : List Bit) → Reads (word table1) (bitsOf 16 0b0000000000000001) rest startCode
+unfolding wordOf table1
+reads-start rest = reads-table1 startCode rest (lit< tt) (lit≤ tt)
+
+reads-ended : (last : Bool) (address : ℕ) (rest : List Bit) → Ending last rest → Reads (mba last address) (ending last) rest ended
+unfolding mba
+reads-ended true address rest e = rw e (record { back = λ at. reads-done ended [] .back at })
+reads-ended false address rest e = reads-judged (mbaOf false address) ended (reads-start rest) refl
+
+-- ---- the macroblocks
+regroup : (a b c d : List Bit) → a ++ (b ++ (c ++ d)) ≡ ((a ++ b) ++ c) ++ d
+regroup a b c d = simp append-assoc
+
+pub reads-macroblocks : (ms : List Macroblock) (turns : ℕ) (f : Format) (last : Bool) (number : ℕ) (before : Before) (rest : List Bit) → length ms < turns
+    → ProperMacroblocks f number (before .address) ms → Ranged (before .vector) → Ending last rest
+    → Reads (macroblocksFrom turns f last number before) (macroblocksOf before ms ++ ending last) rest ms
+unfolding macroblocksFrom macroblocksOf macroblockOf
+reads-macroblocks ms zero f last number before rest l p r e = absurd (omega arith)
+reads-macroblocks [] (suc turns) f last number before rest l p r e =
+    reads-end (macroblocksAfter (macroblocksFrom turns f last number) f number before) (reads-ended last (before .address) rest e) refl
+reads-macroblocks (m ∷ ms) (suc turns) f last number before rest l p r e =
+    let s = m .address - before .address in
+    let v = macroblocksOf (after m) ms ++ ending last in
+    let more = reads-macroblocks ms turns f last number (after m) rest (omega arith) (p .1)
+    (ranged-vector f number (m .address) (isMC (m .type)) (m .vector) (p .0 .vector)) e in
+    reads-as (regroup (wordOf table1 s) (bodyOf before m) (macroblocksOf (after m) ms) (ending last))
+    (reads-next (macroblocksAfter (macroblocksFrom turns f last number) f number before)
+    (reads-mba (before .address) s ((bodyOf before m ++ v) ++ rest) (omega (arith, p .0 .later)) (omega (arith, p .0 .later, p .0 .within)) last)
+    (reads-next _ (reads-body f number before m (p .0) r (v ++ rest)) (reads-end _ more refl)))
+
+-- each has a bit at least
+pub more-bits : (f : Format) (number : ℕ) (before : Before) (ms : List Macroblock) → ProperMacroblocks f number (before .address) ms
+    → length ms ≤ length (macroblocksOf before ms)
+unfolding macroblocksOf macroblockOf
+more-bits f number before [] p = lit≤ tt
+more-bits f number before (m ∷ ms) p =
+    let s = m .address - before .address in
+    let w = wordOf table1 s in
+    let h = length-table1 s (omega (arith, p .0 .later)) (omega (arith, p .0 .later, p .0 .within)) in
+    let g = more-bits f number (after m) ms (p .1) in
+    omega (arith, length-append (w ++ bodyOf before m) (macroblocksOf (after m) ms), length-append w (bodyOf before m))
