@@ -1,3 +1,4 @@
 pub mod Blocks
 pub mod Vectors
 pub mod Macroblocks
+pub mod Pictures

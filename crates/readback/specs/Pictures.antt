@@ -1,0 +1,166 @@
+-- A picture is read back from its bits. Assumes nothing.
+use mathlib.Core.Path.{_≡_, refl, sym, ap, _∙_}
+use mathlib.Core.List.{List, [], _∷_, _++_, append-assoc, append-nil}
+use mathlib.Core.Bool.{Bool, true, false}
+use Prim.Native.Nat.{ℕ, zero, suc, _+_, _-_, _*_, _/_, _%_, _^_, _≤_, _<_}
+use native.Mathlib.Omega.{arith}
+use borrow.Author.Tests.{le-ltb, eq-eqb}
+use lib.Dec.{eqb, ltb, lit<, lit≤}
+use lib.ListN.{length, length-append}
+use Rattle.laws.specs.Choice.{pick, both}
+use Rattle.refusals.specs.declared.Reason.{Reason}
+use Rattle.refusals.specs.declared.Reason.the-variants.{NoStartCode, OtherGroup}
+use Rattle.bits.specs.Bits.{Bit, bitsOf, source}
+use Rattle.bits.specs.Read.{got, field, fine, against}
+use Rattle.bits.specs.ReadBack.{Reads, reads-done, reads-next, reads-end, reads-as, reads-judged, reads-loop, reads-field}
+use Rattle.format.specs.Format.{limit, formatBit, groupNumbers}
+use Rattle.format.specs.declared.Format.{Format}
+use Rattle.format.specs.declared.Format.the-variants.{Qcif, Cif}
+use Rattle.description.specs.Vector.{atStart}
+use Rattle.description.specs.Value.{Macroblock, Group, Picture}
+use Rattle.description.specs.Proper.{Each, Quantiser, ProperGroup, ProperGroups, Proper}
+use Rattle.reader.specs.Grammar.{expect, spares, sparesFrom, sparesAfter, macroblocksFrom, groupHead, group, none, groupsRead, ptypeOf, Header, header, picture, reading}
+use Rattle.writer.specs.Write.{macroblocksOf, groupOf, groupsOf, pictureOf}
+use Rattle.readback.specs.Vectors.{ranged-zero}
+use Rattle.readback.specs.Macroblocks.{reads-quantiser, ending, Ending, reads-macroblocks, more-bits}
+
+-- ---- fields
+reads-expected : (k v : ℕ) (reason : Reason) (rest : List Bit) → v < 2 ^ k → Reads (expect k v reason) (bitsOf k v) rest v
+reads-expected k v reason rest l =
+    reads-judged (λ x. pick (eqb x v) (fine x) (against reason)) v (reads-field k v rest l) (rw (eq-eqb v v refl))
+
+-- PEI or GEI 0
+reads-spares : (rest : List Bit) → Reads spares (bitsOf 1 0) rest 0
+unfolding spares sparesFrom
+reads-spares rest =
+    reads-loop sparesFrom (λ n l. reads-end (sparesAfter (sparesFrom n)) (reads-field 1 0 rest (lit< tt)) refl)
+
+-- ---- groups
+-- GN, GQUANT, GEI
+abbrev headOf : ℕ → ℕ → List Bit
+headOf number q = bitsOf 4 number ++ (bitsOf 5 q ++ bitsOf 1 0)
+
+reads-head : (number q : ℕ) (rest : List Bit) → number < 16 → Quantiser q → Reads (groupHead number) (headOf number q) rest q
+unfolding groupHead
+reads-head number q rest l h =
+    reads-next _ (reads-expected 4 number OtherGroup _ l) (reads-next _ (reads-quantiser q _ h) (reads-end _ (reads-spares rest) refl))
+
+reads-group : (f : Format) (last : Bool) (number : ℕ) (g : Group) (rest : List Bit) → number < 16 → ProperGroup f number g → Ending last rest
+    → Reads (group f last number) (headOf number (g .gquant) ++ (macroblocksOf atStart (g .macroblocks) ++ ending last)) rest g
+unfolding group
+reads-group f last number g rest l p e =
+    let ms = g .macroblocks in
+    let w = macroblocksOf atStart ms in
+    reads-next _ (reads-head number (g .gquant) ((w ++ ending last) ++ rest) l (p .gquant))
+    (reads-end _
+    (reads-loop (λ turns. macroblocksFrom turns f last number atStart)
+    (λ n h. reads-macroblocks ms (suc n) f last number atStart rest (omega (arith, more-bits f number atStart ms (p .macroblocks), length-append w (ending last))) (p .macroblocks) ranged-zero e))
+    refl)
+
+-- the groups without the first start code: a group is read with the one that ends it
+abbrev unstarted : List ℕ → List Group → List Bit
+unstarted [] gs = []
+unstarted (number ∷ numbers) [] = []
+unstarted (number ∷ numbers) (g ∷ gs) =
+    (headOf number (g .gquant) ++ (macroblocksOf atStart (g .macroblocks) ++ ending (none numbers))) ++ unstarted numbers gs
+
+regroup : (s a b c m e u : List Bit) → s ++ (((a ++ (b ++ c)) ++ (m ++ e)) ++ u) ≡ (s ++ (a ++ (b ++ (c ++ m)))) ++ (e ++ u)
+regroup s a b c m e u = simp append-assoc
+
+-- what follows the start code of one
+started : (f : Format) (numbers : List ℕ) (gs : List Group) → ProperGroups f numbers gs → ending (none numbers) ++ unstarted numbers gs ≡ groupsOf numbers gs
+unfolding groupsOf groupOf
+started f [] [] p = refl
+started f [] (g ∷ gs) p = absurd p
+started f (number ∷ numbers) [] p = absurd p
+started f (number ∷ numbers) (g ∷ gs) p =
+    regroup (bitsOf 16 1) (bitsOf 4 number) (bitsOf 5 (g .gquant)) (bitsOf 1 0) (macroblocksOf atStart (g .macroblocks)) (ending (none numbers)) (unstarted numbers gs)
+    ∙ ap (λ (w : List Bit). groupOf number g ++ w) (started f numbers gs (p .1))
+
+ends : (numbers : List ℕ) (gs : List Group) → Ending (none numbers) (unstarted numbers gs ++ [])
+ends [] gs = refl
+ends (number ∷ numbers) gs = tt
+
+reads-groups : (f : Format) (numbers : List ℕ) (gs : List Group) → Each (λ number. number < 16) numbers → ProperGroups f numbers gs
+    → Reads (groupsRead f numbers) (unstarted numbers gs) [] gs
+unfolding groupsRead
+reads-groups f [] [] l p = reads-done [] []
+reads-groups f [] (g ∷ gs) l p = absurd p
+reads-groups f (number ∷ numbers) [] l p = absurd p
+reads-groups f (number ∷ numbers) (g ∷ gs) l p =
+    reads-next _ (reads-group f (none numbers) number g (unstarted numbers gs ++ []) (l .0) (p .0) (ends numbers gs))
+    (reads-end _ (reads-groups f numbers gs (l .1) (p .1)) refl)
+
+-- ---- the picture
+ptype-field : (f : Format) (t : ℕ) → t < 8 → t * 8 + formatBit f * 4 + 0b11 < 64
+ptype-field Qcif t l = omega arith
+ptype-field Cif t l = omega arith
+
+ptype-fine : (f : Format) (t : ℕ) → ptypeOf f (t * 8 + formatBit f * 4 + 0b11) ≡ fine t
+ptype-fine Qcif t =
+    let a : (t * 8 + 0 * 4 + 3) / 4 % 2 ≡ 0 = omega arith in
+    let b : (t * 8 + 0 * 4 + 3) / 2 % 2 ≡ 1 = omega arith in
+    let c : (t * 8 + 0 * 4 + 3) / 8 ≡ t = omega arith in
+    rw (a, b, c)
+ptype-fine Cif t =
+    let a : (t * 8 + 1 * 4 + 3) / 4 % 2 ≡ 1 = omega arith in
+    let b : (t * 8 + 1 * 4 + 3) / 2 % 2 ≡ 1 = omega arith in
+    let c : (t * 8 + 1 * 4 + 3) / 8 ≡ t = omega arith in
+    rw (a, b, c)
+
+-- PSC, TR, PTYPE, PEI, the first GBSC
+abbrev headerOf : Format → Picture → List Bit
+headerOf f p =
+    bitsOf 20 0b00000000000000010000
+    ++ (bitsOf 5 (p .tr) ++ (bitsOf 6 (p .ptype * 8 + formatBit f * 4 + 0b11) ++ (bitsOf 1 0 ++ bitsOf 16 0b0000000000000001)))
+
+reads-header : (f : Format) (p : Picture) (rest : List Bit) → p .tr < 32 → p .ptype < 8
+    → Reads (header f) (headerOf f p) rest (record { tr = p .tr; ptype = p .ptype })
+unfolding header
+reads-header f p rest l h =
+    reads-next _ (reads-expected 20 0b00000000000000010000 NoStartCode _ (lit< tt))
+    (reads-next _ (reads-field 5 (p .tr) _ l)
+    (reads-next _ (reads-judged (ptypeOf f) (p .ptype) (reads-field 6 (p .ptype * 8 + formatBit f * 4 + 0b11) _ (ptype-field f (p .ptype) h)) (ptype-fine f (p .ptype)))
+    (reads-next _ (reads-spares _)
+    (reads-end _ (reads-expected 16 0b0000000000000001 NoStartCode rest (lit< tt)) refl))))
+
+numbers-small : (f : Format) → Each (λ number. number < 16) (groupNumbers f)
+numbers-small Qcif = (lit< tt, (lit< tt, (lit< tt, tt)))
+numbers-small Cif =
+    (lit< tt, (lit< tt, (lit< tt, (lit< tt, (lit< tt, (lit< tt, (lit< tt, (lit< tt, (lit< tt, (lit< tt, (lit< tt, (lit< tt, tt))))))))))))
+
+-- the first start code is there
+some-groups : (f : Format) → none (groupNumbers f) ≡ false
+some-groups Qcif = refl
+some-groups Cif = refl
+
+regroup-header : (a b c d s u : List Bit) → (a ++ (b ++ (c ++ (d ++ s)))) ++ u ≡ a ++ (b ++ (c ++ (d ++ (s ++ u))))
+regroup-header a b c d s u = simp append-assoc
+
+pub reads-picture : (f : Format) (p : Picture) → Proper f p → Reads (picture f) (pictureOf f p) [] p
+unfolding picture pictureOf
+reads-picture f p h =
+    let gs = p .groups in
+    let start : bitsOf 16 1 ++ unstarted (groupNumbers f) gs ≡ groupsOf (groupNumbers f) gs =
+    ap (λ (b : Bool). ending b ++ unstarted (groupNumbers f) gs) (sym (some-groups f)) ∙ started f (groupNumbers f) gs (h .groups) in
+    let ptype = p .ptype * 8 + formatBit f * 4 + 0b11 in
+    reads-as
+    (regroup-header (bitsOf 20 16) (bitsOf 5 (p .tr)) (bitsOf 6 ptype) (bitsOf 1 0) (bitsOf 16 1) (unstarted (groupNumbers f) gs)
+    ∙ ap (λ (w : List Bit). bitsOf 20 16 ++ (bitsOf 5 (p .tr) ++ (bitsOf 6 ptype ++ (bitsOf 1 0 ++ w)))) start)
+    (reads-next _ (reads-header f p (unstarted (groupNumbers f) gs ++ []) (h .tr) (h .ptype))
+    (reads-end _ (reads-groups f (groupNumbers f) gs (numbers-small f) (h .groups)) refl))
+
+-- ---- the picture in bytes
+-- the first bits of the bytes s are w
+pub record Holds (s : List ℕ) (w : List Bit) : Type 0 where
+  pub room : length w ≤ 8 * length s
+  pub bits : source s (length w) ≡ w
+
+pub read-back : (f : Format) (p : Picture) (s : List ℕ) → Proper f p → length (pictureOf f p) ≤ limit f → Holds s (pictureOf f p)
+    → reading f s (length (pictureOf f p)) ≡ got p [] (length (pictureOf f p))
+unfolding reading
+read-back f p s h l held =
+    let w = pictureOf f p in
+    let r : picture f (w ++ []) 0 ≡ got p [] (0 + length w) = reads-picture f p h .back 0 in
+    let z : 0 + length w ≡ length w = omega arith in
+    rw (le-ltb (8 * length s) (length w) (held .room), le-ltb (limit f) (length w) l, held .bits) (rw (append-nil w, z) at r)
