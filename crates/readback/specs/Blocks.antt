@@ -6,23 +6,33 @@ use Prim.Native.Nat.{ℕ, zero, suc, _+_, _-_, _*_, _/_, _%_, _^_, _≤_, _<_}
 use native.Mathlib.Nat.{pow-succ', one-le-pow, mul-assoc, div-eq-of-lt, add-mul-div-right}
 use native.Mathlib.Omega.{arith}
 use borrow.Author.Tests.{lt-leb}
-use lib.Dec.{lit<}
+use lib.Dec.{T, leb, leb→le, lit<}
 use lib.ListN.{length, length-append}
-use Rattle.laws.specs.Choice.{pick}
+use Rattle.laws.specs.Choice.{pick, opposite, both-left, both-right}
 use Rattle.bits.specs.Bits.{Bit, O, I, bitOf, bitsOf}
 use Rattle.refusals.specs.declared.Reason.the-variants.{Forbidden}
 use Rattle.bits.specs.Read.{Reader, fine, against}
 use Rattle.bits.specs.Code.{Entry, word, wordOf}
 use Rattle.bits.specs.ReadBack.{Reads, reads-done, reads-next, reads-end, reads-judged, reads-loop, reads-field}
 use Rattle.words.specs.Tables.{table4, pairs, firstTable5, laterTable5, endOfBlock}
-use Rattle.words.specs.Words.{Coefficient, coefficient, sent, over, forbidden, coefficientRead, tcoeffOf}
+use Rattle.words.specs.Words.{isIntra, hasCBP, Coefficient, coefficient, sent, over, forbidden, coefficientRead, tcoeffOf}
 use Rattle.words.specs.WordsBack.{reads-table4, reads-first, reads-later, reads-over, length-coefficient}
 use Rattle.description.specs.Value.{Block}
-use Rattle.description.specs.Proper.{ProperCode, ProperBlock, Each, BeginsWithDC, Empty, Coded, SentBlocks}
-use Rattle.reader.specs.Grammar.{optional, fits, coefficientsAfter, coefficients, dcRead, intraBlock, interBlock, blocksRead}
+use Rattle.description.specs.Proper.{If, Each, isCode, Fits, Begins, allEmpty, ProperBlocks}
+use Rattle.reader.specs.Grammar.{optional, fits, coefficientsAfter, coefficients, dcRead, intraBlock, interBlock, blocksRead, patternRead}
 use Rattle.writer.specs.Write.{given, coefficientsOf, blockOf, blocksOf, present, patternOf}
 
 -- ---- one block
+code-small : (code : ℕ) → T (isCode code) → code < 256
+code-small code t = let l = leb→le code 255 (both-left (leb code 255) (opposite (forbidden code)) t) in omega arith
+
+code-allowed : (code : ℕ) → T (isCode code) → forbidden code ≡ false
+code-allowed code t = go (forbidden code) (both-right (leb code 255) (opposite (forbidden code)) t)
+  where
+    go : (b : Bool) → T (opposite b) → b ≡ false
+    go true t = absurd t
+    go false t = refl
+
 -- each coefficient has a bit at least, and EOB has two
 more-bits : (cs : Block) → length cs < length (coefficientsOf cs)
 unfolding coefficientsOf wordOf laterTable5 pairs
@@ -41,7 +51,7 @@ one-more table w c cs turns room rest h l g =
     (reads-judged (fits room) (sent c) h (rw (lt-leb room (c .run) l)))
     (reads-end _ g refl)
 
-reads-coefficients : (cs : Block) (turns room : ℕ) (rest : List Bit) → length cs < turns → room ≤ 64 → ProperBlock room cs
+reads-coefficients : (cs : Block) (turns room : ℕ) (rest : List Bit) → length cs < turns → room ≤ 64 → Fits room cs
     → Reads (coefficients turns room laterTable5) (coefficientsOf cs) rest cs
 unfolding coefficients coefficientsOf
 reads-coefficients cs zero room rest l r p = absurd (omega arith)
@@ -49,21 +59,21 @@ reads-coefficients [] (suc turns) room rest l r p =
     reads-end (coefficientsAfter (λ left. coefficients turns left laterTable5) room) (reads-judged (fits room) over (reads-over rest) refl) refl
 reads-coefficients (c ∷ cs) (suc turns) room rest l r p =
     one-more laterTable5 (tcoeffOf laterTable5 c) c cs turns room rest
-    (reads-later c (coefficientsOf cs ++ rest) (omega (arith, p .1)) (p .0 .small) (p .0 .allowed)) (p .1)
+    (reads-later c (coefficientsOf cs ++ rest) (omega (arith, p .0)) (code-small (c .code) (p .1)) (code-allowed (c .code) (p .1))) (p .0)
     (reads-coefficients cs turns (room - suc (c .run)) rest (omega arith) (omega arith) (p .2))
 
-reads-inter : (c : Coefficient) (cs : Block) (rest : List Bit) → ProperBlock 64 (c ∷ cs) → Reads interBlock (blockOf false (c ∷ cs)) rest (c ∷ cs)
+reads-inter : (c : Coefficient) (cs : Block) (rest : List Bit) → Fits 64 (c ∷ cs) → Reads interBlock (blockOf false (c ∷ cs)) rest (c ∷ cs)
 unfolding interBlock
 reads-inter c cs rest p =
     let w = tcoeffOf firstTable5 c in
     reads-loop (λ turns. coefficients turns 64 firstTable5) (λ n l.
-    one-more firstTable5 w c cs n 64 rest (reads-first c (coefficientsOf cs ++ rest) (p .1) (p .0 .small) (p .0 .allowed)) (p .1)
+    one-more firstTable5 w c cs n 64 rest (reads-first c (coefficientsOf cs ++ rest) (p .0) (code-small (c .code) (p .1)) (code-allowed (c .code) (p .1))) (p .0)
     (reads-coefficients cs n (64 - suc (c .run)) rest (omega (arith, length-append w (coefficientsOf cs), more-bits cs)) (omega arith) (p .2)))
 
-reads-dc : (code : ℕ) (rest : List Bit) → ProperCode code → Reads dcRead (bitsOf 8 code) rest code
-reads-dc code rest p = reads-judged (λ x. pick (forbidden x) (against Forbidden) (fine x)) code (reads-field 8 code rest (p .small)) (rw (p .allowed))
+reads-dc : (code : ℕ) (rest : List Bit) → T (isCode code) → Reads dcRead (bitsOf 8 code) rest code
+reads-dc code rest p = reads-judged (λ x. pick (forbidden x) (against Forbidden) (fine x)) code (reads-field 8 code rest (code-small code p)) (rw (code-allowed code p))
 
-reads-from-dc : (code : ℕ) (cs : Block) (rest : List Bit) → ProperCode code → ProperBlock 63 cs
+reads-from-dc : (code : ℕ) (cs : Block) (rest : List Bit) → T (isCode code) → Fits 63 cs
     → Reads intraBlock (bitsOf 8 code ++ coefficientsOf cs) rest (coefficient 0 code ∷ cs)
 unfolding intraBlock
 reads-from-dc code cs rest p q =
@@ -72,11 +82,11 @@ reads-from-dc code cs rest p q =
     (reads-loop (λ turns. coefficients turns 63 laterTable5)
     (λ n l. reads-coefficients cs (suc n) 63 rest (omega (arith, more-bits cs)) (omega arith) q)) refl)
 
-reads-intra : (c : Coefficient) (cs : Block) (rest : List Bit) → ProperBlock 64 (c ∷ cs) → c .run ≡ 0 → Reads intraBlock (blockOf true (c ∷ cs)) rest (c ∷ cs)
+reads-intra : (c : Coefficient) (cs : Block) (rest : List Bit) → Fits 64 (c ∷ cs) → c .run ≡ 0 → Reads intraBlock (blockOf true (c ∷ cs)) rest (c ∷ cs)
 reads-intra c cs rest p e =
-    let q : ProperBlock 63 cs = rw e at (p .2) in
+    let q : Fits 63 cs = rw e at (p .2) in
     let same : coefficient 0 (c .code) ≡ c = ap (λ (r : ℕ). coefficient r (c .code)) (sym e) in
-    rw same at (reads-from-dc (c .code) cs rest (p .0) q)
+    rw same at (reads-from-dc (c .code) cs rest (p .1) q)
 
 -- ---- the blocks that are sent
 abbrev marks : List Block → List Bit
@@ -85,10 +95,10 @@ marks (b ∷ bs) = bitOf (present b) ∷ marks bs
 
 -- as the type says: INTRA blocks all begin with a DC code
 abbrev Starting : Bool → List Block → Type 0
-Starting true bs = Each BeginsWithDC bs
+Starting true bs = Each Begins bs
 Starting false bs = Unit {0}
 
-reads-marked : (intra : Bool) (bs : List Block) (rest : List Bit) → Each (ProperBlock 64) bs → Starting intra bs
+reads-marked : (intra : Bool) (bs : List Block) (rest : List Bit) → Each (Fits 64) bs → Starting intra bs
     → Reads (blocksRead intra (marks bs)) (blocksOf intra bs) rest bs
 unfolding blocksRead blocksOf
 reads-marked intra [] rest p s = reads-done [] rest
@@ -117,13 +127,13 @@ unfolding patternOf
 pattern-less [] = lit< tt
 pattern-less (b ∷ bs) = less-case (present b) (patternOf bs) (length bs) (present-bit b) (pattern-less bs)
 
-pattern-some : (bs : List Block) → Coded bs → 0 < patternOf bs
+pattern-some : (bs : List Block) → T (opposite (allEmpty bs)) → 0 < patternOf bs
 unfolding patternOf
 pattern-some [] h = absurd h
 pattern-some ([] ∷ bs) h = omega (arith, pattern-some bs h)
 pattern-some ((c ∷ cs) ∷ bs) h = omega (arith, pattern-less bs)
 
-pattern-full : (bs : List Block) → Each BeginsWithDC bs → suc (patternOf bs) ≡ 2 ^ length bs
+pattern-full : (bs : List Block) → Each Begins bs → suc (patternOf bs) ≡ 2 ^ length bs
 unfolding patternOf
 pattern-full [] h = refl
 pattern-full ([] ∷ bs) h = absurd (h .0)
@@ -132,11 +142,11 @@ pattern-full ((c ∷ cs) ∷ bs) h = full-case (patternOf bs) (length bs) (patte
     full-case : (q n : ℕ) → suc q ≡ 2 ^ n → suc (1 * 2 ^ n + q) ≡ 2 ^ suc n
     full-case q n e = omega arith
 
-pattern-none : (bs : List Block) → Each Empty bs → patternOf bs ≡ 0
+pattern-none : (bs : List Block) → T (allEmpty bs) → patternOf bs ≡ 0
 unfolding patternOf
 pattern-none [] h = refl
-pattern-none ([] ∷ bs) h = omega (arith, pattern-none bs (h .1))
-pattern-none ((c ∷ cs) ∷ bs) h = absurd (h .0)
+pattern-none ([] ∷ bs) h = omega (arith, pattern-none bs h)
+pattern-none ((c ∷ cs) ∷ bs) h = absurd h
 
 -- its bits
 higher : (m k x : ℕ) → m * 2 ^ suc k + x ≡ x + m * 2 * 2 ^ k
@@ -162,30 +172,32 @@ marks-bits (b ∷ bs) =
     rw (e, add-mul-div-right q p (pow-pos n), div-eq-of-lt (pattern-less bs), h, lower-bits n p q, marks-bits bs)
 
 -- ---- both, as a macroblock of six blocks has them
-module _ (intra cbp : Bool) (bs : List Block) (rest : List Bit) (six : length bs ≡ 6) (s : SentBlocks intra cbp bs) where
-  starting : Starting intra bs
-  starting = go intra cbp s
+abbrev Coded : Bool → Bool → List Block → Type 0
+Coded intra cbp bs = If intra (Each Begins bs) (If cbp (T (opposite (allEmpty bs))) (T (allEmpty bs)))
+
+module _ (type : ℕ) (bs : List Block) (rest : List Bit) (p : ProperBlocks type bs) where
+  starting : Starting (isIntra type) bs
+  starting = go (isIntra type) (hasCBP type) (p .coded)
     where
-      go : (i c : Bool) → SentBlocks i c bs → Starting i bs
+      go : (i c : Bool) → Coded i c bs → Starting i bs
       go true c h = h
-      go false true h = tt
-      go false false h = tt
+      go false c h = tt
 
-  pub reads-blocks : Each (ProperBlock 64) bs → Reads (blocksRead intra (bitsOf 6 (patternOf bs))) (blocksOf intra bs) rest bs
-  reads-blocks p =
-      let e : bitsOf 6 (patternOf bs) ≡ marks bs = ap (λ (n : ℕ). bitsOf n (patternOf bs)) (sym six) ∙ marks-bits bs in
-      rw e (reads-marked intra bs rest p starting)
+  pub reads-blocks : Reads (blocksRead (isIntra type) (bitsOf 6 (patternOf bs))) (blocksOf (isIntra type) bs) rest bs
+  reads-blocks =
+      let e : bitsOf 6 (patternOf bs) ≡ marks bs = ap (λ (n : ℕ). bitsOf n (patternOf bs)) (sym (p .six)) ∙ marks-bits bs in
+      rw e (reads-marked (isIntra type) bs rest (p .fitting) starting)
 
-  pub reads-pattern : Reads (optional cbp (pick intra 63 0) (word table4)) (given cbp (wordOf table4 (patternOf bs))) rest (patternOf bs)
-  reads-pattern = go intra cbp s
+  pub reads-pattern : Reads (patternRead type) (given (hasCBP type) (wordOf table4 (patternOf bs))) rest (patternOf bs)
+  reads-pattern = go (isIntra type) (hasCBP type) (p .coded)
     where
       most : patternOf bs ≤ 63
-      most = let e : 2 ^ length bs ≡ 64 = ap (λ (n : ℕ). 2 ^ n) six in omega (arith, pattern-less bs)
+      most = let e : 2 ^ length bs ≡ 64 = ap (λ (n : ℕ). 2 ^ n) (p .six) in omega (arith, pattern-less bs)
 
-      full : Each BeginsWithDC bs → patternOf bs ≡ 63
-      full h = let e : 2 ^ length bs ≡ 64 = ap (λ (n : ℕ). 2 ^ n) six in omega (arith, pattern-full bs h)
+      full : Each Begins bs → patternOf bs ≡ 63
+      full h = let e : 2 ^ length bs ≡ 64 = ap (λ (n : ℕ). 2 ^ n) (p .six) in omega (arith, pattern-full bs h)
 
-      go : (i c : Bool) → SentBlocks i c bs → Reads (optional c (pick i 63 0) (word table4)) (given c (wordOf table4 (patternOf bs))) rest (patternOf bs)
+      go : (i c : Bool) → Coded i c bs → Reads (optional c (pick i 63 0) (word table4)) (given c (wordOf table4 (patternOf bs))) rest (patternOf bs)
       go true true h = reads-table4 (patternOf bs) rest (omega (arith, full h)) most
       go true false h = rw (full h) (reads-done 63 rest)
       go false true h = reads-table4 (patternOf bs) rest (pattern-some bs h) most

@@ -5,9 +5,9 @@ use mathlib.Core.Bool.{Bool, true, false}
 use Prim.Native.Nat.{ℕ, zero, suc, _+_, _-_, _≤_, _<_}
 use native.Mathlib.Omega.{arith}
 use borrow.Author.Tests.{le-ltb, ne-eqb}
-use lib.Dec.{eqb, lit<, lit≤}
+use lib.Dec.{T, eqb, leb, leb→le, lit<, lit≤}
 use lib.ListN.{length, length-append}
-use Rattle.laws.specs.Choice.{pick}
+use Rattle.laws.specs.Choice.{pick, both-left, both-right}
 use Rattle.refusals.specs.declared.Reason.the-variants.{QuantiserZero}
 use Rattle.bits.specs.Bits.{Bit, bitsOf}
 use Rattle.bits.specs.Read.{Reader, done, field, fine, against, judged, orEnd}
@@ -19,19 +19,21 @@ use Rattle.words.specs.WordsBack.{reads-table1, length-table1, reads-table2}
 use Rattle.format.specs.declared.Format.{Format}
 use Rattle.description.specs.Vector.{Vector, zeroVector, Before, atStart, preceding}
 use Rattle.description.specs.Value.{Macroblock, after}
-use Rattle.description.specs.Proper.{Quantiser, ProperMquant, ProperVector, ProperMacroblock, ProperMacroblocks}
+use Rattle.description.specs.Valid.{isQuantiser}
+use Rattle.description.specs.Proper.{If, ProperMacroblock, Rising}
 use Rattle.reader.specs.Grammar.{quantiser, optional, macroblock, Mba, step, stuffed, ended, mbaOf, mba, macroblocksAfter, macroblocksFrom}
 use Rattle.writer.specs.Write.{given, vectorOf, patternOf, blocksOf, macroblockOf, macroblocksOf}
 use Rattle.readback.specs.Blocks.{reads-blocks, reads-pattern}
-use Rattle.readback.specs.Vectors.{Ranged, ranged-zero, ranged-vector, reads-vector}
+use Rattle.readback.specs.Vectors.{Pointed, Ranged, ranged-zero, ranged-vector, reads-vector}
 
 -- ---- one macroblock
-pub reads-quantiser : (q : ℕ) (rest : List Bit) → Quantiser q → Reads quantiser (bitsOf 5 q) rest q
+pub reads-quantiser : (q : ℕ) (rest : List Bit) → T (isQuantiser q) → Reads quantiser (bitsOf 5 q) rest q
 reads-quantiser q rest h =
-    reads-judged (λ q. pick (eqb q 0) (against QuantiserZero) (fine q)) q (reads-field 5 q rest (omega (arith, h .most)))
-    (rw (ne-eqb q 0 (λ e. omega (arith, h .least))))
+    let least = leb→le 1 q (both-left (leb 1 q) (leb q 31) h) in
+    let most = leb→le q 31 (both-right (leb 1 q) (leb q 31) h) in
+    reads-judged (λ q. pick (eqb q 0) (against QuantiserZero) (fine q)) q (reads-field 5 q rest (omega arith)) (rw (ne-eqb q 0 (λ e. omega arith)))
 
-reads-mquant : (has : Bool) (q : ℕ) (rest : List Bit) → ProperMquant has q → Reads (optional has 0 quantiser) (given has (bitsOf 5 q)) rest q
+reads-mquant : (has : Bool) (q : ℕ) (rest : List Bit) → If has (T (isQuantiser q)) (q ≡ 0) → Reads (optional has 0 quantiser) (given has (bitsOf 5 q)) rest q
 reads-mquant true q rest h = reads-quantiser q rest h
 reads-mquant false q rest h = rw h (reads-done 0 rest)
 
@@ -44,13 +46,13 @@ bodyOf before m =
     ++ (given (hasCBP (m .type)) (wordOf table4 (patternOf (m .blocks)))
     ++ blocksOf (isIntra (m .type)) (m .blocks))))
 
-module _ (f : Format) (number : ℕ) (before : Before) (m : Macroblock) (p : ProperMacroblock f number (before .address) m) (r : Ranged (before .vector)) where
+module _ (f : Format) (number : ℕ) (before : Before) (m : Macroblock) (l : before .address < m .address) (p : ProperMacroblock f number m) (r : Ranged (before .vector)) where
   -- MBA's step
   abbrev stepTo : ℕ
   stepTo = m .address - before .address
 
   steps : before .address + stepTo ≡ m .address
-  steps = omega (arith, p .later)
+  steps = omega arith
 
   same : (a : ℕ) → a ≡ m .address
       → _≡_ {A = Macroblock} (record { address = a; type = m .type; mquant = m .mquant; vector = m .vector; blocks = m .blocks }) m
@@ -59,12 +61,14 @@ module _ (f : Format) (number : ℕ) (before : Before) (m : Macroblock) (p : Pro
   reads-body : (rest : List Bit) → Reads (macroblock f number before stepTo) (bodyOf before m) rest m
   unfolding macroblock
   reads-body rest =
-      let points : ProperVector f number (before .address + stepTo) (isMC (m .type)) (m .vector) = rw steps (p .vector) in
-      reads-next _ (reads-table2 (m .type) _ (p .typed) (p .known))
-      (reads-next _ (reads-mquant (hasMQUANT (m .type)) (m .mquant) _ (p .mquant))
+      let points : Pointed f number (before .address + stepTo) (isMC (m .type)) (m .vector) = rw steps (p .pointed) in
+      let least = leb→le 1 (m .type) (both-left (leb 1 (m .type)) (leb (m .type) 10) (p .typed)) in
+      let most = leb→le (m .type) 10 (both-right (leb 1 (m .type)) (leb (m .type) 10) (p .typed)) in
+      reads-next _ (reads-table2 (m .type) _ least most)
+      (reads-next _ (reads-mquant (hasMQUANT (m .type)) (m .mquant) _ (p .quantised))
       (reads-next _ (reads-vector f number (before .address + stepTo) (isMC (m .type)) before stepTo (m .vector) _ r points)
-      (reads-next _ (reads-pattern (isIntra (m .type)) (hasCBP (m .type)) (m .blocks) _ (p .six) (p .sent))
-      (reads-end _ (reads-blocks (isIntra (m .type)) (hasCBP (m .type)) (m .blocks) rest (p .six) (p .sent) (p .fit)) (ap done (same _ steps))))))
+      (reads-next _ (reads-pattern (m .type) (m .blocks) _ (p .blocked))
+      (reads-end _ (reads-blocks (m .type) (m .blocks) rest (p .blocked)) (ap done (same _ steps))))))
 
 -- ---- what stands at an MBA place
 not-ended : {A : Type 0} (a : A) (r : Reader A) (bs : List Bit) (at : ℕ) → 1 ≤ length bs → orEnd a r bs at ≡ r bs at
@@ -110,7 +114,7 @@ regroup : (a b c d : List Bit) → a ++ (b ++ (c ++ d)) ≡ ((a ++ b) ++ c) ++ d
 regroup a b c d = simp append-assoc
 
 pub reads-macroblocks : (ms : List Macroblock) (turns : ℕ) (f : Format) (last : Bool) (number : ℕ) (before : Before) (rest : List Bit) → length ms < turns
-    → ProperMacroblocks f number (before .address) ms → Ranged (before .vector) → Ending last rest
+    → Rising f number (before .address) ms → Ranged (before .vector) → Ending last rest
     → Reads (macroblocksFrom turns f last number before) (macroblocksOf before ms ++ ending last) rest ms
 unfolding macroblocksFrom macroblocksOf macroblockOf
 reads-macroblocks ms zero f last number before rest l p r e = absurd (omega arith)
@@ -119,21 +123,21 @@ reads-macroblocks [] (suc turns) f last number before rest l p r e =
 reads-macroblocks (m ∷ ms) (suc turns) f last number before rest l p r e =
     let s = m .address - before .address in
     let v = macroblocksOf (after m) ms ++ ending last in
-    let more = reads-macroblocks ms turns f last number (after m) rest (omega arith) (p .1)
-    (ranged-vector f number (m .address) (isMC (m .type)) (m .vector) (p .0 .vector)) e in
+    let more = reads-macroblocks ms turns f last number (after m) rest (omega arith) (p .3)
+    (ranged-vector f number (m .address) (isMC (m .type)) (m .vector) (p .2 .pointed)) e in
     reads-as (regroup (wordOf table1 s) (bodyOf before m) (macroblocksOf (after m) ms) (ending last))
     (reads-next (macroblocksAfter (macroblocksFrom turns f last number) f number before)
-    (reads-mba (before .address) s ((bodyOf before m ++ v) ++ rest) (omega (arith, p .0 .later)) (omega (arith, p .0 .later, p .0 .within)) last)
-    (reads-next _ (reads-body f number before m (p .0) r (v ++ rest)) (reads-end _ more refl)))
+    (reads-mba (before .address) s ((bodyOf before m ++ v) ++ rest) (omega (arith, p .0)) (omega (arith, p .0, p .1)) last)
+    (reads-next _ (reads-body f number before m (p .0) (p .2) r (v ++ rest)) (reads-end _ more refl)))
 
 -- each has a bit at least
-pub more-bits : (f : Format) (number : ℕ) (before : Before) (ms : List Macroblock) → ProperMacroblocks f number (before .address) ms
+pub more-bits : (f : Format) (number : ℕ) (before : Before) (ms : List Macroblock) → Rising f number (before .address) ms
     → length ms ≤ length (macroblocksOf before ms)
 unfolding macroblocksOf macroblockOf
 more-bits f number before [] p = lit≤ tt
 more-bits f number before (m ∷ ms) p =
     let s = m .address - before .address in
     let w = wordOf table1 s in
-    let h = length-table1 s (omega (arith, p .0 .later)) (omega (arith, p .0 .later, p .0 .within)) in
-    let g = more-bits f number (after m) ms (p .1) in
+    let h = length-table1 s (omega (arith, p .0)) (omega (arith, p .0, p .1)) in
+    let g = more-bits f number (after m) ms (p .3) in
     omega (arith, length-append (w ++ bodyOf before m) (macroblocksOf (after m) ms), length-append w (bodyOf before m))

@@ -5,7 +5,7 @@ use mathlib.Core.Bool.{Bool, true, false}
 use Prim.Native.Nat.{ℕ, zero, suc, _+_, _-_, _*_, _/_, _%_, _^_, _≤_, _<_}
 use native.Mathlib.Omega.{arith}
 use borrow.Author.Tests.{le-ltb, eq-eqb}
-use lib.Dec.{eqb, ltb, lit<, lit≤}
+use lib.Dec.{T, eqb, ltb, lit<, lit≤}
 use lib.ListN.{length, length-append}
 use Rattle.laws.specs.Choice.{pick, both}
 use Rattle.refusals.specs.declared.Reason.{Reason}
@@ -18,7 +18,8 @@ use Rattle.format.specs.declared.Format.{Format}
 use Rattle.format.specs.declared.Format.the-variants.{Qcif, Cif}
 use Rattle.description.specs.Vector.{atStart}
 use Rattle.description.specs.Value.{Macroblock, Group, Picture}
-use Rattle.description.specs.Proper.{Each, Quantiser, ProperGroup, ProperGroups, Proper}
+use Rattle.description.specs.Valid.{isQuantiser}
+use Rattle.description.specs.Proper.{Each, Rising, ProperGroups, Proper}
 use Rattle.reader.specs.Grammar.{expect, spares, sparesFrom, sparesAfter, macroblocksFrom, groupHead, group, none, groupsRead, ptypeOf, Header, header, picture, reading}
 use Rattle.writer.specs.Write.{macroblocksOf, groupOf, groupsOf, pictureOf}
 use Rattle.readback.specs.Vectors.{ranged-zero}
@@ -40,21 +41,21 @@ reads-spares rest =
 abbrev headOf : ℕ → ℕ → List Bit
 headOf number q = bitsOf 4 number ++ (bitsOf 5 q ++ bitsOf 1 0)
 
-reads-head : (number q : ℕ) (rest : List Bit) → number < 16 → Quantiser q → Reads (groupHead number) (headOf number q) rest q
+reads-head : (number q : ℕ) (rest : List Bit) → number < 16 → T (isQuantiser q) → Reads (groupHead number) (headOf number q) rest q
 unfolding groupHead
 reads-head number q rest l h =
     reads-next _ (reads-expected 4 number OtherGroup _ l) (reads-next _ (reads-quantiser q _ h) (reads-end _ (reads-spares rest) refl))
 
-reads-group : (f : Format) (last : Bool) (number : ℕ) (g : Group) (rest : List Bit) → number < 16 → ProperGroup f number g → Ending last rest
+reads-group : (f : Format) (last : Bool) (number : ℕ) (g : Group) (rest : List Bit) → number < 16 → T (isQuantiser (g .gquant)) → Rising f number 0 (g .macroblocks) → Ending last rest
     → Reads (group f last number) (headOf number (g .gquant) ++ (macroblocksOf atStart (g .macroblocks) ++ ending last)) rest g
 unfolding group
-reads-group f last number g rest l p e =
+reads-group f last number g rest l q p e =
     let ms = g .macroblocks in
     let w = macroblocksOf atStart ms in
-    reads-next _ (reads-head number (g .gquant) ((w ++ ending last) ++ rest) l (p .gquant))
+    reads-next _ (reads-head number (g .gquant) ((w ++ ending last) ++ rest) l q)
     (reads-end _
     (reads-loop (λ turns. macroblocksFrom turns f last number atStart)
-    (λ n h. reads-macroblocks ms (suc n) f last number atStart rest (omega (arith, more-bits f number atStart ms (p .macroblocks), length-append w (ending last))) (p .macroblocks) ranged-zero e))
+    (λ n h. reads-macroblocks ms (suc n) f last number atStart rest (omega (arith, more-bits f number atStart ms p, length-append w (ending last))) p ranged-zero e))
     refl)
 
 -- the groups without the first start code: a group is read with the one that ends it
@@ -75,7 +76,7 @@ started f [] (g ∷ gs) p = absurd p
 started f (number ∷ numbers) [] p = absurd p
 started f (number ∷ numbers) (g ∷ gs) p =
     regroup (bitsOf 16 1) (bitsOf 4 number) (bitsOf 5 (g .gquant)) (bitsOf 1 0) (macroblocksOf atStart (g .macroblocks)) (ending (none numbers)) (unstarted numbers gs)
-    ∙ ap (λ (w : List Bit). groupOf number g ++ w) (started f numbers gs (p .1))
+    ∙ ap (λ (w : List Bit). groupOf number g ++ w) (started f numbers gs (p .2))
 
 ends : (numbers : List ℕ) (gs : List Group) → Ending (none numbers) (unstarted numbers gs ++ [])
 ends [] gs = refl
@@ -88,8 +89,8 @@ reads-groups f [] [] l p = reads-done [] []
 reads-groups f [] (g ∷ gs) l p = absurd p
 reads-groups f (number ∷ numbers) [] l p = absurd p
 reads-groups f (number ∷ numbers) (g ∷ gs) l p =
-    reads-next _ (reads-group f (none numbers) number g (unstarted numbers gs ++ []) (l .0) (p .0) (ends numbers gs))
-    (reads-end _ (reads-groups f numbers gs (l .1) (p .1)) refl)
+    reads-next _ (reads-group f (none numbers) number g (unstarted numbers gs ++ []) (l .0) (p .0) (p .1) (ends numbers gs))
+    (reads-end _ (reads-groups f numbers gs (l .1) (p .2)) refl)
 
 -- ---- the picture
 ptype-field : (f : Format) (t : ℕ) → t < 8 → t * 8 + formatBit f * 4 + 0b11 < 64
@@ -142,13 +143,13 @@ unfolding picture pictureOf
 reads-picture f p h =
     let gs = p .groups in
     let start : bitsOf 16 1 ++ unstarted (groupNumbers f) gs ≡ groupsOf (groupNumbers f) gs =
-    ap (λ (b : Bool). ending b ++ unstarted (groupNumbers f) gs) (sym (some-groups f)) ∙ started f (groupNumbers f) gs (h .groups) in
+    ap (λ (b : Bool). ending b ++ unstarted (groupNumbers f) gs) (sym (some-groups f)) ∙ started f (groupNumbers f) gs (h .grouped) in
     let ptype = p .ptype * 8 + formatBit f * 4 + 0b11 in
     reads-as
     (regroup-header (bitsOf 20 16) (bitsOf 5 (p .tr)) (bitsOf 6 ptype) (bitsOf 1 0) (bitsOf 16 1) (unstarted (groupNumbers f) gs)
     ∙ ap (λ (w : List Bit). bitsOf 20 16 ++ (bitsOf 5 (p .tr) ++ (bitsOf 6 ptype ++ (bitsOf 1 0 ++ w)))) start)
-    (reads-next _ (reads-header f p (unstarted (groupNumbers f) gs ++ []) (h .tr) (h .ptype))
-    (reads-end _ (reads-groups f (groupNumbers f) gs (numbers-small f) (h .groups)) refl))
+    (reads-next _ (reads-header f p (unstarted (groupNumbers f) gs ++ []) (omega (arith, h .reference)) (omega (arith, h .typed)))
+    (reads-end _ (reads-groups f (groupNumbers f) gs (numbers-small f) (h .grouped)) refl))
 
 -- ---- the picture in bytes
 -- the first bits of the bytes s are w

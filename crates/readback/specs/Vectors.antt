@@ -15,7 +15,7 @@ use Rattle.bits.specs.ReadBack.{Reads, reads-done, reads-next, reads-end, reads
 use Rattle.words.specs.WordsBack.{reads-table3}
 use Rattle.format.specs.declared.Format.{Format}
 use Rattle.description.specs.Vector.{Vector, zeroVector, inRange, inPicture, Before, preceding}
-use Rattle.description.specs.Proper.{Pointing, ProperVector}
+use Rattle.description.specs.Proper.{If, ProperVector}
 use Rattle.reader.specs.Vector.{pairOf, component, componentRead, componentsRead, pointing, vectorRead}
 use Rattle.reader.specs.Grammar.{optional}
 use Rattle.writer.specs.Write.{given, componentOf, vectorOf}
@@ -72,23 +72,26 @@ ranged-preceding before step r =
     go true = ranged-zero
     go false = r
 
-pub ranged-vector : (f : Format) (number address : ℕ) (mc : Bool) (v : Vector) → ProperVector f number address mc v → Ranged v
-ranged-vector f number address true v h = record { across = h .across; down = h .down }
+-- as a macroblock has it: zero where the type isn't MC
+abbrev pub Pointed : Format → ℕ → ℕ → Bool → Vector → Type 0
+Pointed f number address mc v = If mc (ProperVector f number address v) (v ≡ zeroVector)
+
+pub ranged-vector : (f : Format) (number address : ℕ) (mc : Bool) (v : Vector) → Pointed f number address mc v → Ranged v
+ranged-vector f number address true v h = record { across = h .horizontally; down = h .vertically }
 ranged-vector f number address false v h = rw h ranged-zero
 
-reads-pointing : (f : Format) (number address : ℕ) (before v : Vector) (rest : List Bit) → Ranged before → Pointing f number address v
+reads-pointing : (f : Format) (number address : ℕ) (before v : Vector) (rest : List Bit) → Ranged before → ProperVector f number address v
     → Reads (vectorRead f number address before) (vectorOf before v) rest v
 unfolding vectorRead componentsRead
 reads-pointing f number address before v rest r h =
     reads-judged (pointing f number address) v
     (reads-next _
-    (reads-component (before .horizontal) (v .horizontal) (componentOf (before .vertical) (v .vertical) ++ rest) (r .across) (h .across))
-    (reads-end _ (reads-component (before .vertical) (v .vertical) rest (r .down) (h .down)) refl))
+    (reads-component (before .horizontal) (v .horizontal) (componentOf (before .vertical) (v .vertical) ++ rest) (r .across) (h .horizontally))
+    (reads-end _ (reads-component (before .vertical) (v .vertical) rest (r .down) (h .vertically)) refl))
     (rw (T-true (inPicture f number address v) (h .inside)))
 
--- as a macroblock has it
 pub reads-vector : (f : Format) (number address : ℕ) (mc : Bool) (before : Before) (step : ℕ) (v : Vector) (rest : List Bit) → Ranged (before .vector)
-    → ProperVector f number address mc v
+    → Pointed f number address mc v
     → Reads (optional mc zeroVector (vectorRead f number address (preceding before step))) (given mc (vectorOf (preceding before step) v)) rest v
 reads-vector f number address true before step v rest r h = reads-pointing f number address (preceding before step) v rest (ranged-preceding before step r) h
 reads-vector f number address false before step v rest r h = rw h (reads-done zeroVector rest)
