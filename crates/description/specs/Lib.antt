@@ -3,4 +3,4 @@ pub mod Value
 pub mod Flat
 pub mod Valid
 pub mod Proper
-pub mod Described
+pub mod Pictured
