@@ -4,3 +4,4 @@ pub mod Flat
 pub mod Valid
 pub mod Proper
 pub mod Pictured
+pub mod Spread

@@ -3,5 +3,6 @@ pub mod Integer
 pub mod Sum
 pub mod Operation
 pub mod Table
+pub mod Zeros
 pub mod Block
 pub mod Linear

@@ -1,2 +1,4 @@
 pub mod Vector
 pub mod Grammar
+pub mod Layers
+pub mod Verdict
