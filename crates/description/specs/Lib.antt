@@ -3,5 +3,6 @@ pub mod Value
 pub mod Flat
 pub mod Valid
 pub mod Proper
-pub mod Pictured
 pub mod Spread
+pub mod Pictured
+pub mod Relaid

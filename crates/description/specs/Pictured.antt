@@ -167,7 +167,7 @@ quantised : (has : Bool) (q : ℕ) → T (pick has (isQuantiser q) (isZero q)) �
 quantised true q t = t
 quantised false q t = eqb→eq q 0 t
 
-abbrev vectorOf : ℕ → ℕ → Vector
+abbrev pub vectorOf : ℕ → ℕ → Vector
 vectorOf c d = record { horizontal = numberOf c; vertical = numberOf d }
 
 pointed : (mc : Bool) (f : Format) (number address a b c d : ℕ)
@@ -185,7 +185,7 @@ pointed false f number address a b c d t =
     (λ i. vectorOf (eqb→eq c 0 (both-left (isZero c) (isZero d) t) i) (eqb→eq d 0 (both-right (isZero c) (isZero d) t) i))
 
 -- the macroblock that fields and levels describe
-abbrev macroblockIn : ℕ → ℕ → ℕ → ℕ → ℕ → List ℕ → Macroblock
+abbrev pub macroblockIn : ℕ → ℕ → ℕ → ℕ → ℕ → List ℕ → Macroblock
 macroblockIn address a b c d ls = record { address = address; type = a; mquant = b; vector = vectorOf c d; blocks = gathers 6 ls }
 
 pub record ValidParts (f : Format) (number address a b c d : ℕ) (ls : List ℕ) : Type 0 where
@@ -194,7 +194,7 @@ pub record ValidParts (f : Format) (number address a b c d : ℕ) (ls : List ℕ
   pub vector : T (pick (isMC a) (validVector f number address (a ∷ b ∷ c ∷ d ∷ [])) (both (isZero c) (isZero d)))
   pub levels : T (validLevels a ls)
 
-valid-parts : (f : Format) (number address a b c d : ℕ) (ls : List ℕ) → T (validMacroblock f number address (a ∷ b ∷ c ∷ d ∷ []) ls)
+pub valid-parts : (f : Format) (number address a b c d : ℕ) (ls : List ℕ) → T (validMacroblock f number address (a ∷ b ∷ c ∷ d ∷ []) ls)
     → ValidParts f number address a b c d ls
 unfolding validMacroblock
 valid-parts f number address a b c d ls t =

@@ -50,10 +50,10 @@ put-block before rest room at (c ∷ cs) h e =
     let left : ℕ = room - suc (c .run) in
     let head : List ℕ = before ++ (zeros (c .run) ++ (c .code ∷ [])) in
     let size : length head ≡ at + suc (c .run) =
-        omega (arith, length-append before (zeros (c .run) ++ (c .code ∷ [])), length-append (zeros (c .run)) (c .code ∷ []), length-zeros (c .run)) in
+    omega (arith, length-append before (zeros (c .run) ++ (c .code ∷ [])), length-append (zeros (c .run)) (c .code ∷ []), length-zeros (c .run)) in
     ap (λ (l : List ℕ). putBlock l (at + suc (c .run)) cs)
-      (zeros-set before (c .run) left rest (c .code) (at + c .run) room (ap (λ (n : ℕ). n + c .run) e) (omega (arith, h .0))
-      ∙ joined before (c .run) (c .code) (zeros left ++ rest))
+    (zeros-set before (c .run) left rest (c .code) (at + c .run) room (ap (λ (n : ℕ). n + c .run) e) (omega (arith, h .0))
+    ∙ joined before (c .run) (c .code) (zeros left ++ rest))
     ∙ put-block head rest left (at + suc (c .run)) cs (h .2) size
     ∙ sym (joined before (c .run) (c .code) (spread left cs ++ rest))
     ∙ ap (λ (l : List ℕ). before ++ l) (sym (append-assoc (zeros (c .run)) (c .code ∷ spread left cs) rest))
@@ -117,8 +117,15 @@ module _ (w : ℕ) (store : List ℕ → ℕ → Macroblock → List ℕ) (row :
   unfolding rows
   length-rows last [] h = length-zeros ((33 - last) * w)
   length-rows last (m ∷ ms) h =
-      omega (arith, length-append (zeros ((m .address - suc last) * w)) (row m ++ rows w row (m .address) ms), length-append (row m) (rows w row (m .address) ms),
-        length-zeros ((m .address - suc last) * w), law .sized f number m (h .2), length-rows (m .address) ms (h .3), entries-split last (m .address) w (h .0) (h .1))
+      omega (
+        arith,
+        length-append (zeros ((m .address - suc last) * w)) (row m ++ rows w row (m .address) ms),
+        length-append (row m) (rows w row (m .address) ms),
+        length-zeros ((m .address - suc last) * w),
+        law .sized f number m (h .2),
+        length-rows (m .address) ms (h .3),
+        entries-split last (m .address) w (h .0) (h .1),
+      )
 
   pub stores-rows : (g last : ℕ) (ms : List Macroblock) → Rising f number last ms → (before rest : List ℕ) → length before ≡ (g * 33 + last) * w
       → stores w store g (before ++ (zeros ((33 - last) * w) ++ rest)) ms ≡ before ++ (rows w row last ms ++ rest)
@@ -128,16 +135,16 @@ module _ (w : ℕ) (store : List ℕ → ℕ → Macroblock → List ℕ) (row :
       let skipped : ℕ = (m .address - suc last) * w in
       let past : ℕ = (33 - m .address) * w in
       let at : length (before ++ zeros skipped) ≡ index g (m .address) * w =
-          omega (arith, length-append before (zeros skipped), length-zeros skipped, entry-start g last (m .address) w (h .0)) in
+      omega (arith, length-append before (zeros skipped), length-zeros skipped, entry-start g last (m .address) w (h .0)) in
       let end : length (before ++ zeros skipped ++ row m) ≡ (g * 33 + m .address) * w =
-          omega (arith, length-append (before ++ zeros skipped) (row m), law .sized f number m (h .2), at, entry-end g (m .address) w (omega (arith, h .0))) in
+      omega (arith, length-append (before ++ zeros skipped) (row m), law .sized f number m (h .2), at, entry-end g (m .address) w (omega (arith, h .0))) in
       ap (λ (l : List ℕ). stores w store g (store l (index g (m .address) * w) m) ms)
-        (ap (λ (l : List ℕ). before ++ l) (zeros-split skipped (w + past) ((33 - last) * w) rest (entries-split last (m .address) w (h .0) (h .1)))
-        ∙ sym (append-assoc before (zeros skipped) (zeros (w + past) ++ rest))
-        ∙ ap (λ (l : List ℕ). before ++ zeros skipped ++ l) (zeros-split w past (w + past) rest refl))
+      (ap (λ (l : List ℕ). before ++ l) (zeros-split skipped (w + past) ((33 - last) * w) rest (entries-split last (m .address) w (h .0) (h .1)))
+      ∙ sym (append-assoc before (zeros skipped) (zeros (w + past) ++ rest))
+      ∙ ap (λ (l : List ℕ). before ++ zeros skipped ++ l) (zeros-split w past (w + past) rest refl))
       ∙ ap (λ (l : List ℕ). stores w store g l ms)
-        (law .written f number m (h .2) (before ++ zeros skipped) (zeros past ++ rest) (index g (m .address) * w) at
-        ∙ sym (append-assoc (before ++ zeros skipped) (row m) (zeros past ++ rest)))
+      (law .written f number m (h .2) (before ++ zeros skipped) (zeros past ++ rest) (index g (m .address) * w) at
+      ∙ sym (append-assoc (before ++ zeros skipped) (row m) (zeros past ++ rest)))
       ∙ stores-rows g (m .address) ms (h .3) (before ++ zeros skipped ++ row m) rest end
       ∙ simp append-assoc
 
@@ -163,8 +170,8 @@ levels-written =
     record {
       sized = λ f number m h. length-levels (m .type) (m .blocks) (h .blocked);
       written = λ f number m h before rest at e.
-        ap (λ (n : ℕ). putBlocks (before ++ (zeros n ++ rest)) at (m .blocks)) (sym (ap (λ (n : ℕ). n * 64) (h .blocked .six)))
-        ∙ put-blocks before rest at (m .blocks) (h .blocked .fitting) e;
+          ap (λ (n : ℕ). putBlocks (before ++ (zeros n ++ rest)) at (m .blocks)) (sym (ap (λ (n : ℕ). n * 64) (h .blocked .six)))
+          ∙ put-blocks before rest at (m .blocks) (h .blocked .fitting) e;
     }
 
 put-macroblocks : (g : ℕ) (flat : Flat) (ms : List Macroblock)
@@ -216,10 +223,10 @@ put-groups f g (number ∷ numbers) (x ∷ xs) p h m l eh em el =
     let sm : length (m ++ rm) ≡ (g + 1) * 132 = omega (arith, length-append m rm, length-rows 4 storeFields fieldsOf fields-written f number 0 ms (p .1)) in
     let sl : length (l ++ rl) ≡ (g + 1) * 12672 = omega (arith, length-append l rl, length-rows 384 storeLevels levelsOf levels-written f number 0 ms (p .1)) in
     ap (λ (d : Flat). putGroups (g + 1) d xs)
-      (put-macroblocks g _ ms
-      ∙ flats (set-at h 0 (zeros n) (x .gquant) (3 + g) eh ∙ sym (append-snoc h (x .gquant) (zeros n)))
-        (column 4 132 storeFields fieldsOf fields-written refl f number g n ms (p .1) m em)
-        (column 384 12672 storeLevels levelsOf levels-written refl f number g n ms (p .1) l el))
+    (put-macroblocks g _ ms
+    ∙ flats (set-at h 0 (zeros n) (x .gquant) (3 + g) eh ∙ sym (append-snoc h (x .gquant) (zeros n)))
+    (column 4 132 storeFields fieldsOf fields-written refl f number g n ms (p .1) m em)
+    (column 384 12672 storeLevels levelsOf levels-written refl f number g n ms (p .1) l el))
     ∙ put-groups f (g + 1) numbers xs (p .2) (h ++ (x .gquant ∷ [])) (m ++ rm) (l ++ rl) sh sm sl
     ∙ flats (append-snoc h (x .gquant) (gquants xs)) (append-assoc m rm (columns 4 fieldsOf xs)) (append-assoc l rl (columns 384 levelsOf xs))
 
@@ -240,7 +247,7 @@ unfolding laid
 laid-spread f p h =
     let n : groupCount f ≡ length (p .groups) = sym (groups-length f (groupNumbers f) (p .groups) (h .grouped) ∙ as-many f) in
     ap (λ (d : Flat). putGroups 0 d (p .groups))
-      (flats (ap (λ (l : List ℕ). p .tr ∷ p .ptype ∷ formatBit f ∷ l) (zeros-replicate (groupCount f) ∙ ap zeros n))
-      (zeros-replicate (groupCount f * 132) ∙ ap (λ (k : ℕ). zeros (k * 132)) n)
-      (zeros-replicate (groupCount f * 12672) ∙ ap (λ (k : ℕ). zeros (k * 12672)) n))
+    (flats (ap (λ (l : List ℕ). p .tr ∷ p .ptype ∷ formatBit f ∷ l) (zeros-replicate (groupCount f) ∙ ap zeros n))
+    (zeros-replicate (groupCount f * 132) ∙ ap (λ (k : ℕ). zeros (k * 132)) n)
+    (zeros-replicate (groupCount f * 12672) ∙ ap (λ (k : ℕ). zeros (k * 12672)) n))
     ∙ put-groups f 0 (groupNumbers f) (p .groups) (h .grouped) (p .tr ∷ p .ptype ∷ formatBit f ∷ []) [] [] refl refl refl

@@ -1,4 +1,4 @@
--- A picture is read back from its bits. Assumes nothing.
+-- A picture is read back from its bits, and so is a valid description: document 01, "reading back takes exactly N bits". Assumes nothing.
 use mathlib.Core.Path.{_≡_, refl, sym, ap, _∙_}
 use mathlib.Core.List.{List, [], _∷_, _++_, append-assoc, append-nil}
 use mathlib.Core.Bool.{Bool, true, false}
@@ -18,8 +18,11 @@ use Rattle.format.specs.declared.Format.{Format}
 use Rattle.format.specs.declared.Format.the-variants.{Qcif, Cif}
 use Rattle.description.specs.Vector.{atStart}
 use Rattle.description.specs.Value.{Macroblock, Group, Picture}
-use Rattle.description.specs.Valid.{isQuantiser}
+use Rattle.description.specs.Flat.{Flat, laid, pictureIn}
+use Rattle.description.specs.Valid.{isQuantiser, valid}
 use Rattle.description.specs.Proper.{Each, Rising, ProperGroups, Proper}
+use Rattle.description.specs.Pictured.{picture-proper}
+use Rattle.description.specs.Relaid.{laid-back}
 use Rattle.reader.specs.Grammar.{expect, spares, sparesFrom, sparesAfter, macroblocksFrom, groupHead, group, none, groupsRead, ptypeOf, Header, header, picture, reading}
 use Rattle.writer.specs.Write.{macroblocksOf, groupOf, groupsOf, pictureOf}
 use Rattle.readback.specs.Vectors.{ranged-zero}
@@ -165,3 +168,16 @@ read-back f p s h l held =
     let r : picture f (w ++ []) 0 ≡ got p [] (0 + length w) = reads-picture f p h .back 0 in
     let z : 0 + length w ≡ length w = omega arith in
     rw (le-ltb (8 * length s) (length w) (held .room), le-ltb (limit f) (length w) l, held .bits) (rw (append-nil w, z) at r)
+
+-- ---- a description
+-- the bits of a description
+abbrev pub written : Format → Flat → List Bit
+written f d = pictureOf f (pictureIn d)
+
+pub record ReadBack (f : Format) (d : Flat) (s : List ℕ) : Type 0 where
+  pub read : reading f s (length (written f d)) ≡ got (pictureIn d) [] (length (written f d))
+  pub laidOut : laid f (pictureIn d) ≡ d
+
+-- "reading back takes exactly N bits": a valid description that is not above the limit is read from any bytes that hold its bits first
+pub reads-back : (f : Format) (d : Flat) (s : List ℕ) → T (valid f d) → length (written f d) ≤ limit f → Holds s (written f d) → ReadBack f d s
+reads-back f d s t l held = record { read = read-back f (pictureIn d) s (picture-proper f d t) l held; laidOut = laid-back f d t }
