@@ -11,38 +11,38 @@ use Rattle.bits.specs.Bits.{Bit, O, I, bitOf, num, bitsOf}
 use Rattle.bits.specs.Read.{Read, got, Reader, next, _>>=_, done, field, fieldFrom, Judged, fine, against, settle, judged, moved, whole, loop}
 
 -- from the bits w, with these after them, r reads a and leaves those
-pub record Reads {A : Type 0} (r : Reader A) (w rest : List Bit) (a : A) : Type 0 where
-  pub back : (at : ℕ) → r (w ++ rest) at ≡ got a rest (at + length w)
+pub record Back {A : Type 0} (r : Reader A) (w rest : List Bit) (a : A) : Type 0 where
+  pub reads : (at : ℕ) → r (w ++ rest) at ≡ got a rest (at + length w)
 
 module _ {A : Type 0} where
-  pub reads-done : (a : A) (rest : List Bit) → Reads (done a) [] rest a
-  reads-done a rest = record { back = λ at. ap (λ (p : ℕ). got a rest p) (sym (add-zero at)) }
+  pub back-done : (a : A) (rest : List Bit) → Back (done a) [] rest a
+  back-done a rest = record { reads = λ at. ap (λ (p : ℕ). got a rest p) (sym (add-zero at)) }
 
-  pub reads-judged : {B : Type 0} {r : Reader A} {w rest : List Bit} {a : A} (rule : A → Judged B) (b : B) → Reads r w rest a → rule a ≡ fine b
-      → Reads (judged r rule) w rest b
-  reads-judged rule b h e = record { back = λ at. rw (h .back at, e) }
+  pub back-judged : {B : Type 0} {r : Reader A} {w rest : List Bit} {a : A} (rule : A → Judged B) (b : B) → Back r w rest a → rule a ≡ fine b
+      → Back (judged r rule) w rest b
+  back-judged rule b h e = record { reads = λ at. rw (h .reads at, e) }
 
-  pub reads-whole : {r : Reader A} {w rest : List Bit} {a : A} → Reads r w rest a → Reads (whole r) w rest a
-  reads-whole h = record { back = λ at. rw (h .back at) }
+  pub back-whole : {r : Reader A} {w rest : List Bit} {a : A} → Back r w rest a → Back (whole r) w rest a
+  back-whole h = record { reads = λ at. rw (h .reads at) }
 
-  pub reads-next : {B : Type 0} {r : Reader A} {w v rest : List Bit} {a : A} {b : B} (k : A → Reader B) → Reads r w (v ++ rest) a → Reads (k a) v rest b
-      → Reads (r >>= k) (w ++ v) rest b
-  reads-next {B} {r} {w} {v} {rest} {a} {b} k h g = record {
-    back =
+  pub back-next : {B : Type 0} {r : Reader A} {w v rest : List Bit} {a : A} {b : B} (k : A → Reader B) → Back r w (v ++ rest) a → Back (k a) v rest b
+      → Back (r >>= k) (w ++ v) rest b
+  back-next {B} {r} {w} {v} {rest} {a} {b} k h g = record {
+    reads =
         λ at.
-        rw (append-assoc w v rest, h .back at)
-        (g .back (at + length w) ∙ ap (λ (p : ℕ). got b rest p) (add-assoc at (length w) (length v) ∙ ap (λ (n : ℕ). at + n) (sym (length-append w v))));
+        rw (append-assoc w v rest, h .reads at)
+        (g .reads (at + length w) ∙ ap (λ (p : ℕ). got b rest p) (add-assoc at (length w) (length v) ∙ ap (λ (n : ℕ). at + n) (sym (length-append w v))));
   }
 
-  pub reads-end : {B : Type 0} {r : Reader A} {w rest : List Bit} {a : A} {b : B} (k : A → Reader B) → Reads r w rest a → k a ≡ done b → Reads (r >>= k) w rest b
-  reads-end k h e = record { back = λ at. rw (h .back at, e) }
+  pub back-end : {B : Type 0} {r : Reader A} {w rest : List Bit} {a : A} {b : B} (k : A → Reader B) → Back r w rest a → k a ≡ done b → Back (r >>= k) w rest b
+  back-end k h e = record { reads = λ at. rw (h .reads at, e) }
 
-  pub reads-as : {r : Reader A} {w v rest : List Bit} {a : A} → w ≡ v → Reads r w rest a → Reads r v rest a
-  reads-as e h = rw e at h
+  pub back-as : {r : Reader A} {w v rest : List Bit} {a : A} → w ≡ v → Back r w rest a → Back r v rest a
+  back-as e h = rw e at h
 
   -- the fuel of a loop is more than the bits are
-  pub reads-loop : {w rest : List Bit} {a : A} (turn : ℕ → Reader A) → ((n : ℕ) → length w ≤ n → Reads (turn (suc n)) w rest a) → Reads (loop turn) w rest a
-  reads-loop {w} {rest} turn h = record { back = λ at. h (length (w ++ rest)) (omega (arith, length-append w rest)) .back at }
+  pub back-loop : {w rest : List Bit} {a : A} (turn : ℕ → Reader A) → ((n : ℕ) → length w ≤ n → Back (turn (suc n)) w rest a) → Back (loop turn) w rest a
+  back-loop {w} {rest} turn h = record { reads = λ at. h (length (w ++ rest)) (omega (arith, length-append w rest)) .reads at }
 
 -- ---- fields
 pub length-bitsOf : (k x : ℕ) → length (bitsOf k x) ≡ k
@@ -68,9 +68,9 @@ field-rest (suc k) at x rest p =
     let e : p + 1 + k ≡ p + suc k = omega arith in
     rw (higher x k) (field-rest k at x rest (p + 1) ∙ ap (λ (q : ℕ). got x rest q) e)
 
-pub reads-field : (k x : ℕ) (rest : List Bit) → x < 2 ^ k → Reads (field k) (bitsOf k x) rest x
-reads-field k x rest l = record {
-  back =
+pub back-field : (k x : ℕ) (rest : List Bit) → x < 2 ^ k → Back (field k) (bitsOf k x) rest x
+back-field k x rest l = record {
+  reads =
       λ at.
       ap (λ (v : ℕ). fieldFrom k at v (bitsOf k x ++ rest) at) (sym (div-eq-of-lt l))
       ∙ field-rest k at x rest at ∙ ap (λ (n : ℕ). got x rest (at + n)) (sym (length-bitsOf k x));

@@ -11,7 +11,7 @@ use Rattle.laws.specs.Choice.{pick, both, either, opposite, both-left, both-rig
 use Rattle.bits.specs.Bits.{Bit, O, I, same}
 use Rattle.bits.specs.Read.{Read, got}
 use Rattle.bits.specs.Code.{Entry, entry, starts, lookup, word, wordOf, has}
-use Rattle.bits.specs.ReadBack.{Reads}
+use Rattle.bits.specs.ReadBack.{Back}
 
 -- neither is a beginning of the other
 abbrev differ : List Bit → List Bit → Bool
@@ -84,9 +84,9 @@ found (entry w m′ ∷ tab) m r at o a h =
     h
 
 -- what stands after a codeword doesn't matter
-pub reads-word : (tab : List Entry) (m : ℕ) (rest : List Bit) → T (free tab) → T (has tab m) → Reads (word tab) (wordOf tab m) rest m
+pub back-word : (tab : List Entry) (m : ℕ) (rest : List Bit) → T (free tab) → T (has tab m) → Back (word tab) (wordOf tab m) rest m
 unfolding word
-reads-word tab m rest a h = record { back = λ at. found tab m rest at _ a h }
+back-word tab m rest a h = record { reads = λ at. found tab m rest at _ a h }
 
 -- a codeword has a bit at least
 filled-case : (e : Bool) (w u : List Bit) (h : Bool) → T (filled w) → (T h → 1 ≤ length u) → T (either e h) → 1 ≤ length (pick e w u)

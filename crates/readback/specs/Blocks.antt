@@ -13,10 +13,10 @@ use Rattle.bits.specs.Bits.{Bit, O, I, bitOf, bitsOf}
 use Rattle.refusals.specs.declared.Reason.the-variants.{Forbidden}
 use Rattle.bits.specs.Read.{Reader, fine, against}
 use Rattle.bits.specs.Code.{Entry, word, wordOf}
-use Rattle.bits.specs.ReadBack.{Reads, reads-done, reads-next, reads-end, reads-judged, reads-loop, reads-field}
+use Rattle.bits.specs.ReadBack.{Back, back-done, back-next, back-end, back-judged, back-loop, back-field}
 use Rattle.words.specs.Tables.{table4, pairs, firstTable5, laterTable5, endOfBlock}
 use Rattle.words.specs.Words.{isIntra, hasCBP, Coefficient, coefficient, sent, over, forbidden, coefficientRead, tcoeffOf}
-use Rattle.words.specs.WordsBack.{reads-table4, reads-first, reads-later, reads-over, length-coefficient}
+use Rattle.words.specs.WordsBack.{back-table4, back-first, back-later, back-over, length-coefficient}
 use Rattle.description.specs.Value.{Block}
 use Rattle.description.specs.Proper.{If, Each, isCode, Fits, Begins, allEmpty, ProperBlocks}
 use Rattle.reader.specs.Grammar.{optional, fits, coefficientsAfter, coefficients, dcRead, intraBlock, interBlock, blocksRead, patternRead}
@@ -41,52 +41,52 @@ more-bits (c ∷ cs) =
     omega (arith, length-append (tcoeffOf laterTable5 c) (coefficientsOf cs), length-coefficient laterTable5 c, more-bits cs)
 
 one-more : (table : List Entry) (w : List Bit) (c : Coefficient) (cs : Block) (turns room : ℕ) (rest : List Bit)
-    → Reads (coefficientRead table) w (coefficientsOf cs ++ rest) (sent c)
+    → Back (coefficientRead table) w (coefficientsOf cs ++ rest) (sent c)
     → c .run < room
-    → Reads (coefficients turns (room - suc (c .run)) laterTable5) (coefficientsOf cs) rest cs
-    → Reads (coefficients (suc turns) room table) (w ++ coefficientsOf cs) rest (c ∷ cs)
+    → Back (coefficients turns (room - suc (c .run)) laterTable5) (coefficientsOf cs) rest cs
+    → Back (coefficients (suc turns) room table) (w ++ coefficientsOf cs) rest (c ∷ cs)
 unfolding coefficients
 one-more table w c cs turns room rest h l g =
-    reads-next (coefficientsAfter (λ left. coefficients turns left laterTable5) room)
-    (reads-judged (fits room) (sent c) h (rw (lt-leb room (c .run) l)))
-    (reads-end _ g refl)
+    back-next (coefficientsAfter (λ left. coefficients turns left laterTable5) room)
+    (back-judged (fits room) (sent c) h (rw (lt-leb room (c .run) l)))
+    (back-end _ g refl)
 
-reads-coefficients : (cs : Block) (turns room : ℕ) (rest : List Bit) → length cs < turns → room ≤ 64 → Fits room cs
-    → Reads (coefficients turns room laterTable5) (coefficientsOf cs) rest cs
+back-coefficients : (cs : Block) (turns room : ℕ) (rest : List Bit) → length cs < turns → room ≤ 64 → Fits room cs
+    → Back (coefficients turns room laterTable5) (coefficientsOf cs) rest cs
 unfolding coefficients coefficientsOf
-reads-coefficients cs zero room rest l r p = absurd (omega arith)
-reads-coefficients [] (suc turns) room rest l r p =
-    reads-end (coefficientsAfter (λ left. coefficients turns left laterTable5) room) (reads-judged (fits room) over (reads-over rest) refl) refl
-reads-coefficients (c ∷ cs) (suc turns) room rest l r p =
+back-coefficients cs zero room rest l r p = absurd (omega arith)
+back-coefficients [] (suc turns) room rest l r p =
+    back-end (coefficientsAfter (λ left. coefficients turns left laterTable5) room) (back-judged (fits room) over (back-over rest) refl) refl
+back-coefficients (c ∷ cs) (suc turns) room rest l r p =
     one-more laterTable5 (tcoeffOf laterTable5 c) c cs turns room rest
-    (reads-later c (coefficientsOf cs ++ rest) (omega (arith, p .0)) (code-small (c .code) (p .1)) (code-allowed (c .code) (p .1))) (p .0)
-    (reads-coefficients cs turns (room - suc (c .run)) rest (omega arith) (omega arith) (p .2))
+    (back-later c (coefficientsOf cs ++ rest) (omega (arith, p .0)) (code-small (c .code) (p .1)) (code-allowed (c .code) (p .1))) (p .0)
+    (back-coefficients cs turns (room - suc (c .run)) rest (omega arith) (omega arith) (p .2))
 
-reads-inter : (c : Coefficient) (cs : Block) (rest : List Bit) → Fits 64 (c ∷ cs) → Reads interBlock (blockOf false (c ∷ cs)) rest (c ∷ cs)
+back-inter : (c : Coefficient) (cs : Block) (rest : List Bit) → Fits 64 (c ∷ cs) → Back interBlock (blockOf false (c ∷ cs)) rest (c ∷ cs)
 unfolding interBlock
-reads-inter c cs rest p =
+back-inter c cs rest p =
     let w = tcoeffOf firstTable5 c in
-    reads-loop (λ turns. coefficients turns 64 firstTable5) (λ n l.
-    one-more firstTable5 w c cs n 64 rest (reads-first c (coefficientsOf cs ++ rest) (p .0) (code-small (c .code) (p .1)) (code-allowed (c .code) (p .1))) (p .0)
-    (reads-coefficients cs n (64 - suc (c .run)) rest (omega (arith, length-append w (coefficientsOf cs), more-bits cs)) (omega arith) (p .2)))
+    back-loop (λ turns. coefficients turns 64 firstTable5) (λ n l.
+    one-more firstTable5 w c cs n 64 rest (back-first c (coefficientsOf cs ++ rest) (p .0) (code-small (c .code) (p .1)) (code-allowed (c .code) (p .1))) (p .0)
+    (back-coefficients cs n (64 - suc (c .run)) rest (omega (arith, length-append w (coefficientsOf cs), more-bits cs)) (omega arith) (p .2)))
 
-reads-dc : (code : ℕ) (rest : List Bit) → T (isCode code) → Reads dcRead (bitsOf 8 code) rest code
-reads-dc code rest p = reads-judged (λ x. pick (forbidden x) (against Forbidden) (fine x)) code (reads-field 8 code rest (code-small code p)) (rw (code-allowed code p))
+back-dc : (code : ℕ) (rest : List Bit) → T (isCode code) → Back dcRead (bitsOf 8 code) rest code
+back-dc code rest p = back-judged (λ x. pick (forbidden x) (against Forbidden) (fine x)) code (back-field 8 code rest (code-small code p)) (rw (code-allowed code p))
 
-reads-from-dc : (code : ℕ) (cs : Block) (rest : List Bit) → T (isCode code) → Fits 63 cs
-    → Reads intraBlock (bitsOf 8 code ++ coefficientsOf cs) rest (coefficient 0 code ∷ cs)
+back-from-dc : (code : ℕ) (cs : Block) (rest : List Bit) → T (isCode code) → Fits 63 cs
+    → Back intraBlock (bitsOf 8 code ++ coefficientsOf cs) rest (coefficient 0 code ∷ cs)
 unfolding intraBlock
-reads-from-dc code cs rest p q =
-    reads-next _ (reads-dc code (coefficientsOf cs ++ rest) p)
-    (reads-end _
-    (reads-loop (λ turns. coefficients turns 63 laterTable5)
-    (λ n l. reads-coefficients cs (suc n) 63 rest (omega (arith, more-bits cs)) (omega arith) q)) refl)
+back-from-dc code cs rest p q =
+    back-next _ (back-dc code (coefficientsOf cs ++ rest) p)
+    (back-end _
+    (back-loop (λ turns. coefficients turns 63 laterTable5)
+    (λ n l. back-coefficients cs (suc n) 63 rest (omega (arith, more-bits cs)) (omega arith) q)) refl)
 
-reads-intra : (c : Coefficient) (cs : Block) (rest : List Bit) → Fits 64 (c ∷ cs) → c .run ≡ 0 → Reads intraBlock (blockOf true (c ∷ cs)) rest (c ∷ cs)
-reads-intra c cs rest p e =
+back-intra : (c : Coefficient) (cs : Block) (rest : List Bit) → Fits 64 (c ∷ cs) → c .run ≡ 0 → Back intraBlock (blockOf true (c ∷ cs)) rest (c ∷ cs)
+back-intra c cs rest p e =
     let q : Fits 63 cs = rw e at (p .2) in
     let same : coefficient 0 (c .code) ≡ c = ap (λ (r : ℕ). coefficient r (c .code)) (sym e) in
-    rw same at (reads-from-dc (c .code) cs rest (p .1) q)
+    rw same at (back-from-dc (c .code) cs rest (p .1) q)
 
 -- ---- the blocks that are sent
 abbrev marks : List Block → List Bit
@@ -98,16 +98,16 @@ abbrev Starting : Bool → List Block → Type 0
 Starting true bs = Each Begins bs
 Starting false bs = Unit {0}
 
-reads-marked : (intra : Bool) (bs : List Block) (rest : List Bit) → Each (Fits 64) bs → Starting intra bs
-    → Reads (blocksRead intra (marks bs)) (blocksOf intra bs) rest bs
+back-marked : (intra : Bool) (bs : List Block) (rest : List Bit) → Each (Fits 64) bs → Starting intra bs
+    → Back (blocksRead intra (marks bs)) (blocksOf intra bs) rest bs
 unfolding blocksRead blocksOf
-reads-marked intra [] rest p s = reads-done [] rest
-reads-marked true ([] ∷ bs) rest p s = absurd (s .0)
-reads-marked false ([] ∷ bs) rest p s = reads-end _ (reads-marked false bs rest (p .1) tt) refl
-reads-marked true ((c ∷ cs) ∷ bs) rest p s =
-    reads-next _ (reads-intra c cs (blocksOf true bs ++ rest) (p .0) (s .0)) (reads-end _ (reads-marked true bs rest (p .1) (s .1)) refl)
-reads-marked false ((c ∷ cs) ∷ bs) rest p s =
-    reads-next _ (reads-inter c cs (blocksOf false bs ++ rest) (p .0)) (reads-end _ (reads-marked false bs rest (p .1) tt) refl)
+back-marked intra [] rest p s = back-done [] rest
+back-marked true ([] ∷ bs) rest p s = absurd (s .0)
+back-marked false ([] ∷ bs) rest p s = back-end _ (back-marked false bs rest (p .1) tt) refl
+back-marked true ((c ∷ cs) ∷ bs) rest p s =
+    back-next _ (back-intra c cs (blocksOf true bs ++ rest) (p .0) (s .0)) (back-end _ (back-marked true bs rest (p .1) (s .1)) refl)
+back-marked false ((c ∷ cs) ∷ bs) rest p s =
+    back-next _ (back-inter c cs (blocksOf false bs ++ rest) (p .0)) (back-end _ (back-marked false bs rest (p .1) tt) refl)
 
 -- ---- the pattern
 pow-pos : (k : ℕ) → 0 < 2 ^ k
@@ -183,13 +183,13 @@ module _ (type : ℕ) (bs : List Block) (rest : List Bit) (p : ProperBlocks type
       go true c h = h
       go false c h = tt
 
-  pub reads-blocks : Reads (blocksRead (isIntra type) (bitsOf 6 (patternOf bs))) (blocksOf (isIntra type) bs) rest bs
-  reads-blocks =
+  pub back-blocks : Back (blocksRead (isIntra type) (bitsOf 6 (patternOf bs))) (blocksOf (isIntra type) bs) rest bs
+  back-blocks =
       let e : bitsOf 6 (patternOf bs) ≡ marks bs = ap (λ (n : ℕ). bitsOf n (patternOf bs)) (sym (p .six)) ∙ marks-bits bs in
-      rw e (reads-marked (isIntra type) bs rest (p .fitting) starting)
+      rw e (back-marked (isIntra type) bs rest (p .fitting) starting)
 
-  pub reads-pattern : Reads (patternRead type) (given (hasCBP type) (wordOf table4 (patternOf bs))) rest (patternOf bs)
-  reads-pattern = go (isIntra type) (hasCBP type) (p .coded)
+  pub back-pattern : Back (patternRead type) (given (hasCBP type) (wordOf table4 (patternOf bs))) rest (patternOf bs)
+  back-pattern = go (isIntra type) (hasCBP type) (p .coded)
     where
       most : patternOf bs ≤ 63
       most = let e : 2 ^ length bs ≡ 64 = ap (λ (n : ℕ). 2 ^ n) (p .six) in omega (arith, pattern-less bs)
@@ -197,8 +197,8 @@ module _ (type : ℕ) (bs : List Block) (rest : List Bit) (p : ProperBlocks type
       full : Each Begins bs → patternOf bs ≡ 63
       full h = let e : 2 ^ length bs ≡ 64 = ap (λ (n : ℕ). 2 ^ n) (p .six) in omega (arith, pattern-full bs h)
 
-      go : (i c : Bool) → Coded i c bs → Reads (optional c (pick i 63 0) (word table4)) (given c (wordOf table4 (patternOf bs))) rest (patternOf bs)
-      go true true h = reads-table4 (patternOf bs) rest (omega (arith, full h)) most
-      go true false h = rw (full h) (reads-done 63 rest)
-      go false true h = reads-table4 (patternOf bs) rest (pattern-some bs h) most
-      go false false h = rw (pattern-none bs h) (reads-done 0 rest)
+      go : (i c : Bool) → Coded i c bs → Back (optional c (pick i 63 0) (word table4)) (given c (wordOf table4 (patternOf bs))) rest (patternOf bs)
+      go true true h = back-table4 (patternOf bs) rest (omega (arith, full h)) most
+      go true false h = rw (full h) (back-done 63 rest)
+      go false true h = back-table4 (patternOf bs) rest (pattern-some bs h) most
+      go false false h = rw (pattern-none bs h) (back-done 0 rest)

@@ -12,7 +12,7 @@ use Rattle.refusals.specs.declared.Reason.{Reason}
 use Rattle.refusals.specs.declared.Reason.the-variants.{NoStartCode, OtherGroup}
 use Rattle.bits.specs.Bits.{Bit, bitsOf, source}
 use Rattle.bits.specs.Read.{got, field, fine, against}
-use Rattle.bits.specs.ReadBack.{Reads, reads-done, reads-next, reads-end, reads-as, reads-judged, reads-loop, reads-field}
+use Rattle.bits.specs.ReadBack.{Back, back-done, back-next, back-end, back-as, back-judged, back-loop, back-field}
 use Rattle.format.specs.Format.{limit, formatBit, groupNumbers}
 use Rattle.format.specs.declared.Format.{Format}
 use Rattle.format.specs.declared.Format.the-variants.{Qcif, Cif}
@@ -26,39 +26,39 @@ use Rattle.description.specs.Relaid.{laid-back}
 use Rattle.reader.specs.Grammar.{expect, spares, sparesFrom, sparesAfter, macroblocksFrom, groupHead, group, none, groupsRead, ptypeOf, Header, header, picture, reading}
 use Rattle.writer.specs.Write.{macroblocksOf, groupOf, groupsOf, pictureOf}
 use Rattle.readback.specs.Vectors.{ranged-zero}
-use Rattle.readback.specs.Macroblocks.{reads-quantiser, ending, Ending, reads-macroblocks, more-bits}
+use Rattle.readback.specs.Macroblocks.{back-quantiser, ending, Ending, back-macroblocks, more-bits}
 
 -- ---- fields
-reads-expected : (k v : ℕ) (reason : Reason) (rest : List Bit) → v < 2 ^ k → Reads (expect k v reason) (bitsOf k v) rest v
-reads-expected k v reason rest l =
-    reads-judged (λ x. pick (eqb x v) (fine x) (against reason)) v (reads-field k v rest l) (rw (eq-eqb v v refl))
+back-expected : (k v : ℕ) (reason : Reason) (rest : List Bit) → v < 2 ^ k → Back (expect k v reason) (bitsOf k v) rest v
+back-expected k v reason rest l =
+    back-judged (λ x. pick (eqb x v) (fine x) (against reason)) v (back-field k v rest l) (rw (eq-eqb v v refl))
 
 -- PEI or GEI 0
-reads-spares : (rest : List Bit) → Reads spares (bitsOf 1 0) rest 0
+back-spares : (rest : List Bit) → Back spares (bitsOf 1 0) rest 0
 unfolding spares sparesFrom
-reads-spares rest =
-    reads-loop sparesFrom (λ n l. reads-end (sparesAfter (sparesFrom n)) (reads-field 1 0 rest (lit< tt)) refl)
+back-spares rest =
+    back-loop sparesFrom (λ n l. back-end (sparesAfter (sparesFrom n)) (back-field 1 0 rest (lit< tt)) refl)
 
 -- ---- groups
 -- GN, GQUANT, GEI
 abbrev headOf : ℕ → ℕ → List Bit
 headOf number q = bitsOf 4 number ++ (bitsOf 5 q ++ bitsOf 1 0)
 
-reads-head : (number q : ℕ) (rest : List Bit) → number < 16 → T (isQuantiser q) → Reads (groupHead number) (headOf number q) rest q
+back-head : (number q : ℕ) (rest : List Bit) → number < 16 → T (isQuantiser q) → Back (groupHead number) (headOf number q) rest q
 unfolding groupHead
-reads-head number q rest l h =
-    reads-next _ (reads-expected 4 number OtherGroup _ l) (reads-next _ (reads-quantiser q _ h) (reads-end _ (reads-spares rest) refl))
+back-head number q rest l h =
+    back-next _ (back-expected 4 number OtherGroup _ l) (back-next _ (back-quantiser q _ h) (back-end _ (back-spares rest) refl))
 
-reads-group : (f : Format) (last : Bool) (number : ℕ) (g : Group) (rest : List Bit) → number < 16 → T (isQuantiser (g .gquant)) → Rising f number 0 (g .macroblocks) → Ending last rest
-    → Reads (group f last number) (headOf number (g .gquant) ++ (macroblocksOf atStart (g .macroblocks) ++ ending last)) rest g
+back-group : (f : Format) (last : Bool) (number : ℕ) (g : Group) (rest : List Bit) → number < 16 → T (isQuantiser (g .gquant)) → Rising f number 0 (g .macroblocks) → Ending last rest
+    → Back (group f last number) (headOf number (g .gquant) ++ (macroblocksOf atStart (g .macroblocks) ++ ending last)) rest g
 unfolding group
-reads-group f last number g rest l q p e =
+back-group f last number g rest l q p e =
     let ms = g .macroblocks in
     let w = macroblocksOf atStart ms in
-    reads-next _ (reads-head number (g .gquant) ((w ++ ending last) ++ rest) l q)
-    (reads-end _
-    (reads-loop (λ turns. macroblocksFrom turns f last number atStart)
-    (λ n h. reads-macroblocks ms (suc n) f last number atStart rest (omega (arith, more-bits f number atStart ms p, length-append w (ending last))) p ranged-zero e))
+    back-next _ (back-head number (g .gquant) ((w ++ ending last) ++ rest) l q)
+    (back-end _
+    (back-loop (λ turns. macroblocksFrom turns f last number atStart)
+    (λ n h. back-macroblocks ms (suc n) f last number atStart rest (omega (arith, more-bits f number atStart ms p, length-append w (ending last))) p ranged-zero e))
     refl)
 
 -- the groups without the first start code: a group is read with the one that ends it
@@ -85,15 +85,15 @@ ends : (numbers : List ℕ) (gs : List Group) → Ending (none numbers) (unstart
 ends [] gs = refl
 ends (number ∷ numbers) gs = tt
 
-reads-groups : (f : Format) (numbers : List ℕ) (gs : List Group) → Each (λ number. number < 16) numbers → ProperGroups f numbers gs
-    → Reads (groupsRead f numbers) (unstarted numbers gs) [] gs
+back-groups : (f : Format) (numbers : List ℕ) (gs : List Group) → Each (λ number. number < 16) numbers → ProperGroups f numbers gs
+    → Back (groupsRead f numbers) (unstarted numbers gs) [] gs
 unfolding groupsRead
-reads-groups f [] [] l p = reads-done [] []
-reads-groups f [] (g ∷ gs) l p = absurd p
-reads-groups f (number ∷ numbers) [] l p = absurd p
-reads-groups f (number ∷ numbers) (g ∷ gs) l p =
-    reads-next _ (reads-group f (none numbers) number g (unstarted numbers gs ++ []) (l .0) (p .0) (p .1) (ends numbers gs))
-    (reads-end _ (reads-groups f numbers gs (l .1) (p .2)) refl)
+back-groups f [] [] l p = back-done [] []
+back-groups f [] (g ∷ gs) l p = absurd p
+back-groups f (number ∷ numbers) [] l p = absurd p
+back-groups f (number ∷ numbers) (g ∷ gs) l p =
+    back-next _ (back-group f (none numbers) number g (unstarted numbers gs ++ []) (l .0) (p .0) (p .1) (ends numbers gs))
+    (back-end _ (back-groups f numbers gs (l .1) (p .2)) refl)
 
 -- ---- the picture
 ptype-field : (f : Format) (t : ℕ) → t < 8 → t * 8 + formatBit f * 4 + 0b11 < 64
@@ -118,15 +118,15 @@ headerOf f p =
     bitsOf 20 0b00000000000000010000
     ++ (bitsOf 5 (p .tr) ++ (bitsOf 6 (p .ptype * 8 + formatBit f * 4 + 0b11) ++ (bitsOf 1 0 ++ bitsOf 16 0b0000000000000001)))
 
-reads-header : (f : Format) (p : Picture) (rest : List Bit) → p .tr < 32 → p .ptype < 8
-    → Reads (header f) (headerOf f p) rest (record { tr = p .tr; ptype = p .ptype })
+back-header : (f : Format) (p : Picture) (rest : List Bit) → p .tr < 32 → p .ptype < 8
+    → Back (header f) (headerOf f p) rest (record { tr = p .tr; ptype = p .ptype })
 unfolding header
-reads-header f p rest l h =
-    reads-next _ (reads-expected 20 0b00000000000000010000 NoStartCode _ (lit< tt))
-    (reads-next _ (reads-field 5 (p .tr) _ l)
-    (reads-next _ (reads-judged (ptypeOf f) (p .ptype) (reads-field 6 (p .ptype * 8 + formatBit f * 4 + 0b11) _ (ptype-field f (p .ptype) h)) (ptype-fine f (p .ptype)))
-    (reads-next _ (reads-spares _)
-    (reads-end _ (reads-expected 16 0b0000000000000001 NoStartCode rest (lit< tt)) refl))))
+back-header f p rest l h =
+    back-next _ (back-expected 20 0b00000000000000010000 NoStartCode _ (lit< tt))
+    (back-next _ (back-field 5 (p .tr) _ l)
+    (back-next _ (back-judged (ptypeOf f) (p .ptype) (back-field 6 (p .ptype * 8 + formatBit f * 4 + 0b11) _ (ptype-field f (p .ptype) h)) (ptype-fine f (p .ptype)))
+    (back-next _ (back-spares _)
+    (back-end _ (back-expected 16 0b0000000000000001 NoStartCode rest (lit< tt)) refl))))
 
 numbers-small : (f : Format) → Each (λ number. number < 16) (groupNumbers f)
 numbers-small Qcif = (lit< tt, (lit< tt, (lit< tt, tt)))
@@ -141,18 +141,18 @@ some-groups Cif = refl
 regroup-header : (a b c d s u : List Bit) → (a ++ (b ++ (c ++ (d ++ s)))) ++ u ≡ a ++ (b ++ (c ++ (d ++ (s ++ u))))
 regroup-header a b c d s u = simp append-assoc
 
-pub reads-picture : (f : Format) (p : Picture) → Proper f p → Reads (picture f) (pictureOf f p) [] p
+pub back-picture : (f : Format) (p : Picture) → Proper f p → Back (picture f) (pictureOf f p) [] p
 unfolding picture pictureOf
-reads-picture f p h =
+back-picture f p h =
     let gs = p .groups in
     let start : bitsOf 16 1 ++ unstarted (groupNumbers f) gs ≡ groupsOf (groupNumbers f) gs =
     ap (λ (b : Bool). ending b ++ unstarted (groupNumbers f) gs) (sym (some-groups f)) ∙ started f (groupNumbers f) gs (h .grouped) in
     let ptype = p .ptype * 8 + formatBit f * 4 + 0b11 in
-    reads-as
+    back-as
     (regroup-header (bitsOf 20 16) (bitsOf 5 (p .tr)) (bitsOf 6 ptype) (bitsOf 1 0) (bitsOf 16 1) (unstarted (groupNumbers f) gs)
     ∙ ap (λ (w : List Bit). bitsOf 20 16 ++ (bitsOf 5 (p .tr) ++ (bitsOf 6 ptype ++ (bitsOf 1 0 ++ w)))) start)
-    (reads-next _ (reads-header f p (unstarted (groupNumbers f) gs ++ []) (omega (arith, h .reference)) (omega (arith, h .typed)))
-    (reads-end _ (reads-groups f (groupNumbers f) gs (numbers-small f) (h .grouped)) refl))
+    (back-next _ (back-header f p (unstarted (groupNumbers f) gs ++ []) (omega (arith, h .reference)) (omega (arith, h .typed)))
+    (back-end _ (back-groups f (groupNumbers f) gs (numbers-small f) (h .grouped)) refl))
 
 -- ---- the picture in bytes
 -- the first bits of the bytes s are w
@@ -165,7 +165,7 @@ pub read-back : (f : Format) (p : Picture) (s : List ℕ) → Proper f p → len
 unfolding reading
 read-back f p s h l held =
     let w = pictureOf f p in
-    let r : picture f (w ++ []) 0 ≡ got p [] (0 + length w) = reads-picture f p h .back 0 in
+    let r : picture f (w ++ []) 0 ≡ got p [] (0 + length w) = back-picture f p h .reads 0 in
     let z : 0 + length w ≡ length w = omega arith in
     rw (le-ltb (8 * length s) (length w) (held .room), le-ltb (limit f) (length w) l, held .bits) (rw (append-nil w, z) at r)
 

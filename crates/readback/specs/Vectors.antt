@@ -11,8 +11,8 @@ use Rattle.laws.specs.Choice.{pick, both, either, opposite, oneOf, both-left, b
 use Rattle.laws.specs.Table.{allB, all-at, eqZ, eqZ-yes}
 use Rattle.bits.specs.Bits.{Bit}
 use Rattle.bits.specs.Read.{Judged, fine, against}
-use Rattle.bits.specs.ReadBack.{Reads, reads-done, reads-next, reads-end, reads-judged}
-use Rattle.words.specs.WordsBack.{reads-table3}
+use Rattle.bits.specs.ReadBack.{Back, back-done, back-next, back-end, back-judged}
+use Rattle.words.specs.WordsBack.{back-table3}
 use Rattle.format.specs.declared.Format.{Format}
 use Rattle.description.specs.Vector.{Vector, zeroVector, inRange, inPicture, Before, preceding}
 use Rattle.description.specs.Proper.{If, ProperVector}
@@ -51,10 +51,10 @@ lands preceding z p h =
     (range-at (λ z. gives (component preceding (pairOf (sentFor preceding z))) z)
     (range-at (λ preceding. allRange (λ z. gives (component preceding (pairOf (sentFor preceding z))) z)) tt preceding p) z h)
 
-reads-component : (preceding z : ℤ) (rest : List Bit) → T (inRange preceding) → T (inRange z) → Reads (componentRead preceding) (componentOf preceding z) rest z
+back-component : (preceding z : ℤ) (rest : List Bit) → T (inRange preceding) → T (inRange z) → Back (componentRead preceding) (componentOf preceding z) rest z
 unfolding componentRead
-reads-component preceding z rest p h =
-    reads-judged (λ n. component preceding (pairOf n)) z (reads-table3 (sentFor preceding z) rest (mod-lt _ (lit< tt))) (lands preceding z p h)
+back-component preceding z rest p h =
+    back-judged (λ n. component preceding (pairOf n)) z (back-table3 (sentFor preceding z) rest (mod-lt _ (lit< tt))) (lands preceding z p h)
 
 -- ---- a vector
 pub record Ranged (v : Vector) : Type 0 where
@@ -80,18 +80,18 @@ pub ranged-vector : (f : Format) (number address : ℕ) (mc : Bool) (v : Vector)
 ranged-vector f number address true v h = record { across = h .horizontally; down = h .vertically }
 ranged-vector f number address false v h = rw h ranged-zero
 
-reads-pointing : (f : Format) (number address : ℕ) (before v : Vector) (rest : List Bit) → Ranged before → ProperVector f number address v
-    → Reads (vectorRead f number address before) (vectorOf before v) rest v
+back-pointing : (f : Format) (number address : ℕ) (before v : Vector) (rest : List Bit) → Ranged before → ProperVector f number address v
+    → Back (vectorRead f number address before) (vectorOf before v) rest v
 unfolding vectorRead componentsRead
-reads-pointing f number address before v rest r h =
-    reads-judged (pointing f number address) v
-    (reads-next _
-    (reads-component (before .horizontal) (v .horizontal) (componentOf (before .vertical) (v .vertical) ++ rest) (r .across) (h .horizontally))
-    (reads-end _ (reads-component (before .vertical) (v .vertical) rest (r .down) (h .vertically)) refl))
+back-pointing f number address before v rest r h =
+    back-judged (pointing f number address) v
+    (back-next _
+    (back-component (before .horizontal) (v .horizontal) (componentOf (before .vertical) (v .vertical) ++ rest) (r .across) (h .horizontally))
+    (back-end _ (back-component (before .vertical) (v .vertical) rest (r .down) (h .vertically)) refl))
     (rw (T-true (inPicture f number address v) (h .inside)))
 
-pub reads-vector : (f : Format) (number address : ℕ) (mc : Bool) (before : Before) (step : ℕ) (v : Vector) (rest : List Bit) → Ranged (before .vector)
+pub back-vector : (f : Format) (number address : ℕ) (mc : Bool) (before : Before) (step : ℕ) (v : Vector) (rest : List Bit) → Ranged (before .vector)
     → Pointed f number address mc v
-    → Reads (optional mc zeroVector (vectorRead f number address (preceding before step))) (given mc (vectorOf (preceding before step) v)) rest v
-reads-vector f number address true before step v rest r h = reads-pointing f number address (preceding before step) v rest (ranged-preceding before step r) h
-reads-vector f number address false before step v rest r h = rw h (reads-done zeroVector rest)
+    → Back (optional mc zeroVector (vectorRead f number address (preceding before step))) (given mc (vectorOf (preceding before step) v)) rest v
+back-vector f number address true before step v rest r h = back-pointing f number address (preceding before step) v rest (ranged-preceding before step r) h
+back-vector f number address false before step v rest r h = rw h (back-done zeroVector rest)

@@ -12,8 +12,8 @@ use Rattle.laws.specs.Table.{allB, all-at}
 use Rattle.bits.specs.Bits.{Bit, bitsOf}
 use Rattle.bits.specs.Read.{Read, Reader, done, field, fine}
 use Rattle.bits.specs.Code.{Entry, word, wordOf, has}
-use Rattle.bits.specs.ReadBack.{Reads, reads-done, reads-next, reads-judged, reads-whole, reads-field, length-bitsOf}
-use Rattle.bits.specs.WordBack.{free, reads-word, length-word}
+use Rattle.bits.specs.ReadBack.{Back, back-done, back-next, back-judged, back-whole, back-field, length-bitsOf}
+use Rattle.bits.specs.WordBack.{free, back-word, length-word}
 use Rattle.words.specs.Tables.{table1, table2, table3, table4, pairs, firstTable5, laterTable5, pair, endOfBlock, escape}
 use Rattle.words.specs.Words.{Coefficient, coefficient, Event, sent, over, signed, escaped, paired, tcoeff, forbidden, allowed, coefficientRead, negative, size, tcoeffOf}
 
@@ -30,35 +30,35 @@ module _ (tab : List Entry) (n m : ℕ) (a : T (free tab)) (all : T (from-one n 
       go zero l h = absurd (omega arith)
       go (suc k) l h = all-at n (λ k. has tab (suc k)) all k (omega arith)
 
-  reads-one : (rest : List Bit) → Reads (word tab) (wordOf tab m) rest m
-  reads-one rest = reads-word tab m rest a has-from-one
+  back-one : (rest : List Bit) → Back (word tab) (wordOf tab m) rest m
+  back-one rest = back-word tab m rest a has-from-one
 
   length-one : 1 ≤ length (wordOf tab m)
   length-one = length-word tab m a has-from-one
 
 -- an MBA's step, stuffing, or a start code
-pub reads-table1 : (m : ℕ) (rest : List Bit) → 0 < m → m ≤ 35 → Reads (word table1) (wordOf table1 m) rest m
+pub back-table1 : (m : ℕ) (rest : List Bit) → 0 < m → m ≤ 35 → Back (word table1) (wordOf table1 m) rest m
 unfolding table1 has
-reads-table1 m rest l h = reads-one table1 35 m tt tt l h rest
+back-table1 m rest l h = back-one table1 35 m tt tt l h rest
 
 pub length-table1 : (m : ℕ) → 0 < m → m ≤ 35 → 1 ≤ length (wordOf table1 m)
 unfolding table1 has
 length-table1 m l h = length-one table1 35 m tt tt l h
 
 -- a macroblock's type
-pub reads-table2 : (m : ℕ) (rest : List Bit) → 0 < m → m ≤ 10 → Reads (word table2) (wordOf table2 m) rest m
+pub back-table2 : (m : ℕ) (rest : List Bit) → 0 < m → m ≤ 10 → Back (word table2) (wordOf table2 m) rest m
 unfolding table2 has
-reads-table2 m rest l h = reads-one table2 10 m tt tt l h rest
+back-table2 m rest l h = back-one table2 10 m tt tt l h rest
 
 -- a vector's difference
-pub reads-table3 : (m : ℕ) (rest : List Bit) → m < 32 → Reads (word table3) (wordOf table3 m) rest m
+pub back-table3 : (m : ℕ) (rest : List Bit) → m < 32 → Back (word table3) (wordOf table3 m) rest m
 unfolding table3 has
-reads-table3 m rest h = reads-word table3 m rest tt (all-at 32 (has table3) tt m h)
+back-table3 m rest h = back-word table3 m rest tt (all-at 32 (has table3) tt m h)
 
 -- a pattern
-pub reads-table4 : (m : ℕ) (rest : List Bit) → 0 < m → m ≤ 63 → Reads (word table4) (wordOf table4 m) rest m
+pub back-table4 : (m : ℕ) (rest : List Bit) → 0 < m → m ≤ 63 → Back (word table4) (wordOf table4 m) rest m
 unfolding table4 has
-reads-table4 m rest l h = reads-one table4 63 m tt tt l h rest
+back-table4 m rest l h = back-one table4 63 m tt tt l h rest
 
 -- ---- Table 5
 not-zero : (code : ℕ) → forbidden code ≡ false → 0 < code
@@ -98,42 +98,42 @@ module _ (run level : ℕ) (least : 0 < level) (most : level < 16) where
   not-escape : eqb (pair run level) escape ≡ false
   not-escape = ne-eqb (pair run level) 512 (λ e. omega arith)
 
-  reads-sign : (s : ℕ) (rest : List Bit) → s < 2 → Reads (onward (pair run level)) (bitsOf 1 s) rest (sent (coefficient run (signed s level)))
-  reads-sign s rest l =
+  back-sign : (s : ℕ) (rest : List Bit) → s < 2 → Back (onward (pair run level)) (bitsOf 1 s) rest (sent (coefficient run (signed s level)))
+  back-sign s rest l =
       let d : (run * 16 + level) / 16 ≡ run = omega arith in
       let m : (run * 16 + level) % 16 ≡ level = omega arith in
-      record { back = λ at. rw (not-end, not-escape, reads-field 1 s rest l .back at, d, m) }
+      record { reads = λ at. rw (not-end, not-escape, back-field 1 s rest l .reads at, d, m) }
 
-reads-escaped : (run code : ℕ) (rest : List Bit) → run < 64 → code < 256 → Reads escaped (bitsOf 6 run ++ bitsOf 8 code) rest (sent (coefficient run code))
-reads-escaped run code rest l h =
-    reads-next _ (reads-field 6 run (bitsOf 8 code ++ rest) l)
-    (record { back = λ at. rw (reads-field 8 code rest h .back at) })
+back-escaped : (run code : ℕ) (rest : List Bit) → run < 64 → code < 256 → Back escaped (bitsOf 6 run ++ bitsOf 8 code) rest (sent (coefficient run code))
+back-escaped run code rest l h =
+    back-next _ (back-field 6 run (bitsOf 8 code ++ rest) l)
+    (record { reads = λ at. rw (back-field 8 code rest h .reads at) })
 
 module _ (table : List Entry) (isFree : T (free table)) (escapes : T (has table escape)) (c : Coefficient) (l : c .run < 64) (h : c .code < 256) (e : forbidden (c .code) ≡ false)
   where
     in-table : Bool
     in-table = both (ltb (size (c .code)) 16) (has table (pair (c .run) (size (c .code))))
 
-    reads-case : (b : Bool) → in-table ≡ b → (rest : List Bit)
-        → Reads (tcoeff table)
+    back-case : (b : Bool) → in-table ≡ b → (rest : List Bit)
+        → Back (tcoeff table)
         (pick b (wordOf table (pair (c .run) (size (c .code))) ++ bitsOf 1 (negative (c .code))) (wordOf table escape ++ (bitsOf 6 (c .run) ++ bitsOf 8 (c .code)))) rest
         (sent c)
     unfolding tcoeff in-table
-    reads-case true t rest =
+    back-case true t rest =
         let both-hold : T in-table = true-T in-table t in
         let small : size (c .code) < 16 = ltb→lt (size (c .code)) 16 (both-left (ltb (size (c .code)) 16) _ both-hold) in
         let some : 0 < size (c .code) = size-some (c .code) h (not-zero (c .code) e) in
-        let s = reads-sign (c .run) (size (c .code)) some small (negative (c .code)) rest (negative-bit (c .code)) in
-        reads-whole
-        (reads-next onward
-        (reads-word table (pair (c .run) (size (c .code))) _ isFree (both-right (ltb (size (c .code)) 16) _ both-hold))
+        let s = back-sign (c .run) (size (c .code)) some small (negative (c .code)) rest (negative-bit (c .code)) in
+        back-whole
+        (back-next onward
+        (back-word table (pair (c .run) (size (c .code))) _ isFree (both-right (ltb (size (c .code)) 16) _ both-hold))
         (rw (signed-size (c .code) h) at s))
-    reads-case false t rest =
-        reads-whole (reads-next onward (reads-word table escape _ isFree escapes) (reads-escaped (c .run) (c .code) rest l h))
+    back-case false t rest =
+        back-whole (back-next onward (back-word table escape _ isFree escapes) (back-escaped (c .run) (c .code) rest l h))
 
-    pub reads-coefficient : (rest : List Bit) → Reads (coefficientRead table) (tcoeffOf table c) rest (sent c)
+    pub back-coefficient : (rest : List Bit) → Back (coefficientRead table) (tcoeffOf table c) rest (sent c)
     unfolding coefficientRead tcoeffOf in-table
-    reads-coefficient rest = reads-judged allowed (sent c) (reads-case in-table refl rest) (rw e)
+    back-coefficient rest = back-judged allowed (sent c) (back-case in-table refl rest) (rw e)
 
 pub length-coefficient : (table : List Entry) (c : Coefficient) → 1 ≤ length (tcoeffOf table c)
 unfolding tcoeffOf
@@ -148,19 +148,19 @@ length-coefficient table c = go (both (ltb (size (c .code)) 16) (has table (pair
         omega (arith, length-append (wordOf table escape) (bitsOf 6 (c .run) ++ bitsOf 8 (c .code)), length-append (bitsOf 6 (c .run)) (bitsOf 8 (c .code)), length-bitsOf 8 (c .code))
 
 -- the first coefficient of a non-INTRA block, and the others
-pub reads-first : (c : Coefficient) (rest : List Bit) → c .run < 64 → c .code < 256 → forbidden (c .code) ≡ false
-    → Reads (coefficientRead firstTable5) (tcoeffOf firstTable5 c) rest (sent c)
+pub back-first : (c : Coefficient) (rest : List Bit) → c .run < 64 → c .code < 256 → forbidden (c .code) ≡ false
+    → Back (coefficientRead firstTable5) (tcoeffOf firstTable5 c) rest (sent c)
 unfolding firstTable5 pairs has
-reads-first c rest l h e = reads-coefficient firstTable5 tt tt c l h e rest
+back-first c rest l h e = back-coefficient firstTable5 tt tt c l h e rest
 
-pub reads-later : (c : Coefficient) (rest : List Bit) → c .run < 64 → c .code < 256 → forbidden (c .code) ≡ false
-    → Reads (coefficientRead laterTable5) (tcoeffOf laterTable5 c) rest (sent c)
+pub back-later : (c : Coefficient) (rest : List Bit) → c .run < 64 → c .code < 256 → forbidden (c .code) ≡ false
+    → Back (coefficientRead laterTable5) (tcoeffOf laterTable5 c) rest (sent c)
 unfolding laterTable5 pairs has
-reads-later c rest l h e = reads-coefficient laterTable5 tt tt c l h e rest
+back-later c rest l h e = back-coefficient laterTable5 tt tt c l h e rest
 
 -- EOB
-pub reads-over : (rest : List Bit) → Reads (coefficientRead laterTable5) (wordOf laterTable5 endOfBlock) rest over
+pub back-over : (rest : List Bit) → Back (coefficientRead laterTable5) (wordOf laterTable5 endOfBlock) rest over
 unfolding coefficientRead tcoeff laterTable5 pairs has
-reads-over rest =
-    let w = reads-word laterTable5 endOfBlock rest tt tt in
-    record { back = λ at. rw (w .back at) }
+back-over rest =
+    let w = back-word laterTable5 endOfBlock rest tt tt in
+    record { reads = λ at. rw (w .reads at) }
