@@ -2,13 +2,16 @@
 use mathlib.Core.Path.{_≡_, refl, sym, ap, _∙_}
 use mathlib.Core.Bool.{Bool, true, false}
 use mathlib.Core.List.{List, [], _∷_, _++_, append-assoc}
-use Prim.Native.Nat.{ℕ, zero, suc, _+_, _-_, _*_, _/_, _%_, _^_, _≤_, _<_}
-use native.Mathlib.Nat.{add-zero, add-assoc, div-one, div-div-eq-div-mul, div-eq-of-lt, pow-suc, mod-lt}
+use Prim.Native.Nat.{ℕ, suc, _+_, _^_, _≤_, _<_}
+use native.Mathlib.Nat.{add-zero, add-assoc}
 use native.Mathlib.Omega.{arith}
-use lib.Dec.{lit<}
+use lib.Dec.{T}
 use lib.ListN.{length, length-append}
-use Rattle.bits.specs.Bits.{Bit, O, I, bitOf, num, bitsOf}
-use Rattle.bits.specs.Read.{Read, got, Reader, next, _>>=_, done, field, fieldFrom, Judged, fine, against, settle, judged, moved, whole, loop}
+use Rattle.bits.specs.Bits.{Bit, bitsOf}
+use Rattle.bits.specs.Read.{got, Reader, _>>=_, done, field, Judged, fine, judged, whole, loop}
+use Rattle.bits.specs.Code.{Entry, word, wordOf, has}
+use Rattle.bits.specs.Fields.{length-bitsOf, field-back}
+use Rattle.bits.specs.Codes.{free, each, word-got, word-back}
 
 -- from the bits w, with these after them, r reads a and leaves those
 pub record Back {A : Type 0} (r : Reader A) (w rest : List Bit) (a : A) : Type 0 where
@@ -44,34 +47,17 @@ module _ {A : Type 0} where
   pub back-loop : {w rest : List Bit} {a : A} (turn : ℕ → Reader A) → ((n : ℕ) → length w ≤ n → Back (turn (suc n)) w rest a) → Back (loop turn) w rest a
   back-loop {w} {rest} turn h = record { reads = λ at. h (length (w ++ rest)) (omega (arith, length-append w rest)) .reads at }
 
--- ---- fields
-pub length-bitsOf : (k x : ℕ) → length (bitsOf k x) ≡ k
-length-bitsOf zero x = refl
-length-bitsOf (suc k) x = ap suc (length-bitsOf k x)
-
-num-bitOf : (n : ℕ) → n < 2 → num (bitOf n) ≡ n
-num-bitOf zero h = refl
-num-bitOf (suc zero) h = refl
-num-bitOf (suc (suc n)) h = absurd (omega arith)
-
--- what was read, and a bit more
-higher : (x k : ℕ) → x / 2 ^ suc k * 2 + num (bitOf (x / 2 ^ k % 2)) ≡ x / 2 ^ k
-higher x k =
-    let e : x / 2 ^ suc k ≡ x / 2 ^ k / 2 = ap (λ (m : ℕ). x / m) (pow-suc 2 k) ∙ sym (div-div-eq-div-mul x (2 ^ k) 2) in
-    let y = x / 2 ^ k in
-    rw (e, num-bitOf (y % 2) (mod-lt y (lit< tt))) (omega arith)
-
-field-rest : (k at x : ℕ) (rest : List Bit) (p : ℕ) → fieldFrom k at (x / 2 ^ k) (bitsOf k x ++ rest) p ≡ got x rest (p + k)
-unfolding fieldFrom
-field-rest zero at x rest p = rw (div-one x, add-zero p)
-field-rest (suc k) at x rest p =
-    let e : p + 1 + k ≡ p + suc k = omega arith in
-    rw (higher x k) (field-rest k at x rest (p + 1) ∙ ap (λ (q : ℕ). got x rest q) e)
-
+-- ---- fields and codewords
 pub back-field : (k x : ℕ) (rest : List Bit) → x < 2 ^ k → Back (field k) (bitsOf k x) rest x
-back-field k x rest l = record {
-  reads =
-      λ at.
-      ap (λ (v : ℕ). fieldFrom k at v (bitsOf k x ++ rest) at) (sym (div-eq-of-lt l))
-      ∙ field-rest k at x rest at ∙ ap (λ (n : ℕ). got x rest (at + n)) (sym (length-bitsOf k x));
-}
+back-field k x rest l = record { reads = λ at. field-back k x rest at l ∙ ap (λ (n : ℕ). got x rest (at + n)) (sym (length-bitsOf k x)) }
+
+module _ (tab : List Entry) (m : ℕ) (isFree : T (free tab)) (meant : T (has tab m)) where
+  pub back-word : (rest : List Bit) → Back (word tab) (wordOf tab m) rest m
+  back-word rest = record { reads = λ at. word-back tab m rest at isFree meant }
+
+  -- a codeword has a bit at least
+  pub length-word : T (each (λ m. true) tab) → 1 ≤ length (wordOf tab m)
+  length-word t =
+      let w = wordOf tab m in
+      let d = word-got (λ m. true) tab (w ++ []) 0 m [] (0 + length w) t (word-back tab m [] 0 isFree meant) in
+      omega (arith, d .after)

@@ -1,19 +1,20 @@
 -- What is written for a meaning of Tables 1 to 5, or for a coefficient, is read back. Assumes nothing.
-use mathlib.Core.Path.{_≡_, refl, sym, ap, subst, _∙_}
+use mathlib.Core.Path.{_≡_, refl, ap}
 use mathlib.Core.List.{List, [], _∷_, _++_}
 use mathlib.Core.Bool.{Bool, true, false}
-use Prim.Native.Nat.{ℕ, zero, suc, _+_, _-_, _*_, _/_, _%_, _^_, _≤_, _<_}
+use Prim.Native.Nat.{ℕ, zero, suc, _+_, _-_, _*_, _/_, _%_, _≤_, _<_}
 use native.Mathlib.Omega.{arith}
-use borrow.Author.Tests.{lt-ltb, le-ltb, ne-eqb, ltb-true, ltb-false}
-use lib.Dec.{T, eqb, leb, ltb, ltb→lt, lit<}
+use borrow.Author.Tests.{ne-eqb}
+use lib.Dec.{T, eqb, ltb, ltb→lt, lit<}
 use lib.ListN.{length, length-append}
-use Rattle.laws.specs.Choice.{pick, both, either, both-left, both-right, true-T}
+use Rattle.laws.specs.Choice.{pick, both, both-left, both-right, true-T}
 use Rattle.laws.specs.Table.{allB, all-at}
 use Rattle.bits.specs.Bits.{Bit, bitsOf}
-use Rattle.bits.specs.Read.{Read, Reader, done, field, fine}
+use Rattle.bits.specs.Read.{Reader, done}
 use Rattle.bits.specs.Code.{Entry, word, wordOf, has}
-use Rattle.bits.specs.ReadBack.{Back, back-done, back-next, back-judged, back-whole, back-field, length-bitsOf}
-use Rattle.bits.specs.WordBack.{free, back-word, length-word}
+use Rattle.bits.specs.ReadBack.{Back, back-next, back-judged, back-whole, back-field, back-word, length-word}
+use Rattle.bits.specs.Fields.{length-bitsOf}
+use Rattle.bits.specs.Codes.{free, each}
 use Rattle.words.specs.Tables.{table1, table2, table3, table4, pairs, firstTable5, laterTable5, pair, endOfBlock, escape}
 use Rattle.words.specs.Words.{Coefficient, coefficient, Event, sent, over, signed, escaped, paired, tcoeff, forbidden, allowed, coefficientRead, negative, size, tcoeffOf}
 
@@ -31,10 +32,10 @@ module _ (tab : List Entry) (n m : ℕ) (a : T (free tab)) (all : T (from-one n 
       go (suc k) l h = all-at n (λ k. has tab (suc k)) all k (omega arith)
 
   back-one : (rest : List Bit) → Back (word tab) (wordOf tab m) rest m
-  back-one rest = back-word tab m rest a has-from-one
+  back-one rest = back-word tab m a has-from-one rest
 
-  length-one : 1 ≤ length (wordOf tab m)
-  length-one = length-word tab m a has-from-one
+  length-one : T (each (λ m. true) tab) → 1 ≤ length (wordOf tab m)
+  length-one t = length-word tab m a has-from-one t
 
 -- an MBA's step, stuffing, or a start code
 pub back-table1 : (m : ℕ) (rest : List Bit) → 0 < m → m ≤ 35 → Back (word table1) (wordOf table1 m) rest m
@@ -43,7 +44,7 @@ back-table1 m rest l h = back-one table1 35 m tt tt l h rest
 
 pub length-table1 : (m : ℕ) → 0 < m → m ≤ 35 → 1 ≤ length (wordOf table1 m)
 unfolding table1 has
-length-table1 m l h = length-one table1 35 m tt tt l h
+length-table1 m l h = length-one table1 35 m tt tt l h tt
 
 -- a macroblock's type
 pub back-table2 : (m : ℕ) (rest : List Bit) → 0 < m → m ≤ 10 → Back (word table2) (wordOf table2 m) rest m
@@ -53,7 +54,7 @@ back-table2 m rest l h = back-one table2 10 m tt tt l h rest
 -- a vector's difference
 pub back-table3 : (m : ℕ) (rest : List Bit) → m < 32 → Back (word table3) (wordOf table3 m) rest m
 unfolding table3 has
-back-table3 m rest h = back-word table3 m rest tt (all-at 32 (has table3) tt m h)
+back-table3 m rest h = back-word table3 m tt (all-at 32 (has table3) tt m h) rest
 
 -- a pattern
 pub back-table4 : (m : ℕ) (rest : List Bit) → 0 < m → m ≤ 63 → Back (word table4) (wordOf table4 m) rest m
@@ -126,10 +127,10 @@ module _ (table : List Entry) (isFree : T (free table)) (escapes : T (has table 
         let s = back-sign (c .run) (size (c .code)) some small (negative (c .code)) rest (negative-bit (c .code)) in
         back-whole
         (back-next onward
-        (back-word table (pair (c .run) (size (c .code))) _ isFree (both-right (ltb (size (c .code)) 16) _ both-hold))
+        (back-word table (pair (c .run) (size (c .code))) isFree (both-right (ltb (size (c .code)) 16) _ both-hold) _)
         (rw (signed-size (c .code) h) at s))
     back-case false t rest =
-        back-whole (back-next onward (back-word table escape _ isFree escapes) (back-escaped (c .run) (c .code) rest l h))
+        back-whole (back-next onward (back-word table escape isFree escapes _) (back-escaped (c .run) (c .code) rest l h))
 
     pub back-coefficient : (rest : List Bit) → Back (coefficientRead table) (tcoeffOf table c) rest (sent c)
     unfolding coefficientRead tcoeffOf in-table
@@ -162,5 +163,5 @@ back-later c rest l h e = back-coefficient laterTable5 tt tt c l h e rest
 pub back-over : (rest : List Bit) → Back (coefficientRead laterTable5) (wordOf laterTable5 endOfBlock) rest over
 unfolding coefficientRead tcoeff laterTable5 pairs has
 back-over rest =
-    let w = back-word laterTable5 endOfBlock rest tt tt in
+    let w = back-word laterTable5 endOfBlock tt tt rest in
     record { reads = λ at. rw (w .reads at) }
