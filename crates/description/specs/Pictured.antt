@@ -1,22 +1,22 @@
 -- The picture of a valid description is proper. Assumes nothing.
 use Prim.Native.Nat.{ℕ, zero, suc, _+_, _-_, _*_, _≤_, _<_}
-use mathlib.Core.Path.{_≡_, refl, sym, ap, subst, _∙_}
+use mathlib.Core.Path.{_≡_, refl, sym, ap}
 use mathlib.Core.Bool.{Bool, true, false}
-use mathlib.Core.List.{List, [], _∷_, _++_}
+use mathlib.Core.List.{List, [], _∷_}
 use native.Mathlib.Nat.{zero-add, suc-add}
 use native.Mathlib.Omega.{arith}
 use lib.Dec.{T, eqb, leb, eqb→eq, leb→le, le→leb, eqb·suc-zero}
-use lib.ListN.{length, getD, take, drop, length-take, length-drop, take-append-drop}
+use lib.ListN.{length, getD, take, drop, length-take, length-drop}
 use lib.Seq.{getD-take, take-take, take-nil}
 use Rattle.laws.specs.Choice.{pick, both, either, opposite, both-left, both-right, both-make}
-use Rattle.words.specs.Words.{isIntra, isMC, hasMQUANT, hasCBP, Coefficient}
+use Rattle.words.specs.Words.{isIntra, isMC, hasMQUANT, hasCBP}
 use Rattle.format.specs.Format.{formatBit, groupCount, groupNumbers}
 use Rattle.format.specs.declared.Format.{Format}
 use Rattle.format.specs.declared.Format.the-variants.{Qcif, Cif}
 use Rattle.description.specs.Vector.{Vector, zeroVector, inRange, inPicture}
-use Rattle.description.specs.Value.{Block, Macroblock, Group, Picture}
-use Rattle.description.specs.Flat.{Flat, numberOf, gather, gathers, described, macroblocksIn, groupsIn, pictureIn}
-use Rattle.description.specs.Valid.{all, within, isZero, isQuantiser, isLevel, codesFirst, validVector, validLevels, validMacroblock, validMacroblocks, validGroups, lengthsOf, validHead, valid}
+use Rattle.description.specs.Value.{Block, Macroblock}
+use Rattle.description.specs.Flat.{Flat, numberOf, gather, gathers, macroblocksIn, groupsIn, pictureIn}
+use Rattle.description.specs.Valid.{all, isZero, isQuantiser, isLevel, codesFirst, validVector, validLevels, validMacroblock, validMacroblocks, validGroups, lengthsOf, validHead, valid}
 use Rattle.description.specs.Proper.{If, Each, isCode, Fits, Begins, allEmpty, ProperBlocks, ProperVector, ProperMacroblock, Rising, ProperGroups, Proper}
 
 -- ---- a test of a list's numbers

@@ -1,24 +1,24 @@
 -- A valid description is the layout of its picture. Assumes nothing.
 use Prim.Native.Nat.{ℕ, zero, suc, _+_, _-_, _*_, _≤_, _<_}
-use mathlib.Core.Path.{_≡_, refl, sym, ap, subst, _∙_}
+use mathlib.Core.Path.{_≡_, refl, sym, ap, _∙_}
 use mathlib.Core.Bool.{Bool, true, false}
-use mathlib.Core.List.{List, [], _∷_, _++_, append-assoc, append-nil}
+use mathlib.Core.List.{List, [], _∷_, _++_, append-nil}
 use native.Mathlib.Nat.{zero-mul}
 use native.Mathlib.Omega.{arith}
 use lib.Dec.{T, leb, eqb→eq, leb→le}
-use lib.ListN.{length, getD, take, drop, length-take, length-drop, take-append-drop}
+use lib.ListN.{length, getD, take, drop, length-drop, take-append-drop}
 use lib.Seq.{take-add, length-take-le}
 use mir.Syntax.{w8}
 use mir.Facts.{ofZ-toZ}
 use Rattle.laws.specs.Choice.{pick, both, both-left, both-right}
 use Rattle.laws.specs.Zeros.{zeros, zeros-split}
-use Rattle.words.specs.Words.{isMC, coefficient}
-use Rattle.format.specs.Format.{formatBit, groupCount, groupNumbers}
+use Rattle.words.specs.Words.{isMC}
+use Rattle.format.specs.Format.{formatBit, groupNumbers}
 use Rattle.format.specs.declared.Format.{Format}
 use Rattle.description.specs.Vector.{inRange, inPicture}
-use Rattle.description.specs.Value.{Block, Macroblock, Group, Picture}
+use Rattle.description.specs.Value.{Macroblock, Group}
 use Rattle.description.specs.Flat.{Flat, byteOf, numberOf, fieldsOf, laid, gather, gathers, macroblocksIn, groupsIn, pictureIn}
-use Rattle.description.specs.Valid.{all, isZero, isQuantiser, validVector, validMacroblock, validMacroblocks, validGroups, valid}
+use Rattle.description.specs.Valid.{all, isZero, validVector, validMacroblock, validMacroblocks, validGroups, valid}
 use Rattle.description.specs.Spread.{spread, spreads, rows, levelsOf, columns, gquants, laid-spread}
 use Rattle.description.specs.Pictured.{macroblockIn, ValidParts, valid-parts, length-numbers, valid-lists, picture-proper}
 

@@ -9,12 +9,12 @@ use borrow.Author.Tests.{lt-leb}
 use lib.Dec.{T, leb, leb→le, lit<}
 use lib.ListN.{length, length-append}
 use Rattle.laws.specs.Choice.{pick, opposite, both-left, both-right}
-use Rattle.bits.specs.Bits.{Bit, O, I, bitOf, bitsOf}
+use Rattle.bits.specs.Bits.{Bit, bitOf, bitsOf}
 use Rattle.refusals.specs.declared.Reason.the-variants.{Forbidden}
-use Rattle.bits.specs.Read.{Reader, fine, against}
+use Rattle.bits.specs.Read.{fine, against}
 use Rattle.bits.specs.Code.{Entry, word, wordOf}
 use Rattle.bits.specs.ReadBack.{Back, back-done, back-next, back-end, back-judged, back-loop, back-field}
-use Rattle.words.specs.Tables.{table4, pairs, firstTable5, laterTable5, endOfBlock}
+use Rattle.words.specs.Tables.{table4, pairs, firstTable5, laterTable5}
 use Rattle.words.specs.Words.{isIntra, hasCBP, Coefficient, coefficient, sent, over, forbidden, coefficientRead, tcoeffOf}
 use Rattle.words.specs.WordsBack.{back-table4, back-first, back-later, back-over, length-coefficient}
 use Rattle.description.specs.Value.{Block}

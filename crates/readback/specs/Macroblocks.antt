@@ -1,5 +1,5 @@
 -- The macroblocks of a group are read back, up to and with what ends the group. Assumes nothing.
-use mathlib.Core.Path.{_≡_, refl, sym, ap, _∙_}
+use mathlib.Core.Path.{_≡_, refl, ap, _∙_}
 use mathlib.Core.List.{List, [], _∷_, _++_, append-assoc}
 use mathlib.Core.Bool.{Bool, true, false}
 use Prim.Native.Nat.{ℕ, zero, suc, _+_, _-_, _≤_, _<_}
@@ -10,21 +10,21 @@ use lib.ListN.{length, length-append}
 use Rattle.laws.specs.Choice.{pick, both-left, both-right}
 use Rattle.refusals.specs.declared.Reason.the-variants.{QuantiserZero}
 use Rattle.bits.specs.Bits.{Bit, bitsOf}
-use Rattle.bits.specs.Read.{Reader, done, field, fine, against, judged, orEnd}
+use Rattle.bits.specs.Read.{Reader, done, fine, against, judged, orEnd}
 use Rattle.bits.specs.Code.{word, wordOf}
-use Rattle.bits.specs.ReadBack.{Back, back-done, back-next, back-end, back-as, back-judged, back-loop, back-field}
-use Rattle.words.specs.Tables.{table1, table2, table4, stuffing, startCode}
+use Rattle.bits.specs.ReadBack.{Back, back-done, back-next, back-end, back-as, back-judged, back-field}
+use Rattle.words.specs.Tables.{table1, table2, table4, startCode}
 use Rattle.words.specs.Words.{isIntra, isMC, hasMQUANT, hasCBP}
 use Rattle.words.specs.WordsBack.{back-table1, length-table1, back-table2}
 use Rattle.format.specs.declared.Format.{Format}
-use Rattle.description.specs.Vector.{Vector, zeroVector, Before, atStart, preceding}
+use Rattle.description.specs.Vector.{Before, preceding}
 use Rattle.description.specs.Value.{Macroblock, after}
 use Rattle.description.specs.Valid.{isQuantiser}
 use Rattle.description.specs.Proper.{If, ProperMacroblock, Rising}
-use Rattle.reader.specs.Grammar.{quantiser, optional, macroblock, Mba, step, stuffed, ended, mbaOf, mba, macroblocksAfter, macroblocksFrom}
+use Rattle.reader.specs.Grammar.{quantiser, optional, macroblock, step, ended, mbaOf, mba, macroblocksAfter, macroblocksFrom}
 use Rattle.writer.specs.Write.{given, vectorOf, patternOf, blocksOf, macroblockOf, macroblocksOf}
 use Rattle.readback.specs.Blocks.{back-blocks, back-pattern}
-use Rattle.readback.specs.Vectors.{Pointed, Ranged, ranged-zero, ranged-vector, back-vector}
+use Rattle.readback.specs.Vectors.{Pointed, Ranged, ranged-vector, back-vector}
 
 -- ---- one macroblock
 pub back-quantiser : (q : ℕ) (rest : List Bit) → T (isQuantiser q) → Back quantiser (bitsOf 5 q) rest q

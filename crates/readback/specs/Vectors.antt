@@ -1,11 +1,11 @@
 -- A vector is read back after any preceding one: for one component a computed test over all pairs of numbers in -15..15. Assumes nothing.
-use mathlib.Core.Path.{_≡_, refl, sym, ap, _∙_}
+use mathlib.Core.Path.{_≡_, refl, ap}
 use mathlib.Core.List.{List, [], _∷_, _++_}
 use mathlib.Core.Bool.{Bool, true, false}
-use Prim.Native.Nat.{ℕ, zero, suc, _+_, _%_, _≤_, _<_}
+use Prim.Native.Nat.{ℕ, suc, _+_, _%_}
 use native.Mathlib.Nat.{mod-lt}
 use native.Mathlib.Omega.{arith}
-use lib.Dec.{T, eqb, leb, leb→le, lit<}
+use lib.Dec.{T, eqb, leb→le, lit<}
 use lib.IntN.{ℤ, pos, negsuc, natAbs, _+ℤ_, _-ℤ_}
 use Rattle.laws.specs.Choice.{pick, both, either, opposite, oneOf, both-left, both-right, T-true}
 use Rattle.laws.specs.Table.{allB, all-at, eqZ, eqZ-yes}
