@@ -6,3 +6,6 @@ pub mod Proper
 pub mod Spread
 pub mod Pictured
 pub mod Relaid
+pub mod Walk
+pub mod Described
+pub mod LaidOut

@@ -149,10 +149,10 @@ module _ (w : ℕ) (store : List ℕ → ℕ → Macroblock → List ℕ) (row :
       ∙ simp append-assoc
 
 -- ---- the two: fields and levels
-abbrev storeFields : List ℕ → ℕ → Macroblock → List ℕ
+abbrev pub storeFields : List ℕ → ℕ → Macroblock → List ℕ
 storeFields l at m = sets l at (fieldsOf m)
 
-abbrev storeLevels : List ℕ → ℕ → Macroblock → List ℕ
+abbrev pub storeLevels : List ℕ → ℕ → Macroblock → List ℕ
 storeLevels l at m = putBlocks l at (m .blocks)
 
 abbrev pub levelsOf : Macroblock → List ℕ
@@ -189,7 +189,7 @@ abbrev pub gquants : List Group → List ℕ
 gquants [] = []
 gquants (x ∷ xs) = x .gquant ∷ gquants xs
 
-abbrev flat : List ℕ → List ℕ → List ℕ → Flat
+abbrev pub flat : List ℕ → List ℕ → List ℕ → Flat
 flat head macroblocks levels = record { head = head; macroblocks = macroblocks; levels = levels }
 
 flats : {h h′ m m′ l l′ : List ℕ} → h ≡ h′ → m ≡ m′ → l ≡ l′ → flat h m l ≡ flat h′ m′ l′
@@ -231,13 +231,13 @@ put-groups f g (number ∷ numbers) (x ∷ xs) p h m l eh em el =
     ∙ flats (append-snoc h (x .gquant) (gquants xs)) (append-assoc m rm (columns 4 fieldsOf xs)) (append-assoc l rl (columns 384 levelsOf xs))
 
 -- ---- the picture
-groups-length : (f : Format) (numbers : List ℕ) (xs : List Group) → ProperGroups f numbers xs → length xs ≡ length numbers
+pub groups-length : (f : Format) (numbers : List ℕ) (xs : List Group) → ProperGroups f numbers xs → length xs ≡ length numbers
 groups-length f [] [] p = refl
 groups-length f [] (x ∷ xs) p = absurd p
 groups-length f (number ∷ numbers) [] p = absurd p
 groups-length f (number ∷ numbers) (x ∷ xs) p = ap suc (groups-length f numbers xs (p .2))
 
-as-many : (f : Format) → length (groupNumbers f) ≡ groupCount f
+pub as-many : (f : Format) → length (groupNumbers f) ≡ groupCount f
 as-many Qcif = refl
 as-many Cif = refl
 

@@ -20,7 +20,11 @@ use Rattle.bits.specs.Logic.{Holds, holds-weaker, ofBits, Fair, Took}
 use Rattle.format.specs.Format.{limit}
 use Rattle.format.specs.declared.Format.{Format}
 use Rattle.description.specs.Value.{Picture}
+use Rattle.description.specs.Flat.{laid, pictureIn}
+use Rattle.description.specs.Valid.{valid}
 use Rattle.description.specs.Proper.{Proper}
+use Rattle.description.specs.Described.{proper-described}
+use Rattle.description.specs.LaidOut.{proper-valid}
 use Rattle.reader.specs.Grammar.{picture, reading}
 use Rattle.reader.specs.Layers.{picture-reads}
 
@@ -84,9 +88,20 @@ never-endless f s n e = subst (λ (x : Read Picture). Holds (Accepts f n) (Refus
 pub refused-by-table : (f : Format) (s : List ℕ) (n : ℕ) (r : Refusal) → reading f s n ≡ refused r → Refuses n r
 refused-by-table f s n r e = subst (λ (x : Read Picture). Holds (Accepts f n) (Refuses n) x) e (reading-gives f s n)
 
--- "the picture is exactly those bits": what is accepted took all N, and is proper
-pub accepted-whole : (f : Format) (s : List ℕ) (n : ℕ) (p : Picture) (left : List Bit) (at : ℕ) → reading f s n ≡ got p left at → Accepts f n p left at
-accepted-whole f s n p left at e = subst (λ (x : Read Picture). Holds (Accepts f n) (Refuses n) x) e (reading-gives f s n)
+pub accepted : (f : Format) (s : List ℕ) (n : ℕ) (p : Picture) (left : List Bit) (at : ℕ) → reading f s n ≡ got p left at → Accepts f n p left at
+accepted f s n p left at e = subst (λ (x : Read Picture). Holds (Accepts f n) (Refuses n) x) e (reading-gives f s n)
+
+-- "the picture is exactly those bits": what is accepted took all N of them
+pub all-read : (f : Format) (s : List ℕ) (n : ℕ) (p : Picture) (left : List Bit) (at : ℕ) → reading f s n ≡ got p left at → (left ≡ []) × (at ≡ n)
+all-read f s n p left at e = (accepted f s n p left at e .allRead, accepted f s n p left at e .exactly)
+
+-- "It is valid when ..": what is accepted lays out as a valid description
+pub accepted-valid : (f : Format) (s : List ℕ) (n : ℕ) (p : Picture) (left : List Bit) (at : ℕ) → reading f s n ≡ got p left at → T (valid f (laid f p))
+accepted-valid f s n p left at e = proper-valid f p (accepted f s n p left at e .proper)
+
+-- and that description describes it again
+pub accepted-described : (f : Format) (s : List ℕ) (n : ℕ) (p : Picture) (left : List Bit) (at : ℕ) → reading f s n ≡ got p left at → pictureIn (laid f p) ≡ p
+accepted-described f s n p left at e = proper-described f p (accepted f s n p left at e .proper)
 
 -- "the picture is exactly those bits": two slices that hold N bits, and the same, are read alike
 pub only-bits : (f : Format) (s t : List ℕ) (n : ℕ) → n ≤ 8 * length s → n ≤ 8 * length t → source s n ≡ source t n → reading f s n ≡ reading f t n
