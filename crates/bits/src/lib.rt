@@ -2,12 +2,13 @@
 use refusals::Reason;
 use refusals::Refusal;
 ghost use mathlib.Core.Path.{_≡_};
-ghost use Prim.Native.Nat.{_+_, _*_, _≤_, _<_};
-ghost use lib.ListN.{getD};
-ghost use Rattle.bits.specs.Bits.{value, bitsLeft};
+ghost use Prim.Native.Nat.{_+_, _*_, _^_, _≤_, _<_};
+ghost use lib.ListN.{length, getD};
+ghost use Rattle.bits.specs.Bits.{bitsOf, value, bitsLeft};
 ghost use Rattle.bits.specs.Read.{field as fieldRead};
 ghost use Rattle.bits.specs.Answer.{Within, asField, asWord};
 ghost use Rattle.bits.specs.Tree.{walkOf};
+ghost use Rattle.bits.specs.Write.{written};
 
 // "each read gives either a meaning with the next place or a refusal"
 pub enum FieldRead {
@@ -118,4 +119,22 @@ pub fn walk(tree: &[u16], root: usize, bytes: &[u8], count: usize, at: usize) ->
         reason: Reason::NoCodeword,
         place: at,
     })
+}
+
+// `value` in `width` bits at `at`. The rest of the last byte that they start is zeroed, and no byte after it is touched.
+pub fn put(out: &mut [u8], at: usize, width: usize, value: u32)
+    requires { ⌜ (1 ≤ width) × (width ≤ 24) × (value < 2 ^ width) × (at + width ≤ 8 * length (now out)) ⌝ }
+    ensures { λ r. ⌜ now (out .exit) ≡ written (now (out .entry)) at (bitsOf width value) ⌝ }
+{
+    let from = at / 8;
+    let before = at % 8;
+    let many = (before + width + 7) / 8;
+    let kept = (out[from] as u32) >> (8 - before);
+    let number = ((kept << width) + value) << (many * 8 - (before + width));
+    let mut i: usize = 0;
+    while i < many {
+        let after = (many - 1 - i) * 8;
+        out[from + i] = ((number >> after) % 256) as u8;
+        i += 1;
+    }
 }
