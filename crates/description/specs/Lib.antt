@@ -4,8 +4,8 @@ pub mod Flat
 pub mod Valid
 pub mod Proper
 pub mod Spread
-pub mod Pictured
-pub mod Relaid
 pub mod Walk
 pub mod Described
 pub mod LaidOut
+pub mod Pictured
+pub mod Relaid

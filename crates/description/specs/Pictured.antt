@@ -18,6 +18,7 @@ use Rattle.description.specs.Value.{Block, Macroblock}
 use Rattle.description.specs.Flat.{Flat, numberOf, gather, gathers, macroblocksIn, groupsIn, pictureIn}
 use Rattle.description.specs.Valid.{all, isZero, isQuantiser, isLevel, codesFirst, validVector, validLevels, validMacroblock, validMacroblocks, validGroups, lengthsOf, validHead, valid}
 use Rattle.description.specs.Proper.{If, Each, isCode, Fits, Begins, allEmpty, ProperBlocks, ProperVector, ProperMacroblock, Rising, ProperGroups, Proper}
+use Rattle.description.specs.Spread.{as-many}
 
 -- ---- a test of a list's numbers
 all-take : (good : ℕ → Bool) (n : ℕ) (xs : List ℕ) → T (all good xs) → T (all good (take n xs))
@@ -244,10 +245,6 @@ groups-proper f (number ∷ numbers) (x ∷ qs) fields levels e l q t =
     (both-left (isQuantiser x) (all isQuantiser qs) q, rising 33 f number 0 1 fields levels (omega arith) (omega arith) (omega arith) (both-left this rest t), groups-proper f numbers qs (drop 132 fields) (drop 12672 levels) (omega arith) (omega (arith, length-drop 132 fields)) (both-right (isQuantiser x) (all isQuantiser qs) q) (both-right this rest t))
 
 -- ---- the picture
-pub length-numbers : (f : Format) → length (groupNumbers f) ≡ groupCount f
-length-numbers Qcif = refl
-length-numbers Cif = refl
-
 -- what validity says of the three lists
 pub record ValidLists (f : Format) (d : Flat) : Type 0 where
   pub head-length : length (d .head) ≡ 3 + groupCount f
@@ -288,7 +285,7 @@ pub picture-proper : (f : Format) (d : Flat) → T (valid f d) → Proper f (pic
 unfolding pictureIn
 picture-proper f d t =
     let v = valid-lists f d t in
-    let n = length-numbers f in
+    let n = as-many f in
     let l = length-drop 3 (d .head) in
     record {
       reference = v .tr;

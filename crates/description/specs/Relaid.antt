@@ -19,8 +19,8 @@ use Rattle.description.specs.Vector.{inRange, inPicture}
 use Rattle.description.specs.Value.{Macroblock, Group}
 use Rattle.description.specs.Flat.{Flat, byteOf, numberOf, fieldsOf, laid, gather, gathers, macroblocksIn, groupsIn, pictureIn}
 use Rattle.description.specs.Valid.{all, isZero, validVector, validMacroblock, validMacroblocks, validGroups, valid}
-use Rattle.description.specs.Spread.{spread, spreads, rows, levelsOf, columns, gquants, laid-spread}
-use Rattle.description.specs.Pictured.{macroblockIn, ValidParts, valid-parts, length-numbers, valid-lists, picture-proper}
+use Rattle.description.specs.Spread.{spread, spreads, rows, levelsOf, columns, gquants, as-many, laid-spread}
+use Rattle.description.specs.Pictured.{macroblockIn, ValidParts, valid-parts, valid-lists, picture-proper}
 
 -- ---- blocks
 zeros-next : (n : ℕ) (ls : List ℕ) → zeros (suc n) ++ ls ≡ zeros n ++ (0 ∷ ls)
@@ -193,7 +193,7 @@ pub laid-back : (f : Format) (d : Flat) → T (valid f d) → laid f (pictureIn 
 unfolding pictureIn
 laid-back f d t =
     let v = valid-lists f d t in
-    let n = length-numbers f in
+    let n = as-many f in
     let groups = groupsIn (drop 3 (d .head)) (d .macroblocks) (d .levels) in
     let c = columns-back f (groupNumbers f) (drop 3 (d .head)) (d .macroblocks) (d .levels) (omega (arith, length-drop 3 (d .head), v .head-length)) (omega (arith, v .macroblocks-length)) (omega (arith, v .levels-length)) (v .groups) in
     let head : getD (d .head) 0 0 ∷ getD (d .head) 1 0 ∷ formatBit f ∷ gquants groups ≡ d .head =
