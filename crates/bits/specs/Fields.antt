@@ -2,7 +2,7 @@
 use mathlib.Core.Path.{_≡_, refl, sym, ap, _∙_}
 use mathlib.Core.List.{List, [], _∷_, _++_}
 use Prim.Native.Nat.{ℕ, zero, suc, _+_, _-_, _*_, _/_, _%_, _^_, _≤_, _<_}
-use native.Mathlib.Nat.{mod-lt, mod-one, mod-eq-of-lt, mul-assoc, mul-comm, add-mul, pow-suc}
+use native.Mathlib.Nat.{mod-lt, mod-one, mod-eq-of-lt, add-zero, one-mul, mul-assoc, mul-comm, add-mul, pow-suc, lt-of-lt-of-le}
 use native.Mathlib.Omega.{arith}
 use borrow.Author.Tests.{leb-true, leb-false}
 use mathlib.Core.Bool.{Bool, true, false}
@@ -10,16 +10,38 @@ use lib.Dec.{lit<, leb}
 use lib.Pow.{mod-pow-add}
 use lib.ListN.{length}
 use Rattle.refusals.specs.declared.Reason.the-variants.{BitsEnd}
-use Rattle.bits.specs.Bits.{Bit, bitOf, num, bitsOf, bitNum, bitAt, value, bitsFrom, bitsLeft}
+use Rattle.bits.specs.Bits.{Bit, O, I, bitOf, num, bitsOf, bitNum, bitAt, value, bitsFrom, bitsLeft}
 use Rattle.bits.specs.Read.{Read, got, bad, field, fieldFrom}
 use Rattle.bits.specs.Value.{num-bitOf, num-bit, value-lt, value-add, value-one, length-bits}
 
--- a field of k bits takes k bits
-field-takes : (k at v : ℕ) (bs : List Bit) (p w : ℕ) (cs : List Bit) (q : ℕ) → fieldFrom k at v bs p ≡ got w cs q → length bs ≡ k + length cs
+-- a field of k bits takes k bits, and its number is below 2 ^ k
+pub record Taken (k : ℕ) (bs : List Bit) (at v : ℕ) (cs : List Bit) (p : ℕ) : Type 0 where
+  pub left : k + length cs ≡ length bs
+  pub next : p ≡ at + k
+  pub small : v < 2 ^ k
+
+twice : (b : Bit) (v k : ℕ) → (v * 2 + num b + 1) * 2 ^ k ≤ (v + 1) * 2 ^ suc k
+twice O v k = omega (arith, pow-suc 2 k, add-mul (v * 2) 1 (2 ^ k), add-mul v 1 (2 ^ suc k), ap (λ (x : ℕ). v * x) (pow-suc 2 k), mul-assoc v 2 (2 ^ k), ap (λ (x : ℕ). v * x) (mul-comm (2 ^ k) 2), add-zero (v * 2))
+twice I v k = omega (arith, pow-suc 2 k, add-mul (v * 2 + 1) 1 (2 ^ k), add-mul (v * 2) 1 (2 ^ k), add-mul v 1 (2 ^ suc k), ap (λ (x : ℕ). v * x) (pow-suc 2 k), mul-assoc v 2 (2 ^ k), ap (λ (x : ℕ). v * x) (mul-comm (2 ^ k) 2))
+
+takes : (k at v : ℕ) (bs : List Bit) (p w : ℕ) (cs : List Bit) (q : ℕ) → fieldFrom k at v bs p ≡ got w cs q
+    → (k + length cs ≡ length bs) × (q ≡ p + k) × (w < (v + 1) * 2 ^ k)
 unfolding fieldFrom
-field-takes zero at v bs p w cs q e = let h : bs ≡ cs = cc in rw h (omega arith)
-field-takes (suc k) at v [] p w cs q e = let z : _≡_ {A = ℕ} 0 1 = cc in absurd (omega arith)
-field-takes (suc k) at v (b ∷ bs) p w cs q e = let h = field-takes k at (v * 2 + num b) bs (p + 1) w cs q e in omega arith
+takes zero at v bs p w cs q e =
+    let h : bs ≡ cs = cc in
+    let i : p ≡ q = cc in
+    let j : v ≡ w = cc in
+    (rw h (omega arith), omega arith, omega arith)
+takes (suc k) at v [] p w cs q e = let z : _≡_ {A = ℕ} 0 1 = cc in absurd (omega arith)
+takes (suc k) at v (b ∷ bs) p w cs q e =
+    let h = takes k at (v * 2 + num b) bs (p + 1) w cs q e in
+    (omega (arith, h .0), omega (arith, h .1), lt-of-lt-of-le (h .2) (twice b v k))
+
+pub field-taken : (k : ℕ) (bs : List Bit) (at v : ℕ) (cs : List Bit) (p : ℕ) → field k bs at ≡ got v cs p → Taken k bs at v cs p
+field-taken k bs at v cs p e =
+    let h = takes k at 0 bs at v cs p e in
+    let z : (0 + 1) * 2 ^ k ≡ 2 ^ k = one-mul (2 ^ k) in
+    record { left = h .0; next = h .1; small = rw z at (h .2) }
 
 -- ---- at a place of a slice: the field's number, the bits left, the next place
 -- what was read so far, v, moves up
@@ -114,7 +136,3 @@ pub field-back : (k v : ℕ) (rest : List Bit) (at : ℕ) → v < 2 ^ k → fiel
 field-back k v rest at h =
     let z : 0 * 2 ^ k + v % 2 ^ k ≡ v = omega (arith, mod-eq-of-lt h) in
     back k at 0 v rest at ∙ ap (λ (i : ℕ). got i rest (at + k)) z
-
--- a field of k bits leaves k bits fewer
-pub field-shrinks : (k : ℕ) (bs cs : List Bit) (at v p : ℕ) → field k bs at ≡ got v cs p → length cs + k ≡ length bs
-field-shrinks k bs cs at v p e = let h = field-takes k at 0 bs at v cs p e in omega arith

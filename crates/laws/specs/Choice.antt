@@ -45,3 +45,10 @@ T-true false t = absurd t
 
 pub true-T : (b : Bool) → b ≡ true → T b
 true-T b e = subst (λ (b : Bool). T b) (sym e) tt
+
+pub true-false : true ≡ false → ⊥
+true-false e = subst T e tt
+
+pub either-right : (a b : Bool) → a ≡ false → T (either a b) → T b
+either-right true b e t = absurd (true-false e)
+either-right false b e t = t

@@ -8,7 +8,7 @@ use native.Mathlib.Omega.{arith}
 use borrow.Author.Tests.{lt-ltb, le-ltb, ltb-true, ltb-false, le-leb, lt-leb, leb-true, leb-false, eq-eqb, ne-eqb, eqb-true, eqb-false}
 use lib.Dec.{T, lit<, eqb, ltb, leb, eqb→eq, leb→le}
 use lib.ListN.{getD}
-use Rattle.laws.specs.Choice.{pick, both, either, both-left, both-right}
+use Rattle.laws.specs.Choice.{pick, either, both-left, both-right, either-right}
 use Rattle.laws.specs.Table.{allB, all-at}
 use Rattle.refusals.specs.declared.Reason.the-variants.{BitsEnd, NoCodeword, Forbidden}
 use Rattle.bits.specs.Bits.{Bit, bitsOf, value, bitsFrom, bitsLeft}
@@ -53,10 +53,6 @@ says table s n at j e h k a =
       },
     )
 
-other : (b c : Bool) → b ≡ false → T (either b c) → T c
-other true c e t = let z : _≡_ {A = Bool} true false = e in absurd (subst T z tt)
-other false c e t = t
-
 -- the entry for the 13 bits at a place
 pub looked : (t s : List ℕ) (n at from x : ℕ) (table : List Entry) → T (looks t from table) → T (noEmpty table) → T (some table) → x ≡ value s at 13
     → (d : Decided) × Says table s n at (getD t (placed from x) 0) d
@@ -81,7 +77,7 @@ looked t s n at from x table ok h k v = go (ltb x 128) refl
         let u : x / 32 < 256 = rw y (value-lt s at 8) in
         let a : T (B (x / 32)) = all-at 256 B (both-right (allB 128 A) (allB 256 B) ok) (x / 32) u in
         let w : bitsFrom s at 8 ≡ bitsOf 8 (x / 32) = bits-value s at 8 ∙ ap (bitsOf 8) (sym y) in
-        says table s n at 8 (getD t (from + x / 32) 0) h k (rw w (other (ltb (x / 32) 4) _ (le-ltb (x / 32) 4 (omega arith)) a))
+        says table s n at 8 (getD t (from + x / 32) 0) h k (rw w (either-right (ltb (x / 32) 4) _ (le-ltb (x / 32) 4 (omega arith)) a))
 
 -- ---- the outcomes
 window-first : (s : List ℕ) (at w k : ℕ) → w ≡ value s at 24 → k ≤ 20 → w / 2 ^ (24 - k) ≡ value s at k
@@ -204,7 +200,7 @@ module _ {table : List Entry} {s : List ℕ} {n at e : ℕ} (inside : at ≤ n) 
         let b0 : m ≡ endOfBlock → ⊥ = λ x. a1 (r .meaning ∙ ap suc x) in
         let b5 : m ≡ escape → ⊥ = λ x. a5 (r .meaning ∙ ap suc x) in
         let q : e / 32 - 1 ≡ m = less-one (r .meaning) in
-        let t : T (ltb 0 (m % 16)) = other (eqb m escape) _ (ne-eqb m escape b5) (other (eqb m endOfBlock) _ (ne-eqb m endOfBlock b0) (r .level)) in
+        let t : T (ltb 0 (m % 16)) = either-right (eqb m escape) _ (ne-eqb m escape b5) (either-right (eqb m endOfBlock) _ (ne-eqb m endOfBlock b0) (r .level)) in
         rw q (leb→le _ _ t)
 
     pub pair-is : (d : Decided) → Says table s n at e d → e % 32 ≤ n - at

@@ -27,7 +27,7 @@ module _ (table : List Entry) (bs : List Bit) (at : ℕ) where
     end-read z = rw (e, eq-eqb m endOfBlock z)
 
     module _ (n : m ≡ endOfBlock → ⊥) (z : m ≡ escape) where
-      escape-from : (x : Read Event) → escaped cs p ≡ x → coefficientRead table bs at ≡ next (moved at x) (λ a. settle at (allowed a))
+      pub escape-from : (x : Read Event) → escaped cs p ≡ x → coefficientRead table bs at ≡ next (moved at x) (λ a. settle at (allowed a))
       unfolding tcoeff coefficientRead
       escape-from x f = rw (e, ne-eqb m endOfBlock n, eq-eqb m escape z, f)
 
@@ -42,7 +42,7 @@ module _ (table : List Entry) (bs : List Bit) (at : ℕ) where
       escape-read run ds q code es r f g = escape-from (got (sent (coefficient run code)) es r) (rw (f, g))
 
     module _ (n : m ≡ endOfBlock → ⊥) (z : m ≡ escape → ⊥) where
-      pair-from : (x : Read Event) → paired m cs p ≡ x → coefficientRead table bs at ≡ next (moved at x) (λ a. settle at (allowed a))
+      pub pair-from : (x : Read Event) → paired m cs p ≡ x → coefficientRead table bs at ≡ next (moved at x) (λ a. settle at (allowed a))
       unfolding tcoeff coefficientRead
       pair-from x f = rw (e, ne-eqb m endOfBlock n, ne-eqb m escape z, f)
 

@@ -11,7 +11,7 @@ use Rattle.bits.specs.Bits.{Bit, bitsOf, same}
 use Rattle.bits.specs.Code.{Entry, wordOf, has}
 use Rattle.bits.specs.Tree.{right}
 use Rattle.bits.specs.Windows.{Decided, undecided, dead, ended, decide, settled}
-use Rattle.words.specs.Tables.{table1, table2, table3, table4, endOfBlock, escape, firstTable5, laterTable5}
+use Rattle.words.specs.Tables.{table1, table2, table3, table4, endOfBlock, escape, pairs, firstTable5, laterTable5}
 
 -- ---- Table 5 by its first bits
 -- the bits that follow a codeword of Table 5 and are one with it: a sign, or an escape's run and level
@@ -68,8 +68,9 @@ alike (x ∷ w) (y ∷ v) = both (same x y) (alike w v)
 -- the entry e spells the codeword of m, if it has one
 unfoldable pub spells : List Entry → ℕ → ℕ → Bool
 spells table m e =
-    both (pick (has table m) (ltb 0 e) (eqb e 0)) (both (ltb (e / 32) (2 ^ (e % 32))) (both (leb (e % 32) 16) (alike (bitsOf (e % 32) (e / 32)) (wordOf table m))))
+    both (pick (has table m) (ltb 0 (e % 32)) (eqb e 0)) (both (ltb (e / 32) (2 ^ (e % 32))) (both (leb (e % 32) 16) (alike (bitsOf (e % 32) (e / 32)) (wordOf table m))))
 
+-- the entries from the first on, for the meanings 0 to n - 1
 unfoldable pub spelt : List ℕ → ℕ → ℕ → List Entry → Bool
 spelt t from n table = allB n (λ m. spells table m (getD t (from + m) 0))
 
@@ -85,4 +86,4 @@ pub record Tables (t : List ℕ) : Type 0 where
   pub mtypeWords : T (spelt t 982 11 table2)
   pub mvdWords : T (spelt t 993 32 table3)
   pub cbpWords : T (spelt t 1025 64 table4)
-  pub pairWords : T (spelt t 1089 432 laterTable5)
+  pub pairWords : T (spelt t 1089 432 pairs)
