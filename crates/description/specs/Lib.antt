@@ -7,3 +7,5 @@ pub mod Spread
 pub mod Walk
 pub mod Described
 pub mod LaidOut
+pub mod Pictured
+pub mod Relaid

@@ -1,0 +1,6 @@
+pub mod Blocks
+pub mod Vectors
+pub mod Macroblocks
+pub mod Groups
+pub mod Pictures
+pub mod ReadBack
