@@ -5,3 +5,4 @@ pub mod Operation
 pub mod Table
 pub mod Block
 pub mod Linear
+pub mod Row

@@ -1,0 +1,16 @@
+use borrow.Author.Needs.{needs}
+use Rattle.vault.proofs.refresh_rule.Statement.{statement}
+use Rattle.vault.proofs.refresh_rule.Tie as tie
+use Rattle.vault.proofs.refresh_rule.Reads as reads
+use Rattle.vault.proofs.refresh_rule.Lts as lts
+
+-- src/lib.rt:94:9
+returns : tie.Need-returns
+returns c = ?
+
+-- src/lib.rt:90:1
+returns-2 : tie.Need-returns-2
+returns-2 c = search needs
+
+pub refresh-rule-spec : {M : Type 1} → statement M
+refresh-rule-spec = tie.close (tie.spec returns returns-2)
