@@ -160,7 +160,7 @@ headBytes header =
 
 -- bytes 0 to 509
 unfoldable pub bodyFor : Header → List ℕ → List ℕ
-bodyFor header payload = headBytes header ++ (payload ++ (0 ∷ 0 ∷ []))
+bodyFor header payload = headBytes header ++ payload ++ (0 ∷ 0 ∷ [])
 
 unfoldable pub blockFor : Header → List ℕ → List ℕ
 blockFor header payload = bodyFor header payload ++ twoBytes (sumOf (bodyFor header payload))

@@ -1,3 +1,4 @@
 pub mod Block
+pub mod Clear
 pub mod Parts
 pub mod Due

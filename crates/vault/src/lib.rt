@@ -5,11 +5,13 @@ use refusals::Refusal;
 
 ghost use mathlib.Core.Path.{_≡_};
 ghost use mathlib.Core.List.{_++_};
-ghost use Prim.Native.Nat.{_+_, _*_, _^_, _≤_, _<_};
+ghost use Prim.Native.Nat.{_+_, _-_, _*_, _/_, _^_, _≤_, _<_, min};
+ghost use lib.Dec.{eqb};
 ghost use lib.ListN.{length, drop};
 ghost use lib.Seq.{sets, paste};
-ghost use Rattle.vault.specs.Block.{pairAt, pictureOf, headerOf, pictures, greatestPart, refreshRule, usedRule, ruled as ruledOf, unused, clear, payloadOf, follows as followsOf, sumOf, refusedBy, checkOf, judgeOf, marksFor, headBytes, twoBytes};
-ghost use Rattle.vault.specs.Parts.{partCount, keptByte, payloadAt, headerAt, blockAt, blocksOf};
+ghost use Rattle.laws.specs.Choice.{both};
+ghost use Rattle.vault.specs.Block.{pairAt, pictureOf, headerOf, pictures, greatestPart, refreshRule, usedRule, ruled as ruledOf, unused, clear, payloadOf, follows as followsOf, sumOf, refusedBy, checkOf, judgeOf, marksFor, headBytes, twoBytes, blockFor};
+ghost use Rattle.vault.specs.Parts.{partCount, keptByte, payloadAt, headerAt, blocksOf};
 ghost use Rattle.vault.specs.Due.{dueOf};
 
 // What a block says before its payload.
@@ -218,6 +220,167 @@ pub fn judge(format: Format, clip: u16, block: &[u8]) -> Checked
         }
         Checked::Refused(refusal) => Checked::Refused(refusal),
     }
+}
+
+// ---- making blocks
+
+fn marks(header: Header) -> u8
+    ensures { λ r. ⌜ r ≡ marksFor header ⌝ }
+{
+    if header.last {
+        if header.refresh {
+            return 3;
+        }
+        return 1;
+    }
+    if header.refresh {
+        return 2;
+    }
+    0
+}
+
+fn write_head(header: Header, block: &mut [u8])
+    requires { ⌜ (length (now block) ≡ 512) × (header .picture < pictures) ⌝ }
+    ensures { λ _. ⌜ now (block .exit) ≡ sets (now (block .entry)) 0 (headBytes header) ⌝ }
+{
+    let clip = header.clip;
+    let picture = header.picture;
+    let used = header.used;
+    let marked = marks(header);
+    block[0] = (clip / 256) as u8;
+    block[1] = (clip % 256) as u8;
+    block[2] = (picture / 256) as u8;
+    block[3] = (picture % 256) as u8;
+    block[4] = header.part;
+    block[5] = marked;
+    block[6] = (used / 256) as u8;
+    block[7] = (used % 256) as u8;
+}
+
+// Byte i of a picture of `count` bits.
+fn kept(bytes: &[u8], count: usize, i: usize) -> u8
+    requires { ⌜ i < 65536 ⌝ }
+    ensures { λ r. ⌜ r ≡ keptByte (now (bytes .entry)) count i ⌝ }
+{
+    if bytes.len() <= i {
+        return 0;
+    }
+    let weight = unused_weight(count, i);
+    (bytes[i] as u32 / weight * weight) as u8
+}
+
+// How many of the 500 bytes from `from` on a picture of `count` bits fills.
+fn whole_bytes(count: usize, from: usize) -> usize
+    ensures { λ r. ⌜ r ≡ min 500 (count / 8 - from) ⌝ }
+{
+    let whole = count / 8;
+    if whole < from {
+        return 0;
+    }
+    let left = whole - from;
+    if left < 500 {
+        return left;
+    }
+    500
+}
+
+// Whole bytes are copied as they are; the rest is looked at bit by bit.
+fn write_payload(bytes: &[u8], count: usize, part: usize, block: &mut [u8])
+    requires { ⌜ (length (now block) ≡ 512) × (part < 66) × (count ≤ 8 * length (now bytes)) ⌝ }
+    ensures { λ _. ⌜ now (block .exit) ≡ paste (now (block .entry)) 8 (payloadAt (now (bytes .entry)) count part) 500 ⌝ }
+{
+    let from = 500 * part;
+    let whole = whole_bytes(count, from);
+    let mut j: usize = 0;
+    while j < whole {
+        block[8 + j] = bytes[from + j];
+        j += 1;
+    }
+    while j < 500 {
+        block[8 + j] = kept(bytes, count, from + j);
+        j += 1;
+    }
+}
+
+fn write_sum(block: &mut [u8])
+    requires { ⌜ length (now block) ≡ 512 ⌝ }
+    ensures { λ _. ⌜ now (block .exit) ≡ sets (now (block .entry)) 510 (twoBytes (sumOf (now (block .entry)))) ⌝ }
+{
+    let summed = sum(block);
+    block[510] = (summed / 256) as u8;
+    block[511] = (summed % 256) as u8;
+}
+
+fn write_block(header: Header, bytes: &[u8], count: usize, block: &mut [u8])
+    requires { ⌜ (length (now block) ≡ 512) × (header .picture < pictures) × (header .part < 66) × (count ≤ 8 * length (now bytes)) ⌝ }
+    ensures { λ _. ⌜ now (block .exit) ≡ blockFor header (payloadAt (now (bytes .entry)) count (header .part)) ⌝ }
+{
+    let part = header.part as usize;
+    write_head(header, block);
+    write_payload(bytes, count, part, block);
+    block[508] = 0;
+    block[509] = 0;
+    write_sum(block);
+}
+
+fn part_count(count: usize) -> usize
+    requires { ⌜ count ≤ 262144 ⌝ }
+    ensures { λ r. ⌜ r ≡ partCount count ⌝ }
+{
+    (count + 3999) / 4000
+}
+
+fn refresh_at(refresh: bool, part: usize) -> bool
+    ensures { λ r. ⌜ r ≡ both refresh (eqb part 0) ⌝ }
+{
+    if refresh {
+        return part == 0;
+    }
+    false
+}
+
+fn used_at(count: usize, part: usize) -> u16
+    requires { ⌜ 4000 * part ≤ count ⌝ }
+    ensures { λ r. ⌜ r ≡ min 4000 (count - 4000 * part) ⌝ }
+{
+    let left = count - 4000 * part;
+    if left < 4000 {
+        return left as u16;
+    }
+    4000
+}
+
+fn header_at(clip: u16, picture: u32, refresh: bool, count: usize, part: usize) -> Header
+    requires { ⌜ (part < 66) × (count ≤ 262144) × (4000 * part ≤ count) ⌝ }
+    ensures { λ r. ⌜ r ≡ headerAt clip picture refresh count part ⌝ }
+{
+    let parts = part_count(count);
+    Header {
+        clip,
+        picture,
+        part: part as u8,
+        last: part + 1 == parts,
+        refresh: refresh_at(refresh, part),
+        used: used_at(count, part),
+    }
+}
+
+// All blocks of a picture of `count` bits, from the start of `out` on, and how many they are.
+pub fn blocks(clip: u16, picture: u32, refresh: bool, bytes: &[u8], count: usize, out: &mut [u8]) -> usize
+    requires { ⌜ (picture < pictures) × (count ≤ 262144) × (count ≤ 8 * length (now bytes)) × (512 * partCount count ≤ length (now out)) ⌝ }
+    ensures { λ r. ⌜ r ≡ partCount count ⌝ }
+    ensures { λ _. ⌜ now (out .exit) ≡ blocksOf clip picture refresh (now (bytes .entry)) count ++ drop (512 * partCount count) (now (out .entry)) ⌝ }
+{
+    let parts = part_count(count);
+    let mut part: usize = 0;
+    while part < parts {
+        let at = 512 * part;
+        let end = at + 512;
+        let header = header_at(clip, picture, refresh, count, part);
+        write_block(header, bytes, count, &mut out[at..end]);
+        part += 1;
+    }
+    parts
 }
 
 // ---- the due time

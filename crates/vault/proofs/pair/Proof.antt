@@ -1,38 +1,33 @@
+-- `vault::pair` meets its contract: a byte is below 256. Assumes nothing.
 use borrow.Author.Needs.{needs}
+use native.Mathlib.Omega.{arith}
+use Prim.Native.Nat.{_+_}
 use Rattle.vault.proofs.pair.Statement.{statement}
 use Rattle.vault.proofs.pair.Tie as tie
 use Rattle.vault.proofs.pair.Reads as reads
 use Rattle.vault.proofs.pair.Lts as lts
 
--- src/lib.rt:40:12
 shared-slice-read-result : tie.Need-shared-slice-read-result
 shared-slice-read-result c = search needs
 
--- src/lib.rt:40:12
 cast-result : tie.Need-cast-result
-cast-result c = ?
+cast-result c = omega (arith, c .shared-slice-known .given (c .before .args .at))
 
--- src/lib.rt:40:5
 mul-result : tie.Need-mul-result
-mul-result c = ?
+mul-result c = omega (arith, c .shared-slice-known .given (c .before .args .at))
 
--- src/lib.rt:40:38
 add-result : tie.Need-add-result
 add-result c = search needs
 
--- src/lib.rt:40:32
 shared-slice-read-result-2 : tie.Need-shared-slice-read-result-2
 shared-slice-read-result-2 c = search needs
 
--- src/lib.rt:40:32
 cast-result-2 : tie.Need-cast-result-2
-cast-result-2 c = ?
+cast-result-2 c = omega (arith, c .shared-slice-known2 .given (c .before .before .args .at + 1))
 
--- src/lib.rt:40:5
 add-result-2 : tie.Need-add-result-2
-add-result-2 c = ?
+add-result-2 c = omega (arith, c .before .shared-slice-known .given (c .before .before .args .at), c .shared-slice-known2 .given (c .before .before .args .at + 1))
 
--- src/lib.rt:36:1
 returns : tie.Need-returns
 returns c = search needs
 

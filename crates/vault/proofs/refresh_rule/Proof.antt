@@ -1,14 +1,13 @@
+-- `vault::refresh_rule` meets its contract. Assumes nothing.
 use borrow.Author.Needs.{needs}
 use Rattle.vault.proofs.refresh_rule.Statement.{statement}
 use Rattle.vault.proofs.refresh_rule.Tie as tie
 use Rattle.vault.proofs.refresh_rule.Reads as reads
 use Rattle.vault.proofs.refresh_rule.Lts as lts
 
--- src/lib.rt:94:9
 returns : tie.Need-returns
-returns c = ?
+returns c = rw (c .before .if1 .taken)
 
--- src/lib.rt:90:1
 returns-2 : tie.Need-returns-2
 returns-2 c = search needs
 

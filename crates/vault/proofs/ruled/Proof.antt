@@ -1,4 +1,8 @@
+-- `vault::ruled` meets its contract: at each `return` the tests that led there. Assumes nothing.
 use borrow.Author.Needs.{needs}
+use borrow.Author.Tests.{lt-ltb, le-ltb, le-leb, lt-leb, eq-eqb, ne-eqb, not-true, not-false}
+use mathlib.Core.Path.{_≡_, refl, sym, ap, _∙_}
+use Rattle.vault.specs.Block.{ruled}
 use Rattle.vault.proofs.ruled.Statement.{statement}
 use Rattle.vault.proofs.ruled.Tie as tie
 use Rattle.vault.proofs.ruled.Reads as reads
@@ -7,37 +11,34 @@ use Rattle.vault.proofs.greatest_part.Reads as greatest-part-reads
 use Rattle.vault.proofs.refresh_rule.Reads as refresh-rule-reads
 use Rattle.vault.proofs.used_rule.Reads as used-rule-reads
 
--- src/lib.rt:118:9
 returns : tie.Need-returns
-returns c = ?
+unfolding ruled
+returns c = simp (lt-leb _ _ (c .if1 .taken))
 
--- src/lib.rt:121:9
 returns-2 : tie.Need-returns-2
-returns-2 c = ?
+unfolding ruled
+returns-2 c = simp (le-leb _ _ (c .before .before .if1 .left), le-ltb _ _ (c .if2 .taken))
 
--- src/lib.rt:123:8
 greatest-part-requires : tie.Need-greatest-part-requires
 greatest-part-requires c κs = search needs
 
--- src/lib.rt:124:9
 returns-3 : tie.Need-returns-3
-returns-3 c = ?
+unfolding ruled
+returns-3 c = simp (le-leb _ _ (c .before .before .before .before .before .if1 .left), lt-ltb _ _ (c .before .before .before .if2 .left), lt-leb _ _ (rw (c .before .before .greatest-part .ensures) at (c .if3 .taken)))
 
--- src/lib.rt:126:9
 refresh-rule-requires : tie.Need-refresh-rule-requires
 refresh-rule-requires c κs = search needs
 
--- src/lib.rt:127:9
 returns-4 : tie.Need-returns-4
-returns-4 c = ?
+unfolding ruled
+returns-4 c = simp (le-leb _ _ (c .before .before .before .before .before .before .before .if1 .left), lt-ltb _ _ (c .before .before .before .before .before .if2 .left), le-leb _ _ (rw (c .before .before .before .before .greatest-part .ensures) at (c .before .before .if3 .left)), sym (c .before .refresh-rule .ensures) ∙ not-true _ (c .if4 .taken))
 
--- src/lib.rt:129:5
 used-rule-requires : tie.Need-used-rule-requires
 used-rule-requires c κs = search needs
 
--- src/lib.rt:114:1
 returns-5 : tie.Need-returns-5
-returns-5 c = ?
+unfolding ruled
+returns-5 c = simp (le-leb _ _ (c .before .before .before .before .before .before .before .before .if1 .left), lt-ltb _ _ (c .before .before .before .before .before .before .if2 .left), le-leb _ _ (rw (c .before .before .before .before .before .greatest-part .ensures) at (c .before .before .before .if3 .left)), sym (c .before .before .refresh-rule .ensures) ∙ not-false _ (c .before .if4 .left)) (c .used-rule .ensures)
 
 pub ruled-spec : {M : Type 1} → statement M
 ruled-spec =

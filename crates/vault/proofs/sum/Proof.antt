@@ -1,57 +1,76 @@
+-- `vault::sum` meets its contract. The loop's invariant: the total is the exact sum of the terms passed, and at most 130050 a term, so it never wraps.
+-- Assumes nothing.
+use mathlib.Core.Path.{_≡_, refl, sym, ap, _∙_}
+use Prim.Native.Nat.{ℕ, _≤_, _<_, _+_, _*_, _-_, _%_}
+use native.Mathlib.Omega.{arith}
+use native.Mathlib.Nat.{mul-le-mul, le-antisymm}
+use native.Mathlib.Numerals.{add-one}
+use mathlib.Core.List.{List}
+use lib.ListN.{length, getD}
+use Rattle.vault.specs.Block.{weighted}
 use Rattle.vault.proofs.sum.Statement.{statement}
 use Rattle.vault.proofs.sum.Tie as tie
 use Rattle.vault.proofs.sum.Reads as reads
 use Rattle.vault.proofs.sum.Lts as lts
 
+-- a term is small
+term : (n b : ℕ) → n ≤ 510 → b ≤ 255 → n * b ≤ 130050
+term n b h k = mul-le-mul h k
+
+-- one byte more
+more : (s : List ℕ) (i : ℕ) → weighted s (i + 1) ≡ weighted s i + (i + 1) * getD s i 0
+unfolding weighted
+more s i = rw add-one
+
 abbrev Inv-loop : tie.InvT-loop
-Inv-loop block total₀ i₀ total i = ?
+Inv-loop block total₀ i₀ total i = (i ≤ 510) × (total ≡ weighted block i) × (total ≤ 130050 * i)
 
 abbrev μ-loop : tie.MeasureT-loop
-μ-loop block total₀ i₀ total i = ?
+μ-loop block total₀ i₀ total i = 510 - i
 
--- src/lib.rt:72:5
+-- the term of a turn is small, since the byte is below 256
+small : (c : tie.After-shared-slice-known Inv-loop μ-loop)
+    → (c .before .before .loop .i + 1) * getD (c .before .before .before .args .block .now) (c .before .before .loop .i) 0 ≤ 130050
+small c = term _ _ (omega arith) (omega (arith, c .shared-slice-known .given (c .before .before .loop .i)))
+
 loop-holds : tie.Need-loop-holds Inv-loop μ-loop
-loop-holds c = ?
+unfolding weighted
+loop-holds c = (omega arith, refl, omega arith)
 
--- src/lib.rt:73:19
 cast-total : tie.Need-cast-total Inv-loop μ-loop
-cast-total c = ?
+cast-total c = omega arith
 
--- src/lib.rt:73:19
 add-total : tie.Need-add-total Inv-loop μ-loop
-add-total c = ?
+add-total c = omega arith
 
--- src/lib.rt:73:36
 shared-slice-read-total : tie.Need-shared-slice-read-total Inv-loop μ-loop
-shared-slice-read-total c = ?
+shared-slice-read-total c = omega arith
 
--- src/lib.rt:73:36
 cast-total-2 : tie.Need-cast-total-2 Inv-loop μ-loop
-cast-total-2 c = ?
+cast-total-2 c = omega (arith, c .shared-slice-known .given (c .before .before .loop .i))
 
--- src/lib.rt:73:18
 mul-total : tie.Need-mul-total Inv-loop μ-loop
-mul-total c = ?
+mul-total c = omega (arith, small c)
 
--- src/lib.rt:73:9
 add-total-2 : tie.Need-add-total-2 Inv-loop μ-loop
-add-total-2 c = ?
+add-total-2 c = omega (arith, small c)
 
--- src/lib.rt:74:9
 add-i : tie.Need-add-i Inv-loop μ-loop
-add-i c = ?
+add-i c = omega arith
 
--- src/lib.rt:72:5
 loop-less : tie.Need-loop-less Inv-loop μ-loop
-loop-less c = ?
+loop-less c = omega arith
 
--- src/lib.rt:72:5
 loop-again : tie.Need-loop-again Inv-loop μ-loop
-loop-again c = ?
+loop-again c =
+    let l = c .before .before .loop in
+    (omega arith, ap (λ (n : ℕ). n + (l .i + 1) * getD (c .before .before .before .args .block .now) (l .i) 0) (l .inv .1) ∙ sym (more _ _), omega (arith, small c))
 
--- src/lib.rt:66:1
 returns : tie.Need-returns Inv-loop μ-loop
-returns c = ?
+returns c =
+    let l = c .before .loop in
+    let e : l .i ≡ 510 = omega arith in
+    ap (λ (n : ℕ). n % 65521) (l .inv .1 ∙ ap (weighted (c .before .before .args .block .now)) e)
 
 pub sum-spec : {M : Type 1} → statement M
 sum-spec =

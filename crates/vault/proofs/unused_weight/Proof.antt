@@ -1,40 +1,54 @@
+-- `vault::unused_weight` meets its contract: the cases of a byte before, after and around bit number `used`. Assumes nothing.
 use borrow.Author.Needs.{needs}
+use native.Mathlib.Omega.{arith}
+use mathlib.Core.Path.{_≡_, refl, sym, ap, _∙_}
+use Prim.Native.Nat.{ℕ, _+_, _-_, _*_, _%_, _^_, _≤_, _<_, min}
+use lib.Dec.{eqb, eqb→eq}
+use Rattle.laws.specs.Table.{allB, all-at}
+use Rattle.vault.specs.Block.{unused}
 use Rattle.vault.proofs.unused_weight.Statement.{statement}
 use Rattle.vault.proofs.unused_weight.Tie as tie
 use Rattle.vault.proofs.unused_weight.Reads as reads
 use Rattle.vault.proofs.unused_weight.Lts as lts
 
--- src/lib.rt:137:20
+-- 2 to as many bits as a byte has
+shifted : (n : ℕ) → n < 9 → (1 * 2 ^ n) % 2 ^ 32 ≡ 2 ^ n
+shifted n l = eqb→eq _ _ (all-at 9 (λ k. eqb ((1 * 2 ^ k) % 2 ^ 32) (2 ^ k)) tt n l)
+
+none : (used i : ℕ) → 8 * (i + 1) ≤ used → 1 ≡ 2 ^ unused used i
+none used i l = let e : 0 ≡ unused used i = omega arith in ap (λ (n : ℕ). 2 ^ n) e
+
+all : (used i : ℕ) → 8 < 8 * (i + 1) - used → 256 ≡ 2 ^ unused used i
+all used i l = let e : 8 ≡ unused used i = omega arith in ap (λ (n : ℕ). 2 ^ n) e
+
+some : (used i : ℕ) → 8 * (i + 1) - used ≤ 8 → (1 * 2 ^ (8 * (i + 1) - used)) % 2 ^ 32 ≡ 2 ^ unused used i
+some used i l =
+    let e : 8 * (i + 1) - used ≡ unused used i = omega arith in
+    shifted (8 * (i + 1) - used) (omega arith) ∙ ap (λ (n : ℕ). 2 ^ n) e
+
 add-end : tie.Need-add-end
 add-end c = search needs
 
--- src/lib.rt:137:15
 mul-end : tie.Need-mul-end
 mul-end c = search needs
 
--- src/lib.rt:139:9
 returns : tie.Need-returns
-returns c = ?
+returns c = none (c .before .args .used) (c .before .args .i) (c .if1 .taken)
 
--- src/lib.rt:141:16
 sub-bits : tie.Need-sub-bits
 sub-bits c = search needs
 
--- src/lib.rt:143:9
 returns-2 : tie.Need-returns-2
-returns-2 c = ?
+returns-2 c = all (c .before .before .args .used) (c .before .before .args .i) (c .if2 .taken)
 
--- src/lib.rt:145:14
 cast-result : tie.Need-cast-result
 cast-result c = search needs
 
--- src/lib.rt:145:5
 shl-result : tie.Need-shl-result
 shl-result c = search needs
 
--- src/lib.rt:133:1
 returns-3 : tie.Need-returns-3
-returns-3 c = ?
+returns-3 c = some (c .before .before .args .used) (c .before .before .args .i) (c .if2 .left)
 
 pub unused-weight-spec : {M : Type 1} → statement M
 unused-weight-spec =

@@ -1,0 +1,16 @@
+use borrow.Author.Needs.{needs}
+use Rattle.vault.proofs.refresh_at.Statement.{statement}
+use Rattle.vault.proofs.refresh_at.Tie as tie
+use Rattle.vault.proofs.refresh_at.Reads as reads
+use Rattle.vault.proofs.refresh_at.Lts as lts
+
+-- src/lib.rt:337:9
+returns : tie.Need-returns
+returns c = ?
+
+-- src/lib.rt:333:1
+returns-2 : tie.Need-returns-2
+returns-2 c = search needs
+
+pub refresh-at-spec : {M : Type 1} → statement M
+refresh-at-spec = tie.close (tie.spec returns returns-2)
