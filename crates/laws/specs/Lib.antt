@@ -6,3 +6,4 @@ pub mod Table
 pub mod Block
 pub mod Linear
 pub mod Row
+pub mod Splice

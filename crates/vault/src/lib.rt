@@ -2,7 +2,6 @@
 use format::Format;
 use refusals::Reason;
 use refusals::Refusal;
-
 ghost use mathlib.Core.Path.{_≡_};
 ghost use mathlib.Core.List.{_++_};
 ghost use Prim.Native.Nat.{_+_, _-_, _*_, _/_, _^_, _≤_, _<_, min};
@@ -366,7 +365,14 @@ fn header_at(clip: u16, picture: u32, refresh: bool, count: usize, part: usize) 
 }
 
 // All blocks of a picture of `count` bits, from the start of `out` on, and how many they are.
-pub fn blocks(clip: u16, picture: u32, refresh: bool, bytes: &[u8], count: usize, out: &mut [u8]) -> usize
+pub fn blocks(
+    clip: u16,
+    picture: u32,
+    refresh: bool,
+    bytes: &[u8],
+    count: usize,
+    out: &mut [u8],
+) -> usize
     requires { ⌜ (picture < pictures) × (count ≤ 262144) × (count ≤ 8 * length (now bytes)) × (512 * partCount count ≤ length (now out)) ⌝ }
     ensures { λ r. ⌜ r ≡ partCount count ⌝ }
     ensures { λ _. ⌜ now (out .exit) ≡ blocksOf clip picture refresh (now (bytes .entry)) count ++ drop (512 * partCount count) (now (out .entry)) ⌝ }

@@ -1,41 +1,42 @@
+-- `vault::kept` meets its contract: what is left of a byte is at most the byte. Assumes nothing.
 use borrow.Author.Needs.{needs}
+use native.Mathlib.Omega.{arith}
+use mathlib.Core.Path.{_≡_, refl, sym, ap, _∙_}
+use Prim.Native.Nat.{ℕ, _+_, _*_, _/_, _^_, _≤_, _<_}
+use native.Mathlib.Nat.{div-mul-le-self}
+use lib.ListN.{getD}
+use lib.Pow.{pow-pos}
+use Rattle.vault.specs.Block.{unused}
+use Rattle.vault.specs.Kept.{kept-past}
 use Rattle.vault.proofs.kept.Statement.{statement}
 use Rattle.vault.proofs.kept.Tie as tie
 use Rattle.vault.proofs.kept.Reads as reads
 use Rattle.vault.proofs.kept.Lts as lts
 use Rattle.vault.proofs.unused_weight.Reads as unused-weight-reads
 
--- src/lib.rt:266:9
 returns : tie.Need-returns
-returns c = ?
+returns c = sym (kept-past (c .before .before .args .bytes .now) (c .before .before .args .count) _ (c .if1 .taken))
 
--- src/lib.rt:268:9
 unused-weight-requires : tie.Need-unused-weight-requires
 unused-weight-requires c κs = search needs
 
--- src/lib.rt:269:6
 shared-slice-read-result : tie.Need-shared-slice-read-result
 shared-slice-read-result c = search needs
 
--- src/lib.rt:269:6
 cast-result : tie.Need-cast-result
-cast-result c = ?
+cast-result c = omega (arith, (c .shared-slice-known2 .given) (c .before .before .before .before .args .i))
 
--- src/lib.rt:269:6
 div-result : tie.Need-div-result
-div-result c = ?
+div-result c = omega (arith, pow-pos (unused (c .before .before .before .before .args .count) (c .before .before .before .before .args .i)), (c .before .unused-weight .ensures))
 
--- src/lib.rt:269:6
 mul-result : tie.Need-mul-result
-mul-result c = ?
+mul-result c = omega (arith, (c .shared-slice-known2 .given) (c .before .before .before .before .args .i), div-mul-le-self (getD (c .before .before .before .before .args .bytes .now) (c .before .before .before .before .args .i) 0) (c .before .unused-weight .result))
 
--- src/lib.rt:269:5
 cast-result-2 : tie.Need-cast-result-2
-cast-result-2 c = ?
+cast-result-2 c = omega (arith, (c .shared-slice-known2 .given) (c .before .before .before .before .args .i), div-mul-le-self (getD (c .before .before .before .before .args .bytes .now) (c .before .before .before .before .args .i) 0) (c .before .unused-weight .result))
 
--- src/lib.rt:261:1
 returns-2 : tie.Need-returns-2
-returns-2 c = ?
+returns-2 c = ap (λ (w : ℕ). getD (c .before .before .before .before .args .bytes .now) (c .before .before .before .before .args .i) 0 / w * w) (c .before .unused-weight .ensures)
 
 pub kept-spec : {M : Type 1} → statement M
 kept-spec =

@@ -1,14 +1,13 @@
+-- `vault::refresh_at` meets its contract. Assumes nothing.
 use borrow.Author.Needs.{needs}
 use Rattle.vault.proofs.refresh_at.Statement.{statement}
 use Rattle.vault.proofs.refresh_at.Tie as tie
 use Rattle.vault.proofs.refresh_at.Reads as reads
 use Rattle.vault.proofs.refresh_at.Lts as lts
 
--- src/lib.rt:337:9
 returns : tie.Need-returns
-returns c = ?
+returns c = rw (c .if1 .taken)
 
--- src/lib.rt:333:1
 returns-2 : tie.Need-returns-2
 returns-2 c = search needs
 

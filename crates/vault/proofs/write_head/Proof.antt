@@ -1,77 +1,72 @@
+-- `vault::write_head` meets its contract: eight stores in a row. Assumes nothing.
 use borrow.Author.Needs.{needs}
+use native.Mathlib.Omega.{arith}
+use mathlib.Core.Path.{_≡_, refl, sym, ap, _∙_}
+use Prim.Native.Nat.{ℕ, _/_, _%_}
+use mathlib.Core.List.{List, [], _∷_}
+use lib.ListN.{length-set}
+use lib.Seq.{sets}
+use Rattle.vault.specs.declared.Header.{Header}
 use Rattle.vault.proofs.write_head.Statement.{statement}
 use Rattle.vault.proofs.write_head.Tie as tie
 use Rattle.vault.proofs.write_head.Reads as reads
 use Rattle.vault.proofs.write_head.Lts as lts
 use Rattle.vault.proofs.marks.Reads as marks-reads
 
--- src/lib.rt:249:9
+abbrev stores : Header → List ℕ → ℕ → List ℕ
+stores h block marks =
+    sets block 0 (h .clip / 256 ∷ h .clip % 256 ∷ h .picture / 256 ∷ h .picture % 256 ∷ h .part ∷ marks ∷ h .used / 256 ∷ h .used % 256 ∷ [])
+
 marks-requires : tie.Need-marks-requires
 marks-requires c κs = search needs
 
--- src/lib.rt:250:16
 cast-block : tie.Need-cast-block
 cast-block c = search needs
 
--- src/lib.rt:250:5
 slice-write-block : tie.Need-slice-write-block
 slice-write-block c = search needs
 
--- src/lib.rt:251:16
 cast-block-2 : tie.Need-cast-block-2
 cast-block-2 c = search needs
 
--- src/lib.rt:251:5
 slice-write-block-2 : tie.Need-slice-write-block-2
 slice-write-block-2 c = search needs
 
--- src/lib.rt:252:16
 cast-block-3 : tie.Need-cast-block-3
 cast-block-3 c = search needs
 
--- src/lib.rt:252:5
 slice-write-block-3 : tie.Need-slice-write-block-3
 slice-write-block-3 c = search needs
 
--- src/lib.rt:253:16
 cast-block-4 : tie.Need-cast-block-4
 cast-block-4 c = search needs
 
--- src/lib.rt:253:5
 slice-write-block-4 : tie.Need-slice-write-block-4
 slice-write-block-4 c = search needs
 
--- src/lib.rt:254:5
 slice-write-block-5 : tie.Need-slice-write-block-5
-slice-write-block-5 c = ?
+slice-write-block-5 c = simp length-set (omega arith)
 
--- src/lib.rt:255:5
 slice-write-block-6 : tie.Need-slice-write-block-6
-slice-write-block-6 c = ?
+slice-write-block-6 c = simp length-set (omega arith)
 
--- src/lib.rt:256:16
 cast-block-5 : tie.Need-cast-block-5
 cast-block-5 c = search needs
 
--- src/lib.rt:256:5
 slice-write-block-7 : tie.Need-slice-write-block-7
-slice-write-block-7 c = ?
+slice-write-block-7 c = simp length-set (omega arith)
 
--- src/lib.rt:257:16
 cast-block-6 : tie.Need-cast-block-6
 cast-block-6 c = search needs
 
--- src/lib.rt:257:5
 slice-write-block-8 : tie.Need-slice-write-block-8
-slice-write-block-8 c = ?
+slice-write-block-8 c = simp length-set (omega arith)
 
--- src/lib.rt:242:1
 same-length : tie.Need-same-length
 same-length c = search needs
 
--- src/lib.rt:242:1
 returns : tie.Need-returns
-returns c = ?
+returns c = ap (stores (c .before .before .args .header) (c .before .before .args .block .now)) (c .marks .ensures)
 
 pub write-head-spec : {M : Type 1} → statement M
 write-head-spec =
