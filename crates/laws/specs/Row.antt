@@ -1,9 +1,9 @@
 -- The list of f 0, f 1, .. f (n - 1). Assumes nothing.
 use mathlib.Core.Path.{_≡_, refl, sym, ap, _∙_}
 use mathlib.Core.Logic.{⊎-elim}
-use mathlib.Core.List.{List, [], _∷_, _++_}
+use mathlib.Core.List.{List, [], _∷_, _++_, append-nil, append-assoc}
 use Prim.Native.Nat.{ℕ, zero, suc, _+_, _≤_, _<_}
-use native.Mathlib.Nat.{eq-or-lt-of-le, le-of-suc-le-suc, not-suc-le-zero}
+use native.Mathlib.Nat.{add-zero, add-suc, eq-or-lt-of-le, le-of-suc-le-suc, not-suc-le-zero}
 use native.Mathlib.Omega.{arith}
 use lib.ListN.{length, getD, length-append, List·getD-append}
 use lib.Seq.{getD-at, ext-getD}
@@ -29,6 +29,13 @@ module _ {A : Type 0} where
     where
       inside : i < n → i < length (row n f)
       inside s = omega (arith, length-row n f)
+
+  pub row-append : (n m : ℕ) (f : ℕ → A) → row n f ++ row m (λ j. f (n + j)) ≡ row (n + m) f
+  unfolding row
+  row-append n zero f = append-nil (row n f) ∙ ap (λ (k : ℕ). row k f) (sym (add-zero n))
+  row-append n (suc m) f =
+      sym (append-assoc (row n f) (row m (λ j. f (n + j))) (f (n + m) ∷ []))
+      ∙ ap (λ (l : List A). l ++ (f (n + m) ∷ [])) (row-append n m f) ∙ ap (λ (k : ℕ). row k f) (sym (add-suc n m))
 
   -- a list is the row of its entries
   pub is-row : (d : A) (s : List A) (n : ℕ) (f : ℕ → A) → length s ≡ n → ((i : ℕ) → i < n → getD s i d ≡ f i) → s ≡ row n f

@@ -3,13 +3,16 @@ use mathlib.Core.Path.{_≡_, refl, sym, ap, _∙_}
 use mathlib.Core.List.{List, [], _∷_, _++_}
 use Prim.Native.Nat.{ℕ, _+_, _≤_}
 use native.Mathlib.Omega.{arith}
-use lib.ListN.{length, take, drop, length-append}
-use lib.Seq.{sets, paste, sets-eq, take-at, drop-append-add, take-all}
+use lib.ListN.{length, getD, take, drop, length-append}
+use lib.Seq.{sets, paste, sets-eq, take-at, drop-append-add, getD-append-add, take-all}
 
 module _ {A : Type 0} where
   -- what lies k places after a beginning of n places
   pub drop-past : (xs r : List A) (n k : ℕ) → length xs ≡ n → drop (n + k) (xs ++ r) ≡ drop k r
   drop-past xs r n k e = ap (λ (m : ℕ). drop (m + k) (xs ++ r)) (sym e) ∙ drop-append-add xs r k
+
+  pub getD-past : (xs r : List A) (n k : ℕ) (d : A) → length xs ≡ n → getD (xs ++ r) (n + k) d ≡ getD r k d
+  getD-past xs r n k d e = ap (λ (m : ℕ). getD (xs ++ r) (m + k) d) (sym e) ∙ getD-append-add xs r k d
 
   pub sets-after : (xs vs r : List A) (n : ℕ) → length xs ≡ n → length vs ≤ length r → sets (xs ++ r) n vs ≡ xs ++ vs ++ drop (length vs) r
   sets-after xs vs r n e l =

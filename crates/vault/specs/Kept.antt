@@ -2,7 +2,8 @@
 use mathlib.Core.Path.{_≡_, refl, sym, ap, _∙_}
 use mathlib.Core.List.{List}
 use Prim.Native.Nat.{ℕ, zero, suc, _+_, _-_, _*_, _/_, _%_, _^_, _≤_, _<_}
-use native.Mathlib.Nat.{zero-div, mul-mod-left, div-add-mod'}
+use native.Mathlib.Nat.{zero-div, mul-mod-left, div-add-mod', div-div-eq-div-mul, mul-div-cancel}
+use lib.Pow.{pow-pos, pow-add}
 use native.Mathlib.Omega.{arith}
 use lib.ListN.{length, getD, List·getD-eq-default}
 use Rattle.laws.specs.Row.{row, length-row, getD-row}
@@ -35,6 +36,19 @@ module _ (bytes : List ℕ) (count : ℕ) where
 
   pub kept-zero : (i : ℕ) → keptByte bytes count i % 2 ^ unused count i ≡ 0
   kept-zero i = mul-mod-left (getD bytes i 0 / 2 ^ unused count i) (2 ^ unused count i)
+
+  -- the bits of the picture are as they were
+  pub kept-high : (i k : ℕ) → unused count i ≤ k → keptByte bytes count i / 2 ^ k ≡ getD bytes i 0 / 2 ^ k
+  kept-high i k l = high (getD bytes i 0) (unused count i) (k - unused count i) k (omega arith)
+    where
+      high : (x u d k : ℕ) → u + d ≡ k → x / 2 ^ u * 2 ^ u / 2 ^ k ≡ x / 2 ^ k
+      high x u d k e =
+          ap (λ (n : ℕ). x / 2 ^ u * 2 ^ u / n) apart ∙ sym (div-div-eq-div-mul (x / 2 ^ u * 2 ^ u) (2 ^ u) (2 ^ d))
+          ∙ ap (λ (n : ℕ). n / 2 ^ d) (mul-div-cancel (x / 2 ^ u) (pow-pos u))
+          ∙ div-div-eq-div-mul x (2 ^ u) (2 ^ d) ∙ ap (λ (n : ℕ). x / n) (sym apart)
+        where
+          apart : 2 ^ k ≡ 2 ^ u * 2 ^ d
+          apart = ap (λ (n : ℕ). 2 ^ n) (sym e) ∙ pow-add 2 u d
 
   pub payload-length : (part : ℕ) → length (payloadAt bytes count part) ≡ 500
   unfolding payloadAt

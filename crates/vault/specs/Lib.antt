@@ -4,4 +4,6 @@ pub mod Parts
 pub mod Kept
 pub mod Made
 pub mod Cut
+pub mod Judged
+pub mod Collected
 pub mod Due

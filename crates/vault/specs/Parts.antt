@@ -2,12 +2,12 @@
 use Prim.Native.Nat.{ℕ, zero, suc, _+_, _-_, _*_, _/_, _^_, min}
 use mathlib.Core.Bool.{Bool}
 use mathlib.Core.List.{List, [], _∷_, _++_}
-use lib.ListN.{getD}
+use lib.ListN.{getD, take, drop}
 use lib.Dec.{eqb}
 use Rattle.laws.specs.Choice.{both}
 use Rattle.laws.specs.Row.{row}
 use Rattle.vault.specs.declared.Header.{Header}
-use Rattle.vault.specs.Block.{unused, blockFor}
+use Rattle.vault.specs.Block.{unused, payloadOf, blockFor}
 
 -- "bits used, 1..4000, exactly 4000 unless last": as many parts as it takes
 abbrev pub partCount : ℕ → ℕ
@@ -43,3 +43,7 @@ firstBlocks clip picture refresh bytes count (suc n) = firstBlocks clip picture 
 -- all blocks of a picture
 abbrev pub blocksOf : ℕ → ℕ → Bool → List ℕ → ℕ → List ℕ
 blocksOf clip picture refresh bytes count = firstBlocks clip picture refresh bytes count (partCount count)
+
+-- "Taken copies 500 payload bytes to 500 times part in the collection buffer"
+unfoldable pub placed : List ℕ → ℕ → List ℕ → List ℕ
+placed block part collection = take (500 * part) collection ++ payloadOf block ++ drop (500 * part + 500) collection
