@@ -2,27 +2,26 @@
 -- collects them, are the picture's bytes. Assumes nothing.
 use mathlib.Core.Path.{_≡_, refl, sym, ap, _∙_}
 use mathlib.Core.Bool.{Bool, true, false}
-use mathlib.Core.List.{List, [], _∷_, _++_, append-assoc}
+use mathlib.Core.List.{List, _++_, append-assoc}
 use Prim.Native.Nat.{ℕ, zero, suc, _+_, _-_, _*_, _/_, _%_, _^_, _≤_, _<_, min}
 use mathlib.Core.Logic.{⊎-elim}
 use native.Mathlib.Nat.{eq-or-lt-of-le, le-of-suc-le-suc, not-suc-le-zero}
 use native.Mathlib.Omega.{arith}
 use lib.ListN.{length, getD, take, drop, length-take, length-drop, length-append}
 use lib.Seq.{getD-take, ext-getD, length-take-le, take-at, drop-at}
-use lib.Dec.{eqb, leb, ltb}
+use lib.Dec.{eqb}
 use borrow.Author.Tests.{le-leb, lt-ltb, eq-eqb, eqb-false}
 use Rattle.laws.specs.Choice.{both, either, opposite}
 use Rattle.laws.specs.Row.{row, getD-row, row-append}
 use Rattle.format.specs.declared.Format.{Format}
 use Rattle.format.specs.declared.Format.the-variants.{Qcif, Cif}
 use Rattle.format.specs.Format.{limit}
-use Rattle.vault.specs.declared.Header.{Header}
 use Rattle.vault.specs.declared.Checked.the-variants.{Good}
-use Rattle.vault.specs.Block.{unused, clear, pictures, greatestPart, refreshRule, usedRule, ruled, payloadOf, checkOf, judgeOf, blockFor}
+use Rattle.vault.specs.Block.{unused, clear, pictures, greatestPart, ruled, payloadOf, checkOf, judgeOf}
 use Rattle.vault.specs.Parts.{partCount, keptByte, payloadAt, headerAt, blockAt, firstBlocks, placed}
 use Rattle.vault.specs.Clear.{clear-all}
 use Rattle.vault.specs.Kept.{kept-zero, kept-clear, payload-length, payload-byte}
-use Rattle.vault.specs.Cut.{at-length, first-length, first-more}
+use Rattle.vault.specs.Cut.{at-length, first-length}
 use Rattle.vault.specs.Judged.{made-good, made-payload, good-judged}
 
 -- a part of a picture within the format's limit

@@ -1,13 +1,12 @@
 -- Laws of the blocks of one picture, one after another. Assumes nothing.
 use mathlib.Core.Path.{_≡_, refl, sym, ap, _∙_}
 use mathlib.Core.Bool.{Bool}
-use mathlib.Core.List.{List, [], _∷_, _++_, append-assoc}
-use Prim.Native.Nat.{ℕ, zero, suc, _+_, _*_, _≤_, _<_}
+use mathlib.Core.List.{List, _++_, append-assoc}
+use Prim.Native.Nat.{ℕ, zero, suc, _+_, _*_}
 use native.Mathlib.Numerals.{add-one}
 use native.Mathlib.Omega.{arith}
 use lib.ListN.{length, take, drop, length-append}
 use lib.Seq.{take-at, drop-at, drop-drop}
-use Rattle.vault.specs.Block.{blockFor}
 use Rattle.vault.specs.Parts.{payloadAt, headerAt, blockAt, firstBlocks}
 use Rattle.vault.specs.Kept.{payload-length}
 use Rattle.vault.specs.Made.{block-length}

@@ -5,9 +5,9 @@ use mathlib.Core.Bool.{Bool, true, false, false≢true}
 use mathlib.Core.List.{List, [], _∷_, _++_, append-assoc}
 use Prim.Native.Nat.{ℕ, _+_, _*_, _/_, _%_, _≤_, _<_}
 use native.Mathlib.Omega.{arith}
-use lib.ListN.{length, getD, take, drop}
+use lib.ListN.{length, take}
 use lib.Seq.{take-at}
-use lib.Dec.{eqb, leb, ltb}
+use lib.Dec.{eqb, leb}
 use borrow.Author.Tests.{leb-true, ltb-true, eqb-true, eq-eqb}
 use Rattle.laws.specs.Choice.{pick, both, either, opposite}
 use Rattle.laws.specs.Splice.{getD-past}
@@ -18,7 +18,7 @@ use Rattle.refusals.specs.Number.{refusal}
 use Rattle.vault.specs.declared.Header.{Header}
 use Rattle.vault.specs.declared.Checked.{Checked}
 use Rattle.vault.specs.declared.Checked.the-variants.{Good, Refused}
-use Rattle.vault.specs.Block.{twoBytes, pairAt, headerOf, payloadOf, zerosOf, checkSumOf, marksOf, usedOf, pictures, greatestPart, clipRule, pictureRule, partRule, refreshRule, usedRule, ruled, clear, follows, sumOf, refusedBy, checkOf, ofClip, judgeOf, bit, marksFor, headBytes, bodyFor, blockFor}
+use Rattle.vault.specs.Block.{twoBytes, pairAt, headerOf, payloadOf, zerosOf, checkSumOf, marksOf, pictures, greatestPart, clipRule, pictureRule, partRule, refreshRule, usedRule, ruled, clear, follows, sumOf, refusedBy, checkOf, ofClip, judgeOf, bit, headBytes, bodyFor, blockFor}
 use Rattle.vault.specs.Made.{before-zeros, body-length, block-length, sum-body}
 
 -- ---- a block that was made

@@ -1,12 +1,12 @@
 -- Laws of a picture's bytes with the bits after its last one zero, and of the payloads cut from them. Assumes nothing.
-use mathlib.Core.Path.{_≡_, refl, sym, ap, _∙_}
+use mathlib.Core.Path.{_≡_, sym, ap, _∙_}
 use mathlib.Core.List.{List}
-use Prim.Native.Nat.{ℕ, zero, suc, _+_, _-_, _*_, _/_, _%_, _^_, _≤_, _<_}
+use Prim.Native.Nat.{ℕ, zero, _+_, _-_, _*_, _/_, _%_, _^_, _≤_, _<_}
 use native.Mathlib.Nat.{zero-div, mul-mod-left, div-add-mod', div-div-eq-div-mul, mul-div-cancel}
 use lib.Pow.{pow-pos, pow-add}
 use native.Mathlib.Omega.{arith}
 use lib.ListN.{length, getD, List·getD-eq-default}
-use Rattle.laws.specs.Row.{row, length-row, getD-row}
+use Rattle.laws.specs.Row.{length-row, getD-row}
 use Rattle.vault.specs.Block.{unused}
 use Rattle.vault.specs.Parts.{keptByte, payloadAt}
 

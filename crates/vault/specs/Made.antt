@@ -1,10 +1,9 @@
 -- Laws of a block made of a header and a payload: its length, and how stores in a block of any bytes make it. Assumes nothing.
-use mathlib.Core.Path.{_≡_, refl, sym, ap, _∙_}
+use mathlib.Core.Path.{_≡_, refl, ap, _∙_}
 use mathlib.Core.List.{List, [], _∷_, _++_, append-nil}
-use Prim.Native.Nat.{ℕ, zero, suc, _+_, _*_, _%_, _≤_, _<_}
-use native.Mathlib.Nat.{le-refl}
+use Prim.Native.Nat.{ℕ, zero, suc, _+_, _*_, _%_, _≤_}
 use native.Mathlib.Omega.{arith}
-use lib.ListN.{length, getD, take, drop, length-append, length-drop, List·getD-append, drop-of-length-le}
+use lib.ListN.{length, drop, length-append, length-drop, List·getD-append, drop-of-length-le}
 use lib.Seq.{sets, paste, sets-eq}
 use Rattle.laws.specs.Splice.{sets-after, paste-after}
 use Rattle.vault.specs.declared.Header.{Header}

@@ -1,7 +1,7 @@
 -- One picture cut into blocks: its N bits, 4000 to a part. Assumes nothing.
 use Prim.Native.Nat.{ℕ, zero, suc, _+_, _-_, _*_, _/_, _^_, min}
 use mathlib.Core.Bool.{Bool}
-use mathlib.Core.List.{List, [], _∷_, _++_}
+use mathlib.Core.List.{List, [], _++_}
 use lib.ListN.{getD, take, drop}
 use lib.Dec.{eqb}
 use Rattle.laws.specs.Choice.{both}

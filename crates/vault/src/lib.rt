@@ -10,7 +10,7 @@ ghost use lib.ListN.{length, drop};
 ghost use lib.Seq.{sets, paste};
 ghost use Rattle.laws.specs.Choice.{both};
 ghost use Rattle.vault.specs.Block.{pairAt, pictureOf, headerOf, pictures, greatestPart, refreshRule, usedRule, ruled as ruledOf, unused, clear, payloadOf, follows as followsOf, sumOf, refusedBy, checkOf, judgeOf, marksFor, headBytes, twoBytes, blockFor};
-ghost use Rattle.vault.specs.Parts.{partCount, keptByte, payloadAt, headerAt, blocksOf};
+ghost use Rattle.vault.specs.Parts.{partCount, keptByte, payloadAt, headerAt, blocksOf, placed};
 ghost use Rattle.vault.specs.Due.{dueOf};
 
 // What a block says before its payload.
@@ -65,7 +65,7 @@ fn header_of(block: &[u8]) -> Header
 
 // The sum of i + 1 times byte i over bytes 0 to 509 stays below 2^32, so one division at the end is enough.
 fn sum(block: &[u8]) -> u32
-    requires { ⌜ 510 ≤ length (now block) ⌝ }
+    requires { ⌜ length (now block) ≡ 512 ⌝ }
     ensures { λ r. ⌜ r ≡ sumOf (now (block .entry)) ⌝ }
 {
     let mut total: u32 = 0;
@@ -389,11 +389,24 @@ pub fn blocks(
     parts
 }
 
+// ---- putting a part where its picture is collected
+
+// The payload goes to 500 times the part.
+pub fn place(block: &[u8], part: u8, collection: &mut [u8])
+    requires { ⌜ (length (now block) ≡ 512) × (500 * part + 500 ≤ length (now collection)) ⌝ }
+    ensures { λ _. ⌜ now (collection .exit) ≡ placed (now (block .entry)) part (now (collection .entry)) ⌝ }
+{
+    let at = 500 * (part as usize);
+    let end = at + 500;
+    bytes::copy(&block[8..508], &mut collection[at..end]);
+}
+
 // ---- the due time
 
 // 1001 times any tick is below 2^53, so both numbers convert exactly.
 pub fn due(tick: u32) -> f64
     ensures { λ r. ⌜ r ≡ dueOf tick ⌝ }
+    ensures exact { λ r. do ⌜ (tick ≡ 3750 → r ≡ (← ⟦125.125f64⟧ .entry)) ⌝ }
 {
     let seconds = 1001 * (tick as u64);
     (seconds as f64) / 30000.0

@@ -1,7 +1,7 @@
 -- `vault::blocks` meets its contract. The loop's invariant: the blocks of the parts passed stand in `out`, and what follows is as it was.
 -- Assumes nothing.
 use native.Mathlib.Omega.{arith}
-use mathlib.Core.Path.{_≡_, refl, sym, ap, _∙_}
+use mathlib.Core.Path.{_≡_, refl, ap, _∙_}
 use Prim.Native.Nat.{ℕ, _+_, _-_, _*_, _≤_, _<_}
 use mathlib.Core.Bool.{Bool}
 use mathlib.Core.List.{List, _++_}
@@ -13,11 +13,6 @@ use Rattle.vault.specs.Parts.{partCount, payloadAt, headerAt, blockAt, f
 use Rattle.vault.specs.Cut.{first-length, one-more}
 use Rattle.vault.proofs.blocks.Statement.{statement}
 use Rattle.vault.proofs.blocks.Tie as tie
-use Rattle.vault.proofs.blocks.Reads as reads
-use Rattle.vault.proofs.blocks.Lts as lts
-use Rattle.vault.proofs.header_at.Reads as header-at-reads
-use Rattle.vault.proofs.part_count.Reads as part-count-reads
-use Rattle.vault.proofs.write_block.Reads as write-block-reads
 
 module _ (clip picture : ℕ) (refresh : Bool) (bytes : List ℕ) (count : ℕ) (out₀ : List ℕ) where
   -- the blocks of the first n parts, stored

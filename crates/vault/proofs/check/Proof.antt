@@ -1,17 +1,10 @@
 -- `vault::check` meets its contract: at each `return` the tests that led there. Assumes nothing.
 use borrow.Author.Needs.{needs}
-use borrow.Author.Tests.{lt-ltb, le-ltb, le-leb, lt-leb, eq-eqb, ne-eqb, not-true, not-false}
-use mathlib.Core.Path.{_≡_, refl, sym, ap, _∙_}
+use borrow.Author.Tests.{eq-eqb, ne-eqb, not-true, not-false}
+use mathlib.Core.Path.{sym, _∙_}
 use Rattle.vault.specs.Block.{checkOf}
 use Rattle.vault.proofs.check.Statement.{statement}
 use Rattle.vault.proofs.check.Tie as tie
-use Rattle.vault.proofs.check.Reads as reads
-use Rattle.vault.proofs.check.Lts as lts
-use Rattle.vault.proofs.follows.Reads as follows-reads
-use Rattle.vault.proofs.header_of.Reads as header-of-reads
-use Rattle.vault.proofs.pair.Reads as pair-reads
-use Rattle.vault.proofs.refused.Reads as refused-reads
-use Rattle.vault.proofs.sum.Reads as sum-reads
 
 refused-requires : tie.Need-refused-requires
 refused-requires c κs = search needs

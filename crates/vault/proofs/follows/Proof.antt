@@ -1,17 +1,11 @@
 -- `vault::follows` meets its contract: at each `return` the tests that led there. Assumes nothing.
 use borrow.Author.Needs.{needs}
-use borrow.Author.Tests.{lt-ltb, le-ltb, le-leb, lt-leb, eq-eqb, ne-eqb, not-true, not-false}
-use mathlib.Core.Path.{_≡_, refl, sym, ap, _∙_}
+use borrow.Author.Tests.{le-leb, lt-leb, not-true, not-false}
+use mathlib.Core.Path.{sym, ap, _∙_}
 use Rattle.vault.specs.declared.Header.{Header}
 use Rattle.vault.specs.Block.{ruled, clear, payloadOf, follows}
 use Rattle.vault.proofs.follows.Statement.{statement}
 use Rattle.vault.proofs.follows.Tie as tie
-use Rattle.vault.proofs.follows.Reads as reads
-use Rattle.vault.proofs.follows.Lts as lts
-use Rattle.vault.proofs.header_of.Reads as header-of-reads
-use Rattle.vault.proofs.pair.Reads as pair-reads
-use Rattle.vault.proofs.ruled.Reads as ruled-reads
-use Rattle.vault.proofs.unused_zero.Reads as unused-zero-reads
 
 header-of-requires : tie.Need-header-of-requires
 header-of-requires c κs = search needs

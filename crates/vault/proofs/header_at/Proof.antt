@@ -1,15 +1,9 @@
 -- `vault::header_at` meets its contract: field by field. Assumes nothing.
 use borrow.Author.Needs.{needs}
-use mathlib.Core.Path.{_≡_, refl, sym, ap, _∙_}
 use Prim.Native.Nat.{_+_}
 use lib.Dec.{eqb}
 use Rattle.vault.proofs.header_at.Statement.{statement}
 use Rattle.vault.proofs.header_at.Tie as tie
-use Rattle.vault.proofs.header_at.Reads as reads
-use Rattle.vault.proofs.header_at.Lts as lts
-use Rattle.vault.proofs.part_count.Reads as part-count-reads
-use Rattle.vault.proofs.refresh_at.Reads as refresh-at-reads
-use Rattle.vault.proofs.used_at.Reads as used-at-reads
 
 part-count-requires : tie.Need-part-count-requires
 part-count-requires c κs = search needs

@@ -1,14 +1,8 @@
 -- `vault::header_of` meets its contract: field by field. Assumes nothing.
 use borrow.Author.Needs.{needs}
-use mathlib.Core.Path.{_≡_, refl, sym, ap, _∙_}
-use lib.ListN.{getD}
 use Rattle.vault.specs.Block.{lastOf, refreshOf, partOf}
 use Rattle.vault.proofs.header_of.Statement.{statement}
 use Rattle.vault.proofs.header_of.Tie as tie
-use Rattle.vault.proofs.header_of.Reads as reads
-use Rattle.vault.proofs.header_of.Lts as lts
-use Rattle.vault.proofs.pair.Reads as pair-reads
-use Rattle.vault.proofs.picture_of.Reads as picture-of-reads
 
 shared-slice-read-marks : tie.Need-shared-slice-read-marks
 shared-slice-read-marks c = search needs

@@ -1,7 +1,7 @@
 -- `vault::judge` meets its contract: by what `check` found. Assumes nothing.
 use borrow.Author.Needs.{needs}
-use borrow.Author.Tests.{lt-ltb, le-ltb, le-leb, lt-leb, eq-eqb, ne-eqb, not-true, not-false}
-use mathlib.Core.Path.{_≡_, refl, sym, ap, _∙_}
+use borrow.Author.Tests.{eq-eqb, ne-eqb}
+use mathlib.Core.Path.{_≡_, sym, ap, _∙_}
 use Prim.Native.Nat.{ℕ}
 use Rattle.refusals.specs.declared.Reason.the-variants.{OtherClip}
 use Rattle.vault.specs.declared.Header.{Header}
@@ -10,10 +10,6 @@ use Rattle.vault.specs.declared.Checked.the-variants.{Good}
 use Rattle.vault.specs.Block.{refusedBy, judgeOf, ofClip}
 use Rattle.vault.proofs.judge.Statement.{statement}
 use Rattle.vault.proofs.judge.Tie as tie
-use Rattle.vault.proofs.judge.Reads as reads
-use Rattle.vault.proofs.judge.Lts as lts
-use Rattle.vault.proofs.check.Reads as check-reads
-use Rattle.vault.proofs.refused.Reads as refused-reads
 
 module _ {clip : ℕ} {found : Checked} where
   own : (header : Header) → Good header ≡ found → header .clip ≡ clip → Good header ≡ ofClip clip found

@@ -1,8 +1,8 @@
 -- `vault::kept` meets its contract: what is left of a byte is at most the byte. Assumes nothing.
 use borrow.Author.Needs.{needs}
 use native.Mathlib.Omega.{arith}
-use mathlib.Core.Path.{_≡_, refl, sym, ap, _∙_}
-use Prim.Native.Nat.{ℕ, _+_, _*_, _/_, _^_, _≤_, _<_}
+use mathlib.Core.Path.{sym, ap}
+use Prim.Native.Nat.{ℕ, _*_, _/_}
 use native.Mathlib.Nat.{div-mul-le-self}
 use lib.ListN.{getD}
 use lib.Pow.{pow-pos}
@@ -10,9 +10,6 @@ use Rattle.vault.specs.Block.{unused}
 use Rattle.vault.specs.Kept.{kept-past}
 use Rattle.vault.proofs.kept.Statement.{statement}
 use Rattle.vault.proofs.kept.Tie as tie
-use Rattle.vault.proofs.kept.Reads as reads
-use Rattle.vault.proofs.kept.Lts as lts
-use Rattle.vault.proofs.unused_weight.Reads as unused-weight-reads
 
 returns : tie.Need-returns
 returns c = sym (kept-past (c .before .before .args .bytes .now) (c .before .before .args .count) _ (c .if1 .taken))

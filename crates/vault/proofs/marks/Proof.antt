@@ -1,8 +1,6 @@
 -- `vault::marks` meets its contract: the four cases. Assumes nothing.
 use Rattle.vault.proofs.marks.Statement.{statement}
 use Rattle.vault.proofs.marks.Tie as tie
-use Rattle.vault.proofs.marks.Reads as reads
-use Rattle.vault.proofs.marks.Lts as lts
 
 returns : tie.Need-returns
 returns c = rw ((c .before .if1 .taken), (c .if2 .taken))

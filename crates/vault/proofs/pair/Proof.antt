@@ -4,8 +4,6 @@ use native.Mathlib.Omega.{arith}
 use Prim.Native.Nat.{_+_}
 use Rattle.vault.proofs.pair.Statement.{statement}
 use Rattle.vault.proofs.pair.Tie as tie
-use Rattle.vault.proofs.pair.Reads as reads
-use Rattle.vault.proofs.pair.Lts as lts
 
 shared-slice-read-result : tie.Need-shared-slice-read-result
 shared-slice-read-result c = search needs

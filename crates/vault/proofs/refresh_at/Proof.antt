@@ -2,8 +2,6 @@
 use borrow.Author.Needs.{needs}
 use Rattle.vault.proofs.refresh_at.Statement.{statement}
 use Rattle.vault.proofs.refresh_at.Tie as tie
-use Rattle.vault.proofs.refresh_at.Reads as reads
-use Rattle.vault.proofs.refresh_at.Lts as lts
 
 returns : tie.Need-returns
 returns c = rw (c .if1 .taken)

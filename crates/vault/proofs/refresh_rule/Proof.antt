@@ -2,8 +2,6 @@
 use borrow.Author.Needs.{needs}
 use Rattle.vault.proofs.refresh_rule.Statement.{statement}
 use Rattle.vault.proofs.refresh_rule.Tie as tie
-use Rattle.vault.proofs.refresh_rule.Reads as reads
-use Rattle.vault.proofs.refresh_rule.Lts as lts
 
 returns : tie.Need-returns
 returns c = rw (c .before .if1 .taken)

@@ -1,15 +1,10 @@
 -- `vault::ruled` meets its contract: at each `return` the tests that led there. Assumes nothing.
 use borrow.Author.Needs.{needs}
-use borrow.Author.Tests.{lt-ltb, le-ltb, le-leb, lt-leb, eq-eqb, ne-eqb, not-true, not-false}
-use mathlib.Core.Path.{_≡_, refl, sym, ap, _∙_}
+use borrow.Author.Tests.{lt-ltb, le-ltb, le-leb, lt-leb, not-true, not-false}
+use mathlib.Core.Path.{sym, _∙_}
 use Rattle.vault.specs.Block.{ruled}
 use Rattle.vault.proofs.ruled.Statement.{statement}
 use Rattle.vault.proofs.ruled.Tie as tie
-use Rattle.vault.proofs.ruled.Reads as reads
-use Rattle.vault.proofs.ruled.Lts as lts
-use Rattle.vault.proofs.greatest_part.Reads as greatest-part-reads
-use Rattle.vault.proofs.refresh_rule.Reads as refresh-rule-reads
-use Rattle.vault.proofs.used_rule.Reads as used-rule-reads
 
 returns : tie.Need-returns
 unfolding ruled

@@ -1,17 +1,15 @@
 -- `vault::sum` meets its contract. The loop's invariant: the total is the exact sum of the terms passed, and at most 130050 a term, so it never wraps.
 -- Assumes nothing.
 use mathlib.Core.Path.{_≡_, refl, sym, ap, _∙_}
-use Prim.Native.Nat.{ℕ, _≤_, _<_, _+_, _*_, _-_, _%_}
+use Prim.Native.Nat.{ℕ, _≤_, _+_, _*_, _-_, _%_}
 use native.Mathlib.Omega.{arith}
-use native.Mathlib.Nat.{mul-le-mul, le-antisymm}
+use native.Mathlib.Nat.{mul-le-mul}
 use native.Mathlib.Numerals.{add-one}
 use mathlib.Core.List.{List}
-use lib.ListN.{length, getD}
+use lib.ListN.{getD}
 use Rattle.vault.specs.Block.{weighted}
 use Rattle.vault.proofs.sum.Statement.{statement}
 use Rattle.vault.proofs.sum.Tie as tie
-use Rattle.vault.proofs.sum.Reads as reads
-use Rattle.vault.proofs.sum.Lts as lts
 
 -- a term is small
 term : (n b : ℕ) → n ≤ 510 → b ≤ 255 → n * b ≤ 130050

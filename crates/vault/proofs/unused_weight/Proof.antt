@@ -1,15 +1,13 @@
 -- `vault::unused_weight` meets its contract: the cases of a byte before, after and around bit number `used`. Assumes nothing.
 use borrow.Author.Needs.{needs}
 use native.Mathlib.Omega.{arith}
-use mathlib.Core.Path.{_≡_, refl, sym, ap, _∙_}
-use Prim.Native.Nat.{ℕ, _+_, _-_, _*_, _%_, _^_, _≤_, _<_, min}
+use mathlib.Core.Path.{_≡_, ap, _∙_}
+use Prim.Native.Nat.{ℕ, _+_, _-_, _*_, _%_, _^_, _≤_, _<_}
 use lib.Dec.{eqb, eqb→eq}
-use Rattle.laws.specs.Table.{allB, all-at}
+use Rattle.laws.specs.Table.{all-at}
 use Rattle.vault.specs.Block.{unused}
 use Rattle.vault.proofs.unused_weight.Statement.{statement}
 use Rattle.vault.proofs.unused_weight.Tie as tie
-use Rattle.vault.proofs.unused_weight.Reads as reads
-use Rattle.vault.proofs.unused_weight.Lts as lts
 
 -- 2 to as many bits as a byte has
 shifted : (n : ℕ) → n < 9 → (1 * 2 ^ n) % 2 ^ 32 ≡ 2 ^ n

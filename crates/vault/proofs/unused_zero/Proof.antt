@@ -1,19 +1,16 @@
 -- `vault::unused_zero` meets its contract. The loop's invariant: the bytes passed have their unused bits zero. Assumes nothing.
 use native.Mathlib.Omega.{arith}
-use mathlib.Core.Path.{_≡_, refl, sym, ap, _∙_}
-use Prim.Native.Nat.{ℕ, _+_, _-_, _*_, _%_, _^_, _≤_, _<_}
-use mathlib.Core.Bool.{true, false}
+use mathlib.Core.Path.{_≡_, sym, _∙_}
+use Prim.Native.Nat.{ℕ, _+_, _-_, _%_, _^_, _<_}
+use mathlib.Core.Bool.{true}
 use mathlib.Core.List.{List}
-use lib.ListN.{length, getD}
+use lib.ListN.{getD}
 use lib.Seq.{getD-take, getD-drop}
 use lib.Pow.{pow-pos}
 use Rattle.vault.specs.Clear.{clear-start, clear-less, clear-fails, clear-more}
 use Rattle.vault.specs.Block.{clear, payloadOf, unused}
 use Rattle.vault.proofs.unused_zero.Statement.{statement}
 use Rattle.vault.proofs.unused_zero.Tie as tie
-use Rattle.vault.proofs.unused_zero.Reads as reads
-use Rattle.vault.proofs.unused_zero.Lts as lts
-use Rattle.vault.proofs.unused_weight.Reads as unused-weight-reads
 
 -- the byte of a turn, with the weight that was asked for
 weighed : (block : List ℕ) (used i w : ℕ) → i < 500 → w ≡ 2 ^ unused used i

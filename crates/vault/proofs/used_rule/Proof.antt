@@ -1,6 +1,6 @@
 -- `vault::used_rule` meets its contract: at each `return` the tests that led there. Assumes nothing.
-use borrow.Author.Tests.{lt-ltb, le-ltb, le-leb, lt-leb, eq-eqb, ne-eqb, not-true, not-false}
-use mathlib.Core.Path.{_≡_, refl, sym, ap, _∙_}
+use borrow.Author.Tests.{le-leb, lt-leb}
+use mathlib.Core.Path.{_≡_}
 use Prim.Native.Nat.{_≤_}
 use mathlib.Core.Bool.{false}
 use lib.Dec.{eqb}
@@ -8,8 +8,6 @@ use Rattle.vault.specs.declared.Header.{Header}
 use Rattle.vault.specs.Block.{usedRule}
 use Rattle.vault.proofs.used_rule.Statement.{statement}
 use Rattle.vault.proofs.used_rule.Tie as tie
-use Rattle.vault.proofs.used_rule.Reads as reads
-use Rattle.vault.proofs.used_rule.Lts as lts
 
 unless-last : (header : Header) → 1 ≤ header .used → header .used ≤ 4000 → header .last ≡ false → eqb (header .used) 4000 ≡ usedRule header
 unless-last header l m e = rw (le-leb 1 (header .used) l, le-leb (header .used) 4000 m, e)

@@ -1,18 +1,13 @@
 -- `vault::write_block` meets its contract: the stores one after another. Assumes nothing.
 use borrow.Author.Needs.{needs}
 use native.Mathlib.Omega.{arith}
-use mathlib.Core.Path.{_≡_, refl, sym, ap, _∙_}
+use mathlib.Core.Path.{sym, ap, _∙_}
 use lib.ListN.{length, length-set}
 use Rattle.vault.specs.Parts.{payloadAt}
 use Rattle.vault.specs.Kept.{payload-length}
 use Rattle.vault.specs.Made.{block-length, stored}
 use Rattle.vault.proofs.write_block.Statement.{statement}
 use Rattle.vault.proofs.write_block.Tie as tie
-use Rattle.vault.proofs.write_block.Reads as reads
-use Rattle.vault.proofs.write_block.Lts as lts
-use Rattle.vault.proofs.write_head.Reads as write-head-reads
-use Rattle.vault.proofs.write_payload.Reads as write-payload-reads
-use Rattle.vault.proofs.write_sum.Reads as write-sum-reads
 
 returns : tie.Need-returns
 returns c = stored (c .before .before .before .before .before .before .before .before .before .before .before .before .before .before .before .args .header) (payloadAt (c .before .before .before .before .before .before .before .before .before .before .before .before .before .before .before .args .bytes .now) (c .before .before .before .before .before .before .before .before .before .before .before .before .before .before .before .args .count) (c .before .before .before .before .before .before .before .before .before .before .before .before .before .before .before .args .header .part)) (payload-length _ _ _) (c .before .before .before .before .before .before .before .before .before .before .before .before .before .before .before .args .block .now) (c .before .before .before .before .before .before .before .before .before .before .before .before .before .before .before .pre .0) _ _ _ (c .before .before .before .before .before .before .before .before .before .before .write-head .ensures) (c .before .before .before .before .before .before .write-payload .ensures) (c .before .before .write-sum .ensures)

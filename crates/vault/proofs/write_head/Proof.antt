@@ -1,7 +1,7 @@
 -- `vault::write_head` meets its contract: eight stores in a row. Assumes nothing.
 use borrow.Author.Needs.{needs}
 use native.Mathlib.Omega.{arith}
-use mathlib.Core.Path.{_≡_, refl, sym, ap, _∙_}
+use mathlib.Core.Path.{ap}
 use Prim.Native.Nat.{ℕ, _/_, _%_}
 use mathlib.Core.List.{List, [], _∷_}
 use lib.ListN.{length-set}
@@ -9,9 +9,6 @@ use lib.Seq.{sets}
 use Rattle.vault.specs.declared.Header.{Header}
 use Rattle.vault.proofs.write_head.Statement.{statement}
 use Rattle.vault.proofs.write_head.Tie as tie
-use Rattle.vault.proofs.write_head.Reads as reads
-use Rattle.vault.proofs.write_head.Lts as lts
-use Rattle.vault.proofs.marks.Reads as marks-reads
 
 abbrev stores : Header → List ℕ → ℕ → List ℕ
 stores h block marks =

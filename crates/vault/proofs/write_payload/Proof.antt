@@ -2,8 +2,8 @@
 -- of the second, where they did as it began.
 -- Assumes nothing.
 use native.Mathlib.Omega.{arith}
-use mathlib.Core.Path.{_≡_, refl, sym, ap, _∙_}
-use Prim.Native.Nat.{ℕ, suc, _+_, _-_, _*_, _/_, _≤_, _<_, min}
+use mathlib.Core.Path.{_≡_, sym, ap, _∙_}
+use Prim.Native.Nat.{ℕ, _+_, _-_, _*_, _/_, _≤_, _<_, min}
 use native.Mathlib.Numerals.{add-one}
 use mathlib.Core.List.{List}
 use lib.ListN.{length, getD, set, length-set}
@@ -12,10 +12,6 @@ use Rattle.vault.specs.Parts.{payloadAt}
 use Rattle.vault.specs.Kept.{kept-whole, payload-length, payload-byte}
 use Rattle.vault.proofs.write_payload.Statement.{statement}
 use Rattle.vault.proofs.write_payload.Tie as tie
-use Rattle.vault.proofs.write_payload.Reads as reads
-use Rattle.vault.proofs.write_payload.Lts as lts
-use Rattle.vault.proofs.kept.Reads as kept-reads
-use Rattle.vault.proofs.whole_bytes.Reads as whole-bytes-reads
 
 -- the first j bytes of a payload, stored
 record Stored (block₀ payload : List ℕ) (block : List ℕ) (j : ℕ) : Type 0 where

@@ -1,14 +1,11 @@
 -- `vault::write_sum` meets its contract: two stores. Assumes nothing.
 use borrow.Author.Needs.{needs}
-use mathlib.Core.Path.{_≡_, refl, sym, ap, _∙_}
+use mathlib.Core.Path.{ap}
 use Prim.Native.Nat.{ℕ}
 use lib.Seq.{sets}
 use Rattle.vault.specs.Block.{twoBytes}
 use Rattle.vault.proofs.write_sum.Statement.{statement}
 use Rattle.vault.proofs.write_sum.Tie as tie
-use Rattle.vault.proofs.write_sum.Reads as reads
-use Rattle.vault.proofs.write_sum.Lts as lts
-use Rattle.vault.proofs.sum.Reads as sum-reads
 
 sum-requires : tie.Need-sum-requires
 sum-requires c κs = search needs
