@@ -6,3 +6,5 @@ pub mod Table
 pub mod Zeros
 pub mod Block
 pub mod Linear
+pub mod Row
+pub mod Splice

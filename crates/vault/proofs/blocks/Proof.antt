@@ -1,0 +1,120 @@
+-- `vault::blocks` meets its contract. The loop's invariant: the blocks of the parts passed stand in `out`, and what follows is as it was.
+-- Assumes nothing.
+use native.Mathlib.Omega.{arith}
+use mathlib.Core.Path.{_≡_, refl, ap, _∙_}
+use Prim.Native.Nat.{ℕ, _+_, _-_, _*_, _≤_, _<_}
+use mathlib.Core.Bool.{Bool}
+use mathlib.Core.List.{List, _++_}
+use lib.ListN.{length, take, drop, length-append, length-take, length-drop}
+use borrow.Rule.Slice.PartMut.{putMid}
+use Rattle.vault.specs.declared.Header.{Header}
+use Rattle.vault.specs.Block.{blockFor}
+use Rattle.vault.specs.Parts.{partCount, payloadAt, headerAt, blockAt, firstBlocks}
+use Rattle.vault.specs.Cut.{first-length, one-more}
+use Rattle.vault.proofs.blocks.Statement.{statement}
+use Rattle.vault.proofs.blocks.Tie as tie
+
+module _ (clip picture : ℕ) (refresh : Bool) (bytes : List ℕ) (count : ℕ) (out₀ : List ℕ) where
+  -- the blocks of the first n parts, stored
+  record Stored (out : List ℕ) (n : ℕ) : Type 0 where
+    is : out ≡ firstBlocks clip picture refresh bytes count n ++ drop (512 * n) out₀
+    long : length out ≡ length out₀
+    within : n ≤ partCount count
+
+  none : Stored out₀ 0
+  unfolding firstBlocks
+  none = record { is = refl; long = refl; within = omega arith }
+
+  more : {out : List ℕ} (n : ℕ) (header : Header) (block : List ℕ) → Stored out n → n < partCount count → 512 * partCount count ≤ length out₀
+      → header ≡ headerAt clip picture refresh count n → block ≡ blockFor header (payloadAt bytes count (header .part))
+      → Stored (putMid (512 * n) (512 * n + 512 - 512 * n) out block) (n + 1)
+  unfolding blockAt
+  more {out} n header block h l r e f = record {
+    is = is;
+    long =
+        ap length is
+        ∙ omega (arith, length-append (firstBlocks clip picture refresh bytes count (n + 1)) (drop (512 * (n + 1)) out₀), first-length clip picture refresh bytes count (n + 1), length-drop (512 * (n + 1)) out₀);
+    within = omega arith;
+  }
+    where
+      part : block ≡ blockAt clip picture refresh bytes count n
+      part = f ∙ ap (λ (h : Header). blockFor h (payloadAt bytes count (h .part))) e
+
+      size : 512 * n + 512 - 512 * n ≡ 512
+      size = omega arith
+
+      is : putMid (512 * n) (512 * n + 512 - 512 * n) out block ≡ firstBlocks clip picture refresh bytes count (n + 1) ++ drop (512 * (n + 1)) out₀
+      is = (λ i. putMid (512 * n) (size i) out (part i)) ∙ one-more clip picture refresh bytes count n out₀ out (h .is)
+
+-- the part that is lent
+lent : (out : List ℕ) (n : ℕ) → 512 * n + 512 ≤ length out → length (take (512 * n + 512 - 512 * n) (drop (512 * n) out)) ≡ 512
+lent out n l = omega (arith, length-take (512 * n + 512 - 512 * n) (drop (512 * n) out), length-drop (512 * n) out)
+
+abbrev Inv-loop : tie.InvT-loop
+Inv-loop clip picture refresh bytes count out₀ parts part₀ out part = Stored clip picture refresh bytes count out₀ out part
+
+abbrev μ-loop : tie.MeasureT-loop
+μ-loop clip picture refresh bytes count out₀ parts part₀ out part = partCount count - part
+
+part-count-requires : tie.Need-part-count-requires Inv-loop μ-loop
+part-count-requires c κs = omega arith
+
+loop-holds : tie.Need-loop-holds Inv-loop μ-loop
+loop-holds c = none _ _ _ _ _ _
+
+mul-at : tie.Need-mul-at Inv-loop μ-loop
+mul-at c = omega (arith, (c .before .before .part-count .ensures))
+
+add-end : tie.Need-add-end Inv-loop μ-loop
+add-end c = omega (arith, (c .before .before .part-count .ensures))
+
+header-at-requires : tie.Need-header-at-requires Inv-loop μ-loop
+header-at-requires c κs = (omega (arith, (c .before .before .part-count .ensures)), omega arith, omega (arith, (c .before .before .part-count .ensures)))
+
+sub-write-block : tie.Need-sub-write-block Inv-loop μ-loop
+sub-write-block c = omega arith
+
+part-write-block-start : tie.Need-part-write-block-start Inv-loop μ-loop
+part-write-block-start c = omega arith
+
+part-write-block-end : tie.Need-part-write-block-end Inv-loop μ-loop
+part-write-block-end c = omega (arith, (c .before .before .loop .inv .long), (c .before .before .before .part-count .ensures))
+
+write-block-requires : tie.Need-write-block-requires Inv-loop μ-loop
+write-block-requires c κs = (lent _ (c .before .before .before .loop .part) (omega (arith, (c .before .before .before .loop .inv .long), (c .before .before .before .before .part-count .ensures))), omega (arith, ap (λ (h : Header). h .picture) (c .before .header-at .ensures)), omega (arith, ap (λ (h : Header). h .part) (c .before .header-at .ensures), (c .before .before .before .before .part-count .ensures)), omega arith)
+
+add-part : tie.Need-add-part Inv-loop μ-loop
+add-part c = omega (arith, (c .before .before .before .before .before .before .before .part-count .ensures))
+
+loop-less : tie.Need-loop-less Inv-loop μ-loop
+loop-less c = omega (arith, (c .before .before .before .before .before .before .before .part-count .ensures))
+
+loop-again : tie.Need-loop-again Inv-loop μ-loop
+loop-again c = more _ _ _ _ _ _ _ _ _ (c .before .before .before .before .before .before .loop .inv) (omega (arith, (c .before .before .before .before .before .before .before .part-count .ensures))) (omega arith) (c .before .before .before .before .header-at .ensures) (c .before .before .write-block .ensures)
+
+same-length : tie.Need-same-length Inv-loop μ-loop
+same-length c = (c .before .loop .inv .long)
+
+returns : tie.Need-returns Inv-loop μ-loop
+returns c = let e : (c .before .loop .part) ≡ partCount (c .before .before .before .before .before .args .count) = omega (arith, (c .before .before .part-count .ensures), (c .before .loop .inv .within)) in ((c .before .before .part-count .ensures), (c .before .loop .inv .is) ∙ ap (λ (n : ℕ). firstBlocks (c .before .before .before .before .before .args .clip) (c .before .before .before .before .before .args .picture) (c .before .before .before .before .before .args .refresh) (c .before .before .before .before .before .args .bytes .now) (c .before .before .before .before .before .args .count) n ++ drop (512 * n) (c .before .before .before .before .before .args .out .now)) e)
+
+pub blocks-spec : {M : Type 1} → statement M
+blocks-spec =
+    tie.close
+    (tie.spec
+    Inv-loop
+    μ-loop
+    part-count-requires
+    loop-holds
+    mul-at
+    add-end
+    header-at-requires
+    sub-write-block
+    part-write-block-start
+    part-write-block-end
+    write-block-requires
+    add-part
+    loop-less
+    loop-again
+    same-length
+    returns)

@@ -1,0 +1,49 @@
+-- `vault::kept` meets its contract: what is left of a byte is at most the byte. Assumes nothing.
+use borrow.Author.Needs.{needs}
+use native.Mathlib.Omega.{arith}
+use mathlib.Core.Path.{sym, ap}
+use Prim.Native.Nat.{ℕ, _*_, _/_}
+use native.Mathlib.Nat.{div-mul-le-self}
+use lib.ListN.{getD}
+use lib.Pow.{pow-pos}
+use Rattle.vault.specs.Block.{unused}
+use Rattle.vault.specs.Kept.{kept-past}
+use Rattle.vault.proofs.kept.Statement.{statement}
+use Rattle.vault.proofs.kept.Tie as tie
+
+returns : tie.Need-returns
+returns c = sym (kept-past (c .before .before .args .bytes .now) (c .before .before .args .count) _ (c .if1 .taken))
+
+unused-weight-requires : tie.Need-unused-weight-requires
+unused-weight-requires c κs = search needs
+
+shared-slice-read-result : tie.Need-shared-slice-read-result
+shared-slice-read-result c = search needs
+
+cast-result : tie.Need-cast-result
+cast-result c = omega (arith, (c .shared-slice-known2 .given) (c .before .before .before .before .args .i))
+
+div-result : tie.Need-div-result
+div-result c = omega (arith, pow-pos (unused (c .before .before .before .before .args .count) (c .before .before .before .before .args .i)), (c .before .unused-weight .ensures))
+
+mul-result : tie.Need-mul-result
+mul-result c = omega (arith, (c .shared-slice-known2 .given) (c .before .before .before .before .args .i), div-mul-le-self (getD (c .before .before .before .before .args .bytes .now) (c .before .before .before .before .args .i) 0) (c .before .unused-weight .result))
+
+cast-result-2 : tie.Need-cast-result-2
+cast-result-2 c = omega (arith, (c .shared-slice-known2 .given) (c .before .before .before .before .args .i), div-mul-le-self (getD (c .before .before .before .before .args .bytes .now) (c .before .before .before .before .args .i) 0) (c .before .unused-weight .result))
+
+returns-2 : tie.Need-returns-2
+returns-2 c = ap (λ (w : ℕ). getD (c .before .before .before .before .args .bytes .now) (c .before .before .before .before .args .i) 0 / w * w) (c .before .unused-weight .ensures)
+
+pub kept-spec : {M : Type 1} → statement M
+kept-spec =
+    tie.close
+    (tie.spec
+    returns
+    unused-weight-requires
+    shared-slice-read-result
+    cast-result
+    div-result
+    mul-result
+    cast-result-2
+    returns-2)

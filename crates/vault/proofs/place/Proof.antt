@@ -1,0 +1,83 @@
+-- `vault::place` meets its contract: the part that was lent is the payload, and what lies before and after it is as it was.
+-- Assumes nothing.
+use borrow.Author.Needs.{needs}
+use Prim.Native.Nat.{ℕ, _+_, _*_, _-_, _≤_}
+use native.Mathlib.Omega.{arith}
+use mathlib.Core.Path.{_≡_, sym, _∙_}
+use mathlib.Core.List.{List, _++_, append-nil, append-assoc}
+use lib.ListN.{length, take, drop, length-take, length-drop, drop-of-length-le}
+use lib.Seq.{length-take-le, take-length}
+use borrow.Rule.Slice.PartMut.{putMid, post-is}
+use Rattle.vault.specs.Block.{payloadOf}
+use Rattle.vault.specs.Parts.{placed}
+use Rattle.vault.proofs.place.Statement.{statement}
+use Rattle.vault.proofs.place.Tie as tie
+
+module _ (block collection : List ℕ) (part : ℕ) (e : length block ≡ 512) (l : 500 * part + 500 ≤ length collection) where
+  payload-long : length (payloadOf block) ≡ 500
+  payload-long = length-take-le 500 (drop 8 block) (omega (arith, length-drop 8 block))
+
+  -- what was lent, and what the copy left there
+  abbrev lent : List ℕ
+  lent = take (500 * part + 500 - 500 * part) (drop (500 * part) collection)
+
+  copied : take (length (payloadOf block)) (payloadOf block) ++ drop (length (payloadOf block)) lent ≡ payloadOf block
+  copied =
+      let short : length lent ≤ length (payloadOf block) = omega (arith, payload-long, length-take (500 * part + 500 - 500 * part) (drop (500 * part) collection)) in
+      rw (take-length, drop-of-length-le lent short, append-nil)
+
+  in-place : (copy : List ℕ) → copy ≡ take (length (payloadOf block)) (payloadOf block) ++ drop (length (payloadOf block)) lent
+      → putMid (500 * part) (500 * part + 500 - 500 * part) collection copy ≡ placed block part collection
+  unfolding placed
+  in-place copy f =
+      (λ i. take (500 * part) collection ++ ((f ∙ copied) i ++ post-is (500 * part) (500 * part + 500) collection (omega arith) i))
+      ∙ sym (append-assoc (take (500 * part) collection) (payloadOf block) (drop (500 * part + 500) collection))
+
+mul-at : tie.Need-mul-at
+mul-at c = search needs
+
+add-end : tie.Need-add-end
+add-end c = search needs
+
+sub-copy : tie.Need-sub-copy
+sub-copy c = search needs
+
+part-copy-start : tie.Need-part-copy-start
+part-copy-start c = search needs
+
+part-copy-end : tie.Need-part-copy-end
+part-copy-end c = search needs
+
+sub-copy-2 : tie.Need-sub-copy-2
+sub-copy-2 c = search needs
+
+part-copy-start-2 : tie.Need-part-copy-start-2
+part-copy-start-2 c = search needs
+
+part-copy-end-2 : tie.Need-part-copy-end-2
+part-copy-end-2 c = search needs
+
+copy-requires : tie.Need-copy-requires
+copy-requires c κs = search needs
+
+same-length : tie.Need-same-length
+same-length c = search needs
+
+returns : tie.Need-returns
+returns c = in-place (c .before .before .before .before .before .before .before .args .block .now) (c .before .before .before .before .before .before .before .args .collection .now) (c .before .before .before .before .before .before .before .args .part) (c .before .before .before .before .before .before .before .pre .0) (c .before .before .before .before .before .before .before .pre .1) _ (c .before .before .copy .ensures .1)
+
+pub place-spec : {M : Type 1} → statement M
+place-spec =
+    tie.close
+    (tie.spec
+    mul-at
+    add-end
+    sub-copy
+    part-copy-start
+    part-copy-end
+    sub-copy-2
+    part-copy-start-2
+    part-copy-end-2
+    copy-requires
+    same-length
+    returns)

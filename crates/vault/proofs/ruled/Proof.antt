@@ -1,0 +1,49 @@
+-- `vault::ruled` meets its contract: at each `return` the tests that led there. Assumes nothing.
+use borrow.Author.Needs.{needs}
+use borrow.Author.Tests.{lt-ltb, le-ltb, le-leb, lt-leb, not-true, not-false}
+use mathlib.Core.Path.{sym, _∙_}
+use Rattle.vault.specs.Block.{ruled}
+use Rattle.vault.proofs.ruled.Statement.{statement}
+use Rattle.vault.proofs.ruled.Tie as tie
+
+returns : tie.Need-returns
+unfolding ruled
+returns c = simp (lt-leb _ _ (c .if1 .taken))
+
+returns-2 : tie.Need-returns-2
+unfolding ruled
+returns-2 c = simp (le-leb _ _ (c .before .before .if1 .left), le-ltb _ _ (c .if2 .taken))
+
+greatest-part-requires : tie.Need-greatest-part-requires
+greatest-part-requires c κs = search needs
+
+returns-3 : tie.Need-returns-3
+unfolding ruled
+returns-3 c = simp (le-leb _ _ (c .before .before .before .before .before .if1 .left), lt-ltb _ _ (c .before .before .before .if2 .left), lt-leb _ _ (rw (c .before .before .greatest-part .ensures) at (c .if3 .taken)))
+
+refresh-rule-requires : tie.Need-refresh-rule-requires
+refresh-rule-requires c κs = search needs
+
+returns-4 : tie.Need-returns-4
+unfolding ruled
+returns-4 c = simp (le-leb _ _ (c .before .before .before .before .before .before .before .if1 .left), lt-ltb _ _ (c .before .before .before .before .before .if2 .left), le-leb _ _ (rw (c .before .before .before .before .greatest-part .ensures) at (c .before .before .if3 .left)), sym (c .before .refresh-rule .ensures) ∙ not-true _ (c .if4 .taken))
+
+used-rule-requires : tie.Need-used-rule-requires
+used-rule-requires c κs = search needs
+
+returns-5 : tie.Need-returns-5
+unfolding ruled
+returns-5 c = simp (le-leb _ _ (c .before .before .before .before .before .before .before .before .if1 .left), lt-ltb _ _ (c .before .before .before .before .before .before .if2 .left), le-leb _ _ (rw (c .before .before .before .before .before .greatest-part .ensures) at (c .before .before .before .if3 .left)), sym (c .before .before .refresh-rule .ensures) ∙ not-false _ (c .before .if4 .left)) (c .used-rule .ensures)
+
+pub ruled-spec : {M : Type 1} → statement M
+ruled-spec =
+    tie.close
+    (tie.spec
+    returns
+    returns-2
+    greatest-part-requires
+    returns-3
+    refresh-rule-requires
+    returns-4
+    used-rule-requires
+    returns-5)

@@ -1,0 +1,75 @@
+-- `vault::unused_zero` meets its contract. The loop's invariant: the bytes passed have their unused bits zero. Assumes nothing.
+use native.Mathlib.Omega.{arith}
+use mathlib.Core.Path.{_≡_, sym, _∙_}
+use Prim.Native.Nat.{ℕ, _+_, _-_, _%_, _^_, _<_}
+use mathlib.Core.Bool.{true}
+use mathlib.Core.List.{List}
+use lib.ListN.{getD}
+use lib.Seq.{getD-take, getD-drop}
+use lib.Pow.{pow-pos}
+use Rattle.vault.specs.Clear.{clear-start, clear-less, clear-fails, clear-more}
+use Rattle.vault.specs.Block.{clear, payloadOf, unused}
+use Rattle.vault.proofs.unused_zero.Statement.{statement}
+use Rattle.vault.proofs.unused_zero.Tie as tie
+
+-- the byte of a turn, with the weight that was asked for
+weighed : (block : List ℕ) (used i w : ℕ) → i < 500 → w ≡ 2 ^ unused used i
+    → getD (payloadOf block) i 0 % 2 ^ unused used i ≡ getD block (8 + i) 0 % w
+weighed block used i w l e = rw (getD-take, getD-drop, e)
+
+abbrev Inv-loop : tie.InvT-loop
+Inv-loop block used i₀ i = clear used (payloadOf block) i ≡ true
+
+abbrev μ-loop : tie.MeasureT-loop
+μ-loop block used i₀ i = 500 - i
+
+loop-holds : tie.Need-loop-holds Inv-loop μ-loop
+loop-holds c = clear-start _ _ _ (omega arith)
+
+unused-weight-requires : tie.Need-unused-weight-requires Inv-loop μ-loop
+unused-weight-requires c κs = omega arith
+
+add-if1 : tie.Need-add-if1 Inv-loop μ-loop
+add-if1 c = omega arith
+
+shared-slice-read-if1 : tie.Need-shared-slice-read-if1 Inv-loop μ-loop
+shared-slice-read-if1 c = omega arith
+
+cast-if1 : tie.Need-cast-if1 Inv-loop μ-loop
+cast-if1 c = omega (arith, (c .shared-slice-known2 .given) (8 + (c .before .before .before .loop .i)))
+
+rem-if1 : tie.Need-rem-if1 Inv-loop μ-loop
+rem-if1 c = omega (arith, pow-pos (unused (c .before .before .before .before .before .args .used) (c .before .before .before .loop .i)), (c .before .unused-weight .ensures))
+
+returns : tie.Need-returns Inv-loop μ-loop
+returns c = sym (clear-fails _ _ (c .before .before .before .before .loop .i) 500 (omega arith) (λ e. c .if1 .taken (sym (weighed (c .before .before .before .before .before .before .args .block .now) _ _ _ (omega arith) (c .before .before .unused-weight .ensures)) ∙ e)))
+
+add-i : tie.Need-add-i Inv-loop μ-loop
+add-i c = omega arith
+
+loop-less : tie.Need-loop-less Inv-loop μ-loop
+loop-less c = omega arith
+
+loop-again : tie.Need-loop-again Inv-loop μ-loop
+loop-again c = clear-more _ _ (c .before .before .before .before .loop .i) (c .before .before .before .before .loop .inv) (weighed (c .before .before .before .before .before .before .args .block .now) _ _ _ (omega arith) (c .before .before .unused-weight .ensures) ∙ c .if1 .left)
+
+returns-2 : tie.Need-returns-2 Inv-loop μ-loop
+returns-2 c = sym (clear-less _ _ 500 (c .before .loop .i) (omega arith) (c .before .loop .inv))
+
+pub unused-zero-spec : {M : Type 1} → statement M
+unused-zero-spec =
+    tie.close
+    (tie.spec
+    Inv-loop
+    μ-loop
+    loop-holds
+    unused-weight-requires
+    add-if1
+    shared-slice-read-if1
+    cast-if1
+    rem-if1
+    returns
+    add-i
+    loop-less
+    loop-again
+    returns-2)

@@ -1,0 +1,47 @@
+-- `vault::write_block` meets its contract: the stores one after another. Assumes nothing.
+use borrow.Author.Needs.{needs}
+use native.Mathlib.Omega.{arith}
+use mathlib.Core.Path.{sym, ap, _∙_}
+use lib.ListN.{length, length-set}
+use Rattle.vault.specs.Parts.{payloadAt}
+use Rattle.vault.specs.Kept.{payload-length}
+use Rattle.vault.specs.Made.{block-length, stored}
+use Rattle.vault.proofs.write_block.Statement.{statement}
+use Rattle.vault.proofs.write_block.Tie as tie
+
+returns : tie.Need-returns
+returns c = stored (c .before .before .before .before .before .before .before .before .before .before .before .before .before .before .before .args .header) (payloadAt (c .before .before .before .before .before .before .before .before .before .before .before .before .before .before .before .args .bytes .now) (c .before .before .before .before .before .before .before .before .before .before .before .before .before .before .before .args .count) (c .before .before .before .before .before .before .before .before .before .before .before .before .before .before .before .args .header .part)) (payload-length _ _ _) (c .before .before .before .before .before .before .before .before .before .before .before .before .before .before .before .args .block .now) (c .before .before .before .before .before .before .before .before .before .before .before .before .before .before .before .pre .0) _ _ _ (c .before .before .before .before .before .before .before .before .before .before .write-head .ensures) (c .before .before .before .before .before .before .write-payload .ensures) (c .before .before .write-sum .ensures)
+
+cast-part : tie.Need-cast-part
+cast-part c = search needs
+
+write-head-requires : tie.Need-write-head-requires
+write-head-requires c κs = search needs
+
+write-payload-requires : tie.Need-write-payload-requires
+write-payload-requires c κs = search needs
+
+slice-write-block : tie.Need-slice-write-block
+slice-write-block c = search needs
+
+slice-write-block-2 : tie.Need-slice-write-block-2
+slice-write-block-2 c = simp length-set (omega arith)
+
+write-sum-requires : tie.Need-write-sum-requires
+write-sum-requires c κs = simp length-set (omega arith)
+
+same-length : tie.Need-same-length
+same-length c = ap length (returns c) ∙ block-length (c .before .before .before .before .before .before .before .before .before .before .before .before .before .before .before .args .header) _ (payload-length _ _ _) ∙ sym (c .before .before .before .before .before .before .before .before .before .before .before .before .before .before .before .pre .0)
+
+pub write-block-spec : {M : Type 1} → statement M
+write-block-spec =
+    tie.close
+    (tie.spec
+    cast-part
+    write-head-requires
+    write-payload-requires
+    slice-write-block
+    slice-write-block-2
+    write-sum-requires
+    same-length
+    returns)

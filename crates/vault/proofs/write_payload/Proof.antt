@@ -1,0 +1,146 @@
+-- `vault::write_payload` meets its contract. The invariant of both loops: the first j bytes of the payload stand in their places;
+-- of the second, where they did as it began.
+-- Assumes nothing.
+use native.Mathlib.Omega.{arith}
+use mathlib.Core.Path.{_≡_, sym, ap, _∙_}
+use Prim.Native.Nat.{ℕ, _+_, _-_, _*_, _/_, _≤_, _<_, min}
+use native.Mathlib.Numerals.{add-one}
+use mathlib.Core.List.{List}
+use lib.ListN.{length, getD, set, length-set}
+use lib.Seq.{paste, paste-zero, paste-suc}
+use Rattle.vault.specs.Parts.{payloadAt}
+use Rattle.vault.specs.Kept.{kept-whole, payload-length, payload-byte}
+use Rattle.vault.proofs.write_payload.Statement.{statement}
+use Rattle.vault.proofs.write_payload.Tie as tie
+
+-- the first j bytes of a payload, stored
+record Stored (block₀ payload : List ℕ) (block : List ℕ) (j : ℕ) : Type 0 where
+  room : length block₀ ≡ 512
+  is : block ≡ paste block₀ 8 payload j
+  long : length block ≡ 512
+  within : j ≤ 500
+
+none : (block₀ payload : List ℕ) → length block₀ ≡ 512 → Stored block₀ payload block₀ 0
+none block₀ payload e = record { room = e; is = paste-zero block₀ 8 payload; long = e; within = omega arith }
+
+one-more : {block₀ payload block : List ℕ} {j : ℕ} (v : ℕ) → length payload ≡ 500
+    → Stored block₀ payload block j → j < 500 → v ≡ getD payload j 0 → Stored block₀ payload (set block (8 + j) v) (j + 1)
+one-more {block₀} {payload} {block} {j} v p h l k = record {
+  room = h .room;
+  is =
+      (λ i. set (h .is i) (8 + j) (k i)) ∙ paste-suc block₀ 8 payload j 0 (omega arith) (omega arith)
+      ∙ ap (paste block₀ 8 payload) (sym (add-one j));
+  long = length-set block (8 + j) v ∙ h .long;
+  within = omega arith;
+}
+
+full : {block₀ payload block : List ℕ} (j : ℕ) → Stored block₀ payload block j → 500 ≤ j → j ≡ 500
+full j h l = omega (arith, h .within)
+
+-- a whole byte of the picture is its payload's
+whole-byte : (bytes : List ℕ) (count part j : ℕ) → j < min 500 (count / 8 - 500 * part)
+    → getD bytes (500 * part + j) 0 ≡ getD (payloadAt bytes count part) j 0
+whole-byte bytes count part j l =
+    sym (payload-byte bytes count part j (omega arith) ∙ kept-whole bytes count (500 * part + j) (omega arith))
+
+abbrev Inv-loop : tie.InvT-loop
+Inv-loop bytes count part block₀ from whole j₀ block j = Stored block₀ (payloadAt bytes count part) block j
+
+abbrev μ-loop : tie.MeasureT-loop
+μ-loop bytes count part block₀ from whole j₀ block j = whole - j
+
+abbrev Inv-loop2 : tie.InvT-loop2
+Inv-loop2 bytes count part block₀ from whole j₀ block j =
+    (entry : List ℕ) → Stored entry (payloadAt bytes count part) block₀ j₀ → Stored entry (payloadAt bytes count part) block j
+
+abbrev μ-loop2 : tie.MeasureT-loop2
+μ-loop2 bytes count part block₀ from whole j₀ block j = 500 - j
+
+mul-from : tie.Need-mul-from Inv-loop μ-loop Inv-loop2 μ-loop2
+mul-from c = omega arith
+
+whole-bytes-requires : tie.Need-whole-bytes-requires Inv-loop μ-loop Inv-loop2 μ-loop2
+whole-bytes-requires c κs = tt
+
+loop-holds : tie.Need-loop-holds Inv-loop μ-loop Inv-loop2 μ-loop2
+loop-holds c = none _ _ (omega arith)
+
+add-block : tie.Need-add-block Inv-loop μ-loop Inv-loop2 μ-loop2
+add-block c = omega arith
+
+shared-slice-read-block : tie.Need-shared-slice-read-block Inv-loop μ-loop Inv-loop2 μ-loop2
+shared-slice-read-block c = omega (arith, (c .before .before .before .whole-bytes .ensures))
+
+add-block-2 : tie.Need-add-block-2 Inv-loop μ-loop Inv-loop2 μ-loop2
+add-block-2 c = omega arith
+
+slice-write-block : tie.Need-slice-write-block Inv-loop μ-loop Inv-loop2 μ-loop2
+slice-write-block c = omega (arith, (c .before .before .before .whole-bytes .ensures), (c .before .before .loop .inv .long))
+
+add-j : tie.Need-add-j Inv-loop μ-loop Inv-loop2 μ-loop2
+add-j c = omega arith
+
+loop-less : tie.Need-loop-less Inv-loop μ-loop Inv-loop2 μ-loop2
+loop-less c = omega arith
+
+loop-again : tie.Need-loop-again Inv-loop μ-loop Inv-loop2 μ-loop2
+loop-again c = one-more _ (payload-length _ _ _) (c .before .before .loop .inv) (omega (arith, (c .before .before .before .whole-bytes .ensures))) (whole-byte (c .before .before .before .before .before .before .args .bytes .now) (c .before .before .before .before .before .before .args .count) (c .before .before .before .before .before .before .args .part) _ (omega (arith, (c .before .before .before .whole-bytes .ensures))))
+
+loop2-holds : tie.Need-loop2-holds Inv-loop μ-loop Inv-loop2 μ-loop2
+loop2-holds c = λ entry h. h
+
+add-kept : tie.Need-add-kept Inv-loop μ-loop Inv-loop2 μ-loop2
+add-kept c = omega arith
+
+kept-requires : tie.Need-kept-requires Inv-loop μ-loop Inv-loop2 μ-loop2
+kept-requires c κs = omega arith
+
+add-block-3 : tie.Need-add-block-3 Inv-loop μ-loop Inv-loop2 μ-loop2
+add-block-3 c = omega arith
+
+slice-write-block-2 : tie.Need-slice-write-block-2 Inv-loop μ-loop Inv-loop2 μ-loop2
+slice-write-block-2 c = omega (arith, ((c .before .before .loop2 .inv) _ (c .before .before .before .before .loop .inv)) .long)
+
+add-j-2 : tie.Need-add-j-2 Inv-loop μ-loop Inv-loop2 μ-loop2
+add-j-2 c = omega arith
+
+loop2-less : tie.Need-loop2-less Inv-loop μ-loop Inv-loop2 μ-loop2
+loop2-less c = omega arith
+
+loop2-again : tie.Need-loop2-again Inv-loop μ-loop Inv-loop2 μ-loop2
+loop2-again c = λ entry h. one-more _ (payload-length _ _ _) ((c .before .before .loop2 .inv) entry h) (omega arith) ((c .kept .ensures) ∙ sym (payload-byte _ _ (c .before .before .before .before .before .before .before .before .args .part) _ (omega arith)))
+
+same-length : tie.Need-same-length Inv-loop μ-loop Inv-loop2 μ-loop2
+same-length c = ((c .before .loop2 .inv) _ (c .before .before .before .loop .inv)) .long ∙ sym (c .before .before .before .before .before .before .before .pre .0)
+
+returns : tie.Need-returns Inv-loop μ-loop Inv-loop2 μ-loop2
+returns c = let s = (c .before .loop2 .inv) _ (c .before .before .before .loop .inv) in s .is ∙ ap (paste (c .before .before .before .before .before .before .before .args .block .now) 8 (payloadAt (c .before .before .before .before .before .before .before .args .bytes .now) (c .before .before .before .before .before .before .before .args .count) (c .before .before .before .before .before .before .before .args .part))) (full _ s (omega arith))
+
+pub write-payload-spec : {M : Type 1} → statement M
+write-payload-spec =
+    tie.close
+    (tie.spec
+    Inv-loop
+    μ-loop
+    Inv-loop2
+    μ-loop2
+    mul-from
+    whole-bytes-requires
+    loop-holds
+    add-block
+    shared-slice-read-block
+    add-block-2
+    slice-write-block
+    add-j
+    loop-less
+    loop-again
+    loop2-holds
+    add-kept
+    kept-requires
+    add-block-3
+    slice-write-block-2
+    add-j-2
+    loop2-less
+    loop2-again
+    same-length
+    returns)

@@ -1,0 +1,166 @@
+-- Document 01, "A block of 512 bytes": its fields and their rules, the check sum, judging a block and making one. A block is its list of bytes.
+-- Assumes nothing.
+use Prim.Native.Nat.{ℕ, zero, suc, _+_, _-_, _*_, _/_, _%_, _^_, min}
+use mathlib.Core.Bool.{Bool, true, false}
+use mathlib.Core.List.{List, [], _∷_, _++_}
+use lib.ListN.{length, getD, take, drop}
+use lib.Dec.{eqb, leb, ltb}
+use Rattle.laws.specs.Choice.{pick, both, either, opposite}
+use Rattle.format.specs.declared.Format.{Format}
+use Rattle.format.specs.declared.Format.the-variants.{Qcif, Cif}
+use Rattle.refusals.specs.declared.Reason.{Reason}
+use Rattle.refusals.specs.declared.Reason.the-variants.{Length, BlockCheck, BlockField, OtherClip}
+use Rattle.refusals.specs.Number.{refusal}
+use Rattle.vault.specs.declared.Header.{Header}
+use Rattle.vault.specs.declared.Checked.{Checked}
+use Rattle.vault.specs.declared.Checked.the-variants.{Good, Refused}
+
+-- ---- the fields
+-- "High byte first": the number of two bytes, and the two bytes of a number
+abbrev pub pairAt : List ℕ → ℕ → ℕ
+pairAt block at = 256 * getD block at 0 + getD block (at + 1) 0
+
+abbrev pub twoBytes : ℕ → List ℕ
+twoBytes n = n / 256 ∷ n % 256 ∷ []
+
+-- "0-1 clip"
+abbrev pub clipOf : List ℕ → ℕ
+clipOf block = pairAt block 0
+
+-- "2-3 picture"
+abbrev pub pictureOf : List ℕ → ℕ
+pictureOf block = pairAt block 2
+
+-- "4 part"
+abbrev pub partOf : List ℕ → ℕ
+partOf block = getD block 4 0
+
+-- "5 marks, bit 0 (the lowest) last part, bit 1 refresh"
+abbrev pub marksOf : List ℕ → ℕ
+marksOf block = getD block 5 0
+
+abbrev pub lastOf : List ℕ → Bool
+lastOf block = eqb (marksOf block % 2) 1
+
+abbrev pub refreshOf : List ℕ → Bool
+refreshOf block = eqb (marksOf block / 2 % 2) 1
+
+-- "6-7 bits used"
+abbrev pub usedOf : List ℕ → ℕ
+usedOf block = pairAt block 6
+
+-- "8-507 payload"
+abbrev pub payloadOf : List ℕ → List ℕ
+payloadOf block = take 500 (drop 8 block)
+
+-- "508-509 zero"
+abbrev pub zerosOf : List ℕ → ℕ
+zerosOf block = pairAt block 508
+
+-- "510-511 the sum"
+abbrev pub checkSumOf : List ℕ → ℕ
+checkSumOf block = pairAt block 510
+
+abbrev pub headerOf : List ℕ → Header
+headerOf block = record {
+  clip = clipOf block;
+  picture = pictureOf block;
+  part = partOf block;
+  last = lastOf block;
+  refresh = refreshOf block;
+  used = usedOf block;
+}
+
+-- ---- their rules
+-- "clip, 1..65535"
+abbrev pub clipRule : Header → Bool
+clipRule header = leb 1 (header .clip)
+
+-- "picture, 0..4095"
+abbrev pub pictures : ℕ
+pictures = 4096
+
+abbrev pub pictureRule : Header → Bool
+pictureRule header = ltb (header .picture) pictures
+
+-- "part (at most 16 QCIF, 65 CIF)"
+abbrev pub greatestPart : Format → ℕ
+greatestPart Qcif = 16
+greatestPart Cif = 65
+
+abbrev pub partRule : Format → Header → Bool
+partRule format header = leb (header .part) (greatestPart format)
+
+-- "refresh, part 0 only"
+abbrev pub refreshRule : Header → Bool
+refreshRule header = either (opposite (header .refresh)) (eqb (header .part) 0)
+
+-- "bits used, 1..4000, exactly 4000 unless last"
+abbrev pub usedRule : Header → Bool
+usedRule header = both (leb 1 (header .used)) (both (leb (header .used) 4000) (either (header .last) (eqb (header .used) 4000)))
+
+unfoldable pub ruled : Format → Header → Bool
+ruled format header =
+    both (clipRule header) (both (pictureRule header) (both (partRule format header) (both (refreshRule header) (usedRule header))))
+
+-- how many of the eight bits of byte i stand after the first `used` bits
+abbrev pub unused : ℕ → ℕ → ℕ
+unused used i = min 8 (8 * (i + 1) - used)
+
+-- "unused bits zero", in the first n bytes of a payload
+unfoldable pub clear : ℕ → List ℕ → ℕ → Bool
+clear used payload zero = true
+clear used payload (suc n) = both (clear used payload n) (eqb (getD payload n 0 % 2 ^ unused used n) 0)
+
+-- every field follows its rule; of the marks "the rest zero"
+unfoldable pub follows : Format → List ℕ → Bool
+follows format block =
+    both (ruled format (headerOf block))
+    (both (leb (marksOf block) 3) (both (clear (usedOf block) (payloadOf block) 500) (eqb (zerosOf block) 0)))
+
+-- ---- the check sum
+-- the sum of (i+1) times byte i over the first n bytes
+unfoldable pub weighted : List ℕ → ℕ → ℕ
+weighted block zero = 0
+weighted block (suc n) = weighted block n + suc n * getD block n 0
+
+-- "the sum of (i+1) times byte i over bytes 0..509, modulo 65,521"
+abbrev pub sumOf : List ℕ → ℕ
+sumOf block = weighted block 510 % 65521
+
+-- ---- judging: "Blocks: 1, 21, 22, 23."
+abbrev pub refusedBy : Reason → Checked
+refusedBy reason = Refused (refusal reason 0)
+
+unfoldable pub checkOf : Format → List ℕ → Checked
+checkOf format block =
+    pick (eqb (length block) 512)
+    (pick (eqb (sumOf block) (checkSumOf block))
+    (pick (follows format block) (Good (headerOf block)) (refusedBy BlockField)) (refusedBy BlockCheck)) (refusedBy Length)
+
+abbrev pub ofClip : ℕ → Checked → Checked
+ofClip clip (Good header) = pick (eqb (header .clip) clip) (Good header) (refusedBy OtherClip)
+ofClip clip (Refused refusal) = Refused refusal
+
+-- the same for a receiver of one clip
+unfoldable pub judgeOf : Format → ℕ → List ℕ → Checked
+judgeOf format clip block = ofClip clip (checkOf format block)
+
+-- ---- making a block of a header and a payload
+abbrev pub bit : Bool → ℕ
+bit true = 1
+bit false = 0
+
+abbrev pub marksFor : Header → ℕ
+marksFor header = bit (header .last) + 2 * bit (header .refresh)
+
+abbrev pub headBytes : Header → List ℕ
+headBytes header =
+    twoBytes (header .clip) ++ twoBytes (header .picture) ++ (header .part ∷ marksFor header ∷ []) ++ twoBytes (header .used)
+
+-- bytes 0 to 509
+unfoldable pub bodyFor : Header → List ℕ → List ℕ
+bodyFor header payload = headBytes header ++ payload ++ (0 ∷ 0 ∷ [])
+
+unfoldable pub blockFor : Header → List ℕ → List ℕ
+blockFor header payload = bodyFor header payload ++ twoBytes (sumOf (bodyFor header payload))

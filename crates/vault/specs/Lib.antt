@@ -1,0 +1,9 @@
+pub mod Block
+pub mod Clear
+pub mod Parts
+pub mod Kept
+pub mod Made
+pub mod Cut
+pub mod Judged
+pub mod Collected
+pub mod Due

@@ -1,0 +1,49 @@
+-- One picture cut into blocks: its N bits, 4000 to a part. Assumes nothing.
+use Prim.Native.Nat.{ℕ, zero, suc, _+_, _-_, _*_, _/_, _^_, min}
+use mathlib.Core.Bool.{Bool}
+use mathlib.Core.List.{List, [], _++_}
+use lib.ListN.{getD, take, drop}
+use lib.Dec.{eqb}
+use Rattle.laws.specs.Choice.{both}
+use Rattle.laws.specs.Row.{row}
+use Rattle.vault.specs.declared.Header.{Header}
+use Rattle.vault.specs.Block.{unused, payloadOf, blockFor}
+
+-- "bits used, 1..4000, exactly 4000 unless last": as many parts as it takes
+abbrev pub partCount : ℕ → ℕ
+partCount count = (count + 3999) / 4000
+
+-- "unused bits zero": byte i with all but the picture's first `count` bits zero
+abbrev pub keptByte : List ℕ → ℕ → ℕ → ℕ
+keptByte bytes count i = getD bytes i 0 / 2 ^ unused count i * 2 ^ unused count i
+
+-- the payload of a part
+unfoldable pub payloadAt : List ℕ → ℕ → ℕ → List ℕ
+payloadAt bytes count part = row 500 (λ j. keptByte bytes count (500 * part + j))
+
+-- a part's header: the last part is marked, and part 0 of a refresh picture
+abbrev pub headerAt : ℕ → ℕ → Bool → ℕ → ℕ → Header
+headerAt clip picture refresh count part = record {
+  clip = clip;
+  picture = picture;
+  part = part;
+  last = eqb (part + 1) (partCount count);
+  refresh = both refresh (eqb part 0);
+  used = min 4000 (count - 4000 * part);
+}
+
+unfoldable pub blockAt : ℕ → ℕ → Bool → List ℕ → ℕ → ℕ → List ℕ
+blockAt clip picture refresh bytes count part = blockFor (headerAt clip picture refresh count part) (payloadAt bytes count part)
+
+-- the first n blocks, one after another
+unfoldable pub firstBlocks : ℕ → ℕ → Bool → List ℕ → ℕ → ℕ → List ℕ
+firstBlocks clip picture refresh bytes count zero = []
+firstBlocks clip picture refresh bytes count (suc n) = firstBlocks clip picture refresh bytes count n ++ blockAt clip picture refresh bytes count n
+
+-- all blocks of a picture
+abbrev pub blocksOf : ℕ → ℕ → Bool → List ℕ → ℕ → List ℕ
+blocksOf clip picture refresh bytes count = firstBlocks clip picture refresh bytes count (partCount count)
+
+-- "Taken copies 500 payload bytes to 500 times part in the collection buffer"
+unfoldable pub placed : List ℕ → ℕ → List ℕ → List ℕ
+placed block part collection = take (500 * part) collection ++ payloadOf block ++ drop (500 * part + 500) collection
