@@ -10,7 +10,7 @@ use lib.IntN.{ℤ, pos}
 use lib.ListN.{length, getD, set, length-set, List·getD-eq-default}
 use lib.Seq.{getD-set-same, getD-set-other}
 use lib.Signed.{mag}
-use mir.Syntax.{w32}
+use mir.Syntax.{w16, w32}
 use mir.Val.{toZ, ofZ}
 use mir.Facts.{toZ-ofZ}
 use borrow.Author.Needs.{sfits-of}
@@ -38,6 +38,9 @@ eight P a b c d e f g h (suc (suc (suc (suc (suc (suc (suc (suc n)))))))) l = ab
 -- what a call gives back is read back from its bits
 pub back32 : (z : ℤ) → mag z < 2 ^ 31 → toZ w32 (ofZ w32 z) ≡ z
 back32 z p = toZ-ofZ {w = w32} (sfits-of p)
+
+pub back16 : (z : ℤ) → mag z < 2 ^ 15 → toZ w16 (ofZ w16 z) ≡ z
+back16 z p = toZ-ofZ {w = w16} (sfits-of p)
 
 -- the first n lines are what g says
 pub record Lines (g : ℕ → ℕ → ℤ) (n : ℕ) (t : List (List ℤ)) : Type 0 where

@@ -1,3 +1,13 @@
+use mathlib.Core.Path.{_≡_, refl, ap, _∙_}
+use Prim.Native.Nat.{ℕ, _+_}
+use native.Mathlib.Nat.{le-refl}
+use lib.IntN.{ℤ, pos, _+ℤ_}
+use mir.Syntax.{w32}
+use mir.Val.{SFits, toZ, ofZ}
+use mir.Facts.{toZ-ofZ}
+use Rattle.laws.specs.Integer.{Low, low-fits, low-add, back}
+use Rattle.laws.specs.Block.{cell}
+use Rattle.transform.proofs.Lines.{eight}
 use borrow.Author.Needs.{needs}
 use Rattle.transform.proofs.inverse.column.Statement.{statement}
 use Rattle.transform.proofs.inverse.column.Tie as tie
@@ -16,9 +26,16 @@ index-1-t8 c = search needs
 index-2-t8 : tie.Need-index-2-t8
 index-2-t8 c = search needs
 
+module _ (s : tie.Start) where
+  number-is : (v : ℕ) → toZ w32 (ofZ w32 (cell (pos 0) (s .args .t .now) v (s .args .x))) ≡ cell (pos 0) (s .args .t .now) v (s .args .x)
+  number-is v = back w32 tt (s .pre .0 v (s .args .x))
+
+  fits-first : SFits w32 (cell (pos 0) (s .args .t .now) 0 (s .args .x) +ℤ pos 8192)
+  fits-first = low-fits tt (low-add {b = pos 8192} {n = 8192} (s .pre .0 0 (s .args .x)) (record { low = le-refl 8192 }))
+
 -- src/inverse.rt:151:9
 add-t9 : tie.Need-add-t9
-add-t9 c = ?
+add-t9 c = rw (number-is (c .before) 0) (fits-first (c .before))
 
 -- src/inverse.rt:152:9
 mul-t12 : tie.Need-mul-t12
@@ -106,7 +123,13 @@ index-2-t51 c = search needs
 
 -- src/inverse.rt:146:1
 returns : tie.Need-returns
-returns c = ?
+returns c =
+    let s = c .before .before .before .before .before .before .before .before in
+    record {
+      size = refl;
+      entries = eight _ (ap (λ (z : ℤ). toZ w32 (ofZ w32 (z +ℤ pos 8192))) (number-is s 0) ∙ toZ-ofZ (fits-first s)) (number-is s 1) (number-is s 2)
+          (number-is s 3) (number-is s 4) (number-is s 5) (number-is s 6) (number-is s 7);
+    }
 
 pub column-spec : {M : Type 1} → statement M
 column-spec =

@@ -20,95 +20,95 @@ Inv-loop t out₀ x₀ out x = ?
 abbrev μ-loop : tie.MeasureT-loop
 μ-loop t out₀ x₀ out x = ?
 
--- src/inverse.rt:207:5
+-- src/inverse.rt:211:5
 loop-holds : tie.Need-loop-holds Inv-loop2 μ-loop2 Inv-loop μ-loop
 loop-holds c = ?
 
--- src/inverse.rt:208:13
+-- src/inverse.rt:212:13
 column-requires : tie.Need-column-requires Inv-loop2 μ-loop2 Inv-loop μ-loop
 column-requires c κs = ?
 
--- src/inverse.rt:209:22
+-- src/inverse.rt:213:22
 highs-requires : tie.Need-highs-requires Inv-loop2 μ-loop2 Inv-loop μ-loop
 highs-requires c κs = ?
 
--- src/inverse.rt:209:17
+-- src/inverse.rt:213:17
 pass-requires : tie.Need-pass-requires Inv-loop2 μ-loop2 Inv-loop μ-loop
 pass-requires c κs = ?
 
--- src/inverse.rt:210:22
+-- src/inverse.rt:214:22
 lows-requires : tie.Need-lows-requires Inv-loop2 μ-loop2 Inv-loop μ-loop
 lows-requires c κs = ?
 
--- src/inverse.rt:210:17
+-- src/inverse.rt:214:17
 pass-requires-2 : tie.Need-pass-requires-2 Inv-loop2 μ-loop2 Inv-loop μ-loop
 pass-requires-2 c κs = ?
 
--- src/inverse.rt:211:9
+-- src/inverse.rt:215:9
 loop2-holds : tie.Need-loop2-holds Inv-loop2 μ-loop2 Inv-loop μ-loop
 loop2-holds c = ?
 
--- src/inverse.rt:212:32
+-- src/inverse.rt:216:32
 mul-finish : tie.Need-mul-finish Inv-loop2 μ-loop2 Inv-loop μ-loop
 mul-finish c = ?
 
--- src/inverse.rt:212:32
+-- src/inverse.rt:216:32
 array-copy-out-finish : tie.Need-array-copy-out-finish Inv-loop2 μ-loop2 Inv-loop μ-loop
 array-copy-out-finish c = ?
 
--- src/inverse.rt:212:38
+-- src/inverse.rt:216:38
 mul-finish-2 : tie.Need-mul-finish-2 Inv-loop2 μ-loop2 Inv-loop μ-loop
 mul-finish-2 c = ?
 
--- src/inverse.rt:212:38
+-- src/inverse.rt:216:38
 array-copy-out-finish-2 : tie.Need-array-copy-out-finish-2 Inv-loop2 μ-loop2 Inv-loop μ-loop
 array-copy-out-finish-2 c = ?
 
--- src/inverse.rt:212:25
+-- src/inverse.rt:216:25
 finish-requires : tie.Need-finish-requires Inv-loop2 μ-loop2 Inv-loop μ-loop
 finish-requires c κs = ?
 
--- src/inverse.rt:212:13
+-- src/inverse.rt:216:13
 mul-t24 : tie.Need-mul-t24 Inv-loop2 μ-loop2 Inv-loop μ-loop
 mul-t24 c = ?
 
--- src/inverse.rt:212:13
+-- src/inverse.rt:216:13
 mul-t27 : tie.Need-mul-t27 Inv-loop2 μ-loop2 Inv-loop μ-loop
 mul-t27 c = ?
 
--- src/inverse.rt:212:13
+-- src/inverse.rt:216:13
 index-1-out : tie.Need-index-1-out Inv-loop2 μ-loop2 Inv-loop μ-loop
 index-1-out c = ?
 
--- src/inverse.rt:212:13
+-- src/inverse.rt:216:13
 index-2-out : tie.Need-index-2-out Inv-loop2 μ-loop2 Inv-loop μ-loop
 index-2-out c = ?
 
--- src/inverse.rt:211:13
+-- src/inverse.rt:215:13
 add-y : tie.Need-add-y Inv-loop2 μ-loop2 Inv-loop μ-loop
 add-y c = ?
 
--- src/inverse.rt:211:9
+-- src/inverse.rt:215:9
 loop2-less : tie.Need-loop2-less Inv-loop2 μ-loop2 Inv-loop μ-loop
 loop2-less c = ?
 
--- src/inverse.rt:211:9
+-- src/inverse.rt:215:9
 loop2-again : tie.Need-loop2-again Inv-loop2 μ-loop2 Inv-loop μ-loop
 loop2-again c = ?
 
--- src/inverse.rt:207:9
+-- src/inverse.rt:211:9
 add-x : tie.Need-add-x Inv-loop2 μ-loop2 Inv-loop μ-loop
 add-x c = ?
 
--- src/inverse.rt:207:5
+-- src/inverse.rt:211:5
 loop-less : tie.Need-loop-less Inv-loop2 μ-loop2 Inv-loop μ-loop
 loop-less c = ?
 
--- src/inverse.rt:207:5
+-- src/inverse.rt:211:5
 loop-again : tie.Need-loop-again Inv-loop2 μ-loop2 Inv-loop μ-loop
 loop-again c = ?
 
--- src/inverse.rt:201:1
+-- src/inverse.rt:205:1
 returns : tie.Need-returns Inv-loop2 μ-loop2 Inv-loop μ-loop
 returns c = ?
 
