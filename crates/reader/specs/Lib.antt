@@ -1,2 +1,3 @@
 pub mod Vector
 pub mod Grammar
+pub mod Answer

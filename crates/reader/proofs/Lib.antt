@@ -1,0 +1,5 @@
+pub mod Read
+pub mod CoefficientsTurn
+pub mod BlocksTurn
+pub mod MacroblocksTurn
+pub mod GroupsTurn

@@ -1,0 +1,55 @@
+-- Laws of reads that are given another meaning. Assumes nothing.
+use mathlib.Core.Path.{_≡_, refl, sym, ap, _∙_}
+use Prim.Native.Nat.{ℕ, zero, suc, _+_, _-_, _<_}
+use lib.ListN.{length}
+use mathlib.Core.List.{List}
+use native.Mathlib.Omega.{arith}
+use Rattle.refusals.specs.declared.Refusal.{Refusal}
+use Rattle.bits.specs.Bits.{Bit, bitsFrom, bitsLeft}
+use Rattle.bits.specs.Read.{Read, got, refused, endless, Reader, next, done}
+use Rattle.reader.specs.Answer.{mapRead}
+
+pub map-next : {A B C : Type 0} (g : B → C) (r : Read A) (k : A → Reader B) → mapRead g (next r k) ≡ next r (λ a bs at. mapRead g (k a bs at))
+map-next g (got a bs at) k = refl
+map-next g (refused r) k = refl
+map-next g endless k = refl
+
+-- what follows a read and only adds to its meaning
+pub map-done : {A B C : Type 0} (g : B → C) (h : A → B) (r : Read A) → mapRead g (next r (λ a. done (h a))) ≡ mapRead (λ a. g (h a)) r
+map-done g h (got a bs at) = refl
+map-done g h (refused r) = refl
+map-done g h endless = refl
+
+-- what a read that was given another meaning had found
+pub was-got : {A B : Type 0} (g : A → B) (r : Read A) (b : B) (cs : List Bit) (q : ℕ) → mapRead g r ≡ got b cs q → (a : A) × (r ≡ got a cs q) × (g a ≡ b)
+was-got g (got a bs at) b cs q e = (a, (λ i. got a (left e i) (place e i)), value e)
+  where
+    left : got (g a) bs at ≡ got b cs q → bs ≡ cs
+    left h = cc
+
+    place : got (g a) bs at ≡ got b cs q → at ≡ q
+    place h = cc
+
+    value : got (g a) bs at ≡ got b cs q → g a ≡ b
+    value h = cc
+was-got g (refused r) b cs q e = let z : _≡_ {A = ℕ} 0 1 = cc in absurd (omega arith)
+was-got g endless b cs q e = let z : _≡_ {A = ℕ} 0 1 = cc in absurd (omega arith)
+
+pub was-refused : {A B : Type 0} (g : A → B) (r : Read A) (x : Refusal) → mapRead g r ≡ refused x → r ≡ refused x
+was-refused g (got a bs at) x e = let z : _≡_ {A = ℕ} 0 1 = cc in absurd (omega arith)
+was-refused g (refused r) x e = let h : r ≡ x = cc in ap (λ (r : Refusal). refused r) h
+was-refused g endless x e = let z : _≡_ {A = ℕ} 0 1 = cc in absurd (omega arith)
+
+-- ---- fuel
+length-from : (s : List ℕ) (a k : ℕ) → length (bitsFrom s a k) ≡ k
+unfolding bitsFrom
+length-from s a zero = refl
+length-from s a (suc k) = ap suc (length-from s (a + 1) k)
+
+pub length-left : (s : List ℕ) (n p : ℕ) → length (bitsLeft s n p) ≡ n - p
+length-left s n p = length-from s p (n - p)
+
+-- there is fuel for a turn
+pub some : (m fuel : ℕ) → m < fuel → (rest : ℕ) × (fuel ≡ suc rest)
+some m zero l = absurd (omega arith)
+some m (suc rest) l = (rest, refl)
