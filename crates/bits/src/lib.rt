@@ -1,1 +1,121 @@
-// Bits of lent bytes: fields, codewords, and the bit writer.
+// Bits of lent bytes, most significant first: fields, codewords by a tree, and the bit writer.
+use refusals::Reason;
+use refusals::Refusal;
+ghost use mathlib.Core.Path.{_≡_};
+ghost use Prim.Native.Nat.{_+_, _*_, _≤_, _<_};
+ghost use lib.ListN.{getD};
+ghost use Rattle.bits.specs.Bits.{value, bitsLeft};
+ghost use Rattle.bits.specs.Read.{field as fieldRead};
+ghost use Rattle.bits.specs.Answer.{Within, asField, asWord};
+ghost use Rattle.bits.specs.Tree.{walkOf};
+
+// "each read gives either a meaning with the next place or a refusal"
+pub enum FieldRead {
+    Got(u32, usize),
+    Refused(Refusal),
+}
+
+pub enum WordRead {
+    Got(u16, usize),
+    Refused(Refusal),
+}
+
+fn joined(b0: u8, b1: u8, b2: u8, b3: u8) -> u32
+    ensures { λ r. ⌜ r ≡ b0 * 16777216 + b1 * 65536 + b2 * 256 + b3 ⌝ }
+{
+    (b0 as u32) * 16777216 + (b1 as u32) * 65536 + (b2 as u32) * 256 + (b3 as u32)
+}
+
+// The byte at j, or 0 past the end.
+fn byte_at(bytes: &[u8], j: usize) -> u8
+    ensures { λ r. ⌜ r ≡ getD (now (bytes .entry)) j 0 ⌝ }
+{
+    if j < bytes.len() { bytes[j] } else { 0 }
+}
+
+// The four bytes from j on as a number: one load where the slice has them.
+fn four(bytes: &[u8], j: usize) -> u32
+    requires { ⌜ j < 2305843009213693952 ⌝ }
+    ensures { λ r. ⌜ r ≡ value (now (bytes .entry)) (j * 8) 32 ⌝ }
+{
+    if j + 4 <= bytes.len() {
+        joined(bytes[j], bytes[j + 1], bytes[j + 2], bytes[j + 3])
+    } else {
+        joined(
+            byte_at(bytes, j),
+            byte_at(bytes, j + 1),
+            byte_at(bytes, j + 2),
+            byte_at(bytes, j + 3),
+        )
+    }
+}
+
+// The 24 bits from `at` as a number, whether they are the picture's or not; 0 past the slice's end.
+pub fn window(bytes: &[u8], at: usize) -> u32
+    ensures { λ r. ⌜ r ≡ value (now (bytes .entry)) at 24 ⌝ }
+{
+    let whole = four(bytes, at / 8);
+    let after = 8 - at % 8;
+    (whole >> after) % 16777216
+}
+
+// A field of `width` bits. "A field with too few bits left is 3, whatever they hold."
+pub fn field(bytes: &[u8], count: usize, at: usize, width: usize) -> FieldRead
+    requires { ⌜ (Within (now bytes) count at) × (width ≤ 24) ⌝ }
+    ensures { λ r. ⌜ asField (now (bytes .entry)) count r ≡ fieldRead width (bitsLeft (now (bytes .entry)) count at) at ⌝ }
+{
+    if width <= count - at {
+        let after = 24 - width;
+        FieldRead::Got(window(bytes, at) >> after, at + width)
+    } else {
+        FieldRead::Refused(Refusal {
+            reason: Reason::BitsEnd,
+            place: at,
+        })
+    }
+}
+
+// The codeword at `at` by a tree of depth 16 at most, over one window: node q has its two children at 2 q and 2 q + 1. A child is 0 (no
+// codeword goes that way), the number of a node below 256, or 256 more than a codeword's meaning.
+pub fn walk(tree: &[u16], root: usize, bytes: &[u8], count: usize, at: usize) -> WordRead
+    requires { ⌜ (Within (now bytes) count at) × (root < 256) ⌝ }
+    ensures { λ r. ⌜ asWord (now (bytes .entry)) count r ≡ walkOf 16 (now (tree .entry)) root (bitsLeft (now (bytes .entry)) count at) at at ⌝ }
+{
+    let bits = window(bytes, at);
+    let left = count - at;
+    let mut node = root;
+    let mut taken: usize = 0;
+    while taken < 16 {
+        if left <= taken {
+            return WordRead::Refused(Refusal {
+                reason: Reason::BitsEnd,
+                place: at,
+            });
+        }
+        let after = 23 - taken;
+        let bit = ((bits >> after) % 2) as usize;
+        let i = node * 2 + bit;
+        if tree.len() <= i {
+            return WordRead::Refused(Refusal {
+                reason: Reason::NoCodeword,
+                place: at,
+            });
+        }
+        let v = tree[i];
+        if v == 0 {
+            return WordRead::Refused(Refusal {
+                reason: Reason::NoCodeword,
+                place: at,
+            });
+        }
+        taken += 1;
+        if 256 <= v {
+            return WordRead::Got(v - 256, at + taken);
+        }
+        node = v as usize;
+    }
+    WordRead::Refused(Refusal {
+        reason: Reason::NoCodeword,
+        place: at,
+    })
+}

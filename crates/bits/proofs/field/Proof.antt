@@ -1,0 +1,49 @@
+use mathlib.Core.Path.{_≡_, sym, ap, _∙_}
+use mathlib.Core.List.{List}
+use Prim.Native.Nat.{ℕ, _+_, _-_, _/_, _^_, _≤_}
+use native.Mathlib.Omega.{arith}
+use Rattle.bits.specs.Bits.{value, bitsLeft}
+use Rattle.bits.specs.Read.{Read, got, field}
+use Rattle.bits.specs.Value.{value-first}
+use Rattle.bits.specs.Fields.{field-at, field-short}
+use borrow.Author.Needs.{needs}
+use Rattle.bits.proofs.field.Statement.{statement}
+use Rattle.bits.proofs.field.Tie as tie
+
+got-is : (s : List ℕ) (n at k w : ℕ) → k ≤ 24 → k ≤ n - at → w ≡ value s at 24 → got (w / 2 ^ (24 - k)) (bitsLeft s n (at + k)) (at + k) ≡ field k (bitsLeft s n at) at
+got-is s n at k w h l e =
+    let t : 24 ≡ k + (24 - k) = omega arith in
+    let v : w / 2 ^ (24 - k) ≡ value s at k = ap (λ (x : ℕ). x / 2 ^ (24 - k)) (e ∙ ap (value s at) t) ∙ value-first s at k (24 - k) in
+    ap (λ (x : ℕ). got x (bitsLeft s n (at + k)) (at + k)) v ∙ sym (field-at s n at k l)
+
+sub-if1 : tie.Need-sub-if1
+sub-if1 c = search needs
+
+sub-after : tie.Need-sub-after
+sub-after c = search needs
+
+window-requires : tie.Need-window-requires
+window-requires c κs = search needs
+
+cast-t10 : tie.Need-cast-t10
+cast-t10 c = search needs
+
+shr-t11 : tie.Need-shr-t11
+shr-t11 c = search needs
+
+add-t12 : tie.Need-add-t12
+add-t12 c = search needs
+
+returns : tie.Need-returns
+returns c =
+    let a = c .before .before .before .args in
+    got-is (a .bytes .now) (a .count) (a .at) (a .width) _ (c .before .before .before .pre .1) (c .before .if1 .taken) (c .window .ensures)
+
+returns-2 : tie.Need-returns-2
+returns-2 c =
+    let a = c .before .before .args in sym (field-short (a .bytes .now) (a .count) (a .at) (a .width) (c .if1 .left))
+
+pub field-spec : {M : Type 1} → statement M
+field-spec =
+    tie.close
+    (tie.spec sub-if1 sub-after window-requires cast-t10 shr-t11 add-t12 returns returns-2)

@@ -1,0 +1,24 @@
+-- What the code's reads answer, as reads of the bits left: a meaning stands with the bits from its next place on, and a refusal is passed on unopened.
+-- Assumes nothing.
+use Prim.Native.Nat.{ℕ, _*_, _≤_}
+use mathlib.Core.List.{List}
+use lib.ListN.{length}
+use Rattle.bits.specs.Bits.{bitsLeft}
+use Rattle.bits.specs.Read.{Read, got, refused}
+use Rattle.bits.specs.declared.FieldRead.{FieldRead}
+use Rattle.bits.specs.declared.FieldRead.the-variants.{Got, Refused}
+use Rattle.bits.specs.declared.WordRead.{WordRead}
+use Rattle.bits.specs.declared.WordRead.the-variants.{Got as Meant, Refused as Not}
+
+-- n bits, which the bytes s have, and a place among them or at their end
+pub record Within (s : List ℕ) (n at : ℕ) : Type 0 where
+  pub lent : n ≤ 8 * length s
+  pub inside : at ≤ n
+
+abbrev pub asField : List ℕ → ℕ → FieldRead → Read ℕ
+asField s n (Got v p) = got v (bitsLeft s n p) p
+asField s n (Refused r) = refused r
+
+abbrev pub asWord : List ℕ → ℕ → WordRead → Read ℕ
+asWord s n (Meant m p) = got m (bitsLeft s n p) p
+asWord s n (Not r) = refused r
