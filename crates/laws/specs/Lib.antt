@@ -4,4 +4,5 @@ pub mod Sum
 pub mod Operation
 pub mod Table
 pub mod Block
+pub mod Rows
 pub mod Linear
