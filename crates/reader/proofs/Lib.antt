@@ -1,4 +1,6 @@
 pub mod Read
+pub mod Told
+pub mod HeadTurn
 pub mod CoefficientsTurn
 pub mod BlocksTurn
 pub mod MacroblocksTurn

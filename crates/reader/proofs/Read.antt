@@ -4,9 +4,10 @@ use Prim.Native.Nat.{ℕ, zero, suc, _+_, _-_, _<_}
 use lib.ListN.{length}
 use mathlib.Core.List.{List}
 use native.Mathlib.Omega.{arith}
+use Rattle.refusals.specs.declared.Reason.{Reason}
 use Rattle.refusals.specs.declared.Refusal.{Refusal}
 use Rattle.bits.specs.Bits.{Bit, bitsFrom, bitsLeft}
-use Rattle.bits.specs.Read.{Read, got, refused, endless, Reader, next, done}
+use Rattle.bits.specs.Read.{Read, got, refused, endless, bad, Reader, next, done, Judged, fine, against, judged}
 use Rattle.reader.specs.Answer.{mapRead}
 
 pub map-next : {A B C : Type 0} (g : B → C) (r : Read A) (k : A → Reader B) → mapRead g (next r k) ≡ next r (λ a bs at. mapRead g (k a bs at))
@@ -53,3 +54,15 @@ length-left s n p = length-from s p (n - p)
 pub some : (m fuel : ℕ) → m < fuel → (rest : ℕ) × (fuel ≡ suc rest)
 some m zero l = absurd (omega arith)
 some m (suc rest) l = (rest, refl)
+
+-- ---- what a rule makes of a read
+module _ {A B : Type 0} (r : Reader A) (rule : A → Judged B) (bs : List Bit) (at : ℕ) where
+  pub judged-refused : (x : Refusal) → r bs at ≡ refused x → judged r rule bs at ≡ refused x
+  judged-refused x e = rw e
+
+  module _ (a : A) (cs : List Bit) (q : ℕ) (e : r bs at ≡ got a cs q) where
+    pub judged-fine : (b : B) → rule a ≡ fine b → judged r rule bs at ≡ got b cs q
+    judged-fine b h = rw (e, h)
+
+    pub judged-against : (reason : Reason) → rule a ≡ against reason → judged r rule bs at ≡ bad reason at
+    judged-against reason h = rw (e, h)

@@ -3,7 +3,14 @@ use Prim.Native.Nat.{ℕ, _*_, _≤_, _<_}
 use mathlib.Core.List.{List}
 use lib.IntN.{ℤ, pos, _-ℤ_}
 use lib.Seq.{sets}
+use Rattle.refusals.specs.declared.Reason.the-variants.{BitsEnd}
+use Rattle.refusals.specs.declared.Refusal.{Refusal}
+use Rattle.refusals.specs.Number.{refusal}
 use Rattle.bits.specs.Bits.{bitsLeft}
+use Rattle.bits.specs.declared.FieldRead.{FieldRead}
+use Rattle.bits.specs.declared.FieldRead.the-variants.{Got as GotField, Refused as NoField}
+use Rattle.bits.specs.declared.WordRead.{WordRead}
+use Rattle.bits.specs.declared.WordRead.the-variants.{Got as GotWord, Refused as NoWord}
 use Rattle.bits.specs.Read.{Read, got, refused, endless}
 use Rattle.description.specs.Vector.{Vector, Before}
 use Rattle.description.specs.Value.{Macroblock, after}
@@ -28,6 +35,19 @@ abbrev pub mapRead : {A B : Type 0} → (A → B) → Read A → Read B
 mapRead g (got a bs at) = got (g a) bs at
 mapRead g (refused r) = refused r
 mapRead g endless = endless
+
+-- the refusal of a read that was refused; of another it is never asked
+abbrev pub fieldRefusal : FieldRead → Refusal
+fieldRefusal (GotField v p) = refusal BitsEnd p
+fieldRefusal (NoField r) = r
+
+abbrev pub wordRefusal : WordRead → Refusal
+wordRefusal (GotWord m p) = refusal BitsEnd p
+wordRefusal (NoWord r) = r
+
+abbrev pub placeRefusal : PlaceRead → Refusal
+placeRefusal (At p) = refusal BitsEnd p
+placeRefusal (Refused r) = r
 
 -- a layer's answer, with what it left in the buffers; on a refusal that is not said
 abbrev pub leaving : {A : Type 0} → List ℕ → ℕ → PlaceRead → A → Read A

@@ -1,6 +1,8 @@
 // Picture, group, macroblock and block layers: from bits to a description, or the refusal.
 use refusals::Refusal;
 
+mod head;
+
 // Where a layer ended, or the refusal.
 pub enum PlaceRead {
     At(usize),
