@@ -2,3 +2,4 @@ pub mod Vector
 pub mod Value
 pub mod Flat
 pub mod Valid
+pub mod Proper

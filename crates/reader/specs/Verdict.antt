@@ -1,0 +1,94 @@
+-- What reading a picture can give, for any bytes and any N: an accepted picture is proper and took all N bits; a refusal is of document 01's table, at a place up to N. Assumes nothing.
+use Prim.Native.Nat.{ℕ, suc, _+_, _*_, _≤_, _<_}
+use mathlib.Core.Path.{_≡_, refl, sym, ap, subst, _∙_}
+use mathlib.Core.Bool.{Bool, true, false}
+use mathlib.Core.List.{List, [], _∷_}
+use native.Mathlib.Omega.{arith}
+use native.Mathlib.Nat.{le-refl}
+use lib.Dec.{T, leb, ltb, leb→le, le→leb}
+use lib.ListN.{length}
+use borrow.Author.Tests.{le-ltb, ltb-false}
+use Rattle.laws.specs.Choice.{pick, both, either, both-left, both-right, both-make}
+use Rattle.refusals.specs.declared.Reason.{Reason}
+use Rattle.refusals.specs.declared.Reason.the-variants.{Count}
+use Rattle.refusals.specs.declared.Refusal.{Refusal}
+use Rattle.refusals.specs.Number.{number}
+use Rattle.bits.specs.Bits.{Bit, source}
+use Rattle.bits.specs.Read.{Read, got, refused, endless, bad}
+use Rattle.bits.specs.Count.{length-source}
+use Rattle.bits.specs.Logic.{Holds, holds-weaker, ofBits, Fair, Took}
+use Rattle.format.specs.Format.{limit}
+use Rattle.format.specs.declared.Format.{Format}
+use Rattle.description.specs.Value.{Picture}
+use Rattle.description.specs.Proper.{Proper}
+use Rattle.reader.specs.Grammar.{picture, reading}
+use Rattle.reader.specs.Layers.{picture-reads}
+
+-- the reasons that reading a picture gives: numbers 2 to 13 of document 01's table
+abbrev pub ofReading : Reason → Bool
+ofReading reason = both (leb 2 (number reason)) (leb (number reason) 13)
+
+-- a refusal of reading N bits: its place is a bit of the picture or the end of it, "and 0 for .. 2"
+pub record Refuses (n : ℕ) (r : Refusal) : Type 0 where
+  pub listed : T (ofReading (r .reason))
+  pub within : r .place ≤ n
+  pub counted : r .reason ≡ Count → r .place ≡ 0
+
+-- an accepted picture of N bits
+pub record Accepts (f : Format) (n : ℕ) (p : Picture) (left : List Bit) (at : ℕ) : Type 0 where
+  pub proper : Proper f p
+  pub allRead : left ≡ []
+  pub exactly : at ≡ n
+
+-- reading the bits themselves never counts them
+two : (reason : Reason) → reason ≡ Count → 3 ≤ number reason → ⊥
+unfolding number
+two reason c l = let e : number reason ≡ 2 = ap number c in omega arith
+
+fair-refuses : (n end : ℕ) (r : Refusal) → end ≡ n → Fair end r → Refuses n r
+fair-refuses n end r e h =
+    let low : 3 ≤ number (r .reason) = leb→le 3 (number (r .reason)) (both-left (leb 3 (number (r .reason))) (leb (number (r .reason)) 13) (h .listed)) in
+    record {
+      listed = both-make (leb 2 (number (r .reason))) (leb (number (r .reason)) 13) (le→leb 2 (number (r .reason)) (omega arith))
+          (both-right (leb 3 (number (r .reason))) (leb (number (r .reason)) 13) (h .listed));
+      within = omega arith;
+      counted = λ c. absurd (two (r .reason) c low);
+    }
+
+picture-gives : (f : Format) (s : List ℕ) (n : ℕ) → n ≤ 8 * length s → Holds (Accepts f n) (Refuses n) (picture f (source s n) 0)
+picture-gives f s n h =
+    let all : length (source s n) ≡ n = length-source s n h in
+    holds-weaker (picture f (source s n) 0) (λ p left at g. accepts p left at g all) (λ r q. fair-refuses n (0 + length (source s n)) r (omega arith) q)
+    (picture-reads f .gives (source s n) 0 (le-refl (suc (length (source s n)))))
+  where
+    accepts : (p : Picture) (left : List Bit) (at : ℕ) → Took 20 (source s n) 0 left at × (Proper f p × (left ≡ [])) → length (source s n) ≡ n → Accepts f n p left at
+    accepts p left at g all =
+        let none : length left ≡ 0 = ap length (g .1 .1) in
+        record { proper = g .1 .0; allRead = g .1 .1; exactly = omega (arith, g .0) }
+
+pub reading-gives : (f : Format) (s : List ℕ) (n : ℕ) → Holds (Accepts f n) (Refuses n) (reading f s n)
+unfolding reading number
+reading-gives f s n = from (ltb (8 * length s) n) (ltb (limit f) n) (ltb-false (8 * length s) n)
+  where
+    from : (above over : Bool) → (above ≡ false → n ≤ 8 * length s) → Holds (Accepts f n) (Refuses n) (pick (either above over) (bad Count 0) (picture f (source s n) 0))
+    from true over h = record { listed = tt; within = omega arith; counted = λ c. refl }
+    from false true h = record { listed = tt; within = omega arith; counted = λ c. refl }
+    from false false h = picture-gives f s n (h refl)
+
+-- ---- the theorems
+-- No stand-in for fuel remains: the loops of the grammar end
+pub never-endless : (f : Format) (s : List ℕ) (n : ℕ) → reading f s n ≡ endless → ⊥
+never-endless f s n e = subst (λ (x : Read Picture). Holds (Accepts f n) (Refuses n) x) e (reading-gives f s n)
+
+-- "Refusal numbers": every refusal of reading has a number from 2 to 13, and a place up to N
+pub refused-by-table : (f : Format) (s : List ℕ) (n : ℕ) (r : Refusal) → reading f s n ≡ refused r → Refuses n r
+refused-by-table f s n r e = subst (λ (x : Read Picture). Holds (Accepts f n) (Refuses n) x) e (reading-gives f s n)
+
+-- "the picture is exactly those bits": what is accepted took all N, and is proper
+pub accepted-whole : (f : Format) (s : List ℕ) (n : ℕ) (p : Picture) (left : List Bit) (at : ℕ) → reading f s n ≡ got p left at → Accepts f n p left at
+accepted-whole f s n p left at e = subst (λ (x : Read Picture). Holds (Accepts f n) (Refuses n) x) e (reading-gives f s n)
+
+-- "the picture is exactly those bits": two slices that hold N bits, and the same, are read alike
+pub only-bits : (f : Format) (s t : List ℕ) (n : ℕ) → n ≤ 8 * length s → n ≤ 8 * length t → source s n ≡ source t n → reading f s n ≡ reading f t n
+unfolding reading
+only-bits f s t n hs ht h = rw (le-ltb (8 * length s) n hs, le-ltb (8 * length t) n ht, h)
