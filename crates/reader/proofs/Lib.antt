@@ -1,6 +1,7 @@
 pub mod Read
 pub mod Told
 pub mod HeadTurn
+pub mod HeaderSteps
 pub mod CoefficientsTurn
 pub mod BlocksTurn
 pub mod MacroblocksTurn

@@ -1,6 +1,7 @@
 -- Laws of reads that are given another meaning. Assumes nothing.
-use mathlib.Core.Path.{_≡_, refl, sym, ap, _∙_}
-use Prim.Native.Nat.{ℕ, zero, suc, _+_, _-_, _<_}
+use mathlib.Core.Path.{_≡_, refl, sym, ap, subst, _∙_}
+use Prim.Native.Nat.{ℕ, zero, suc, _+_, _-_, _≤_, _<_}
+use native.Mathlib.Nat.{le-refl}
 use lib.ListN.{length}
 use mathlib.Core.List.{List}
 use native.Mathlib.Omega.{arith}
@@ -8,6 +9,7 @@ use Rattle.refusals.specs.declared.Reason.{Reason}
 use Rattle.refusals.specs.declared.Refusal.{Refusal}
 use Rattle.bits.specs.Bits.{Bit, bitsFrom, bitsLeft}
 use Rattle.bits.specs.Read.{Read, got, refused, endless, bad, Reader, next, done, Judged, fine, against, judged}
+use Rattle.bits.specs.Logic.{Reads, Gives}
 use Rattle.reader.specs.Answer.{mapRead}
 
 pub map-next : {A B C : Type 0} (g : B → C) (r : Read A) (k : A → Reader B) → mapRead g (next r k) ≡ next r (λ a bs at. mapRead g (k a bs at))
@@ -66,3 +68,16 @@ module _ {A B : Type 0} (r : Reader A) (rule : A → Judged B) (bs : List Bit) (
 
     pub judged-against : (reason : Reason) → rule a ≡ against reason → judged r rule bs at ≡ bad reason at
     judged-against reason h = rw (e, h)
+
+-- ---- where a read that was got ends, and what it gives
+pub record Onward {A : Type 0} (least : ℕ) (Good : A → List Bit → Type 0) (n p : ℕ) (a : A) (left : List Bit) (q : ℕ) : Type 0 where
+  pub ahead : p + least ≤ q
+  pub inside : q ≤ n
+  pub good : Good a left
+
+pub onward : {A : Type 0} {least : ℕ} {Good : A → List Bit → Type 0} {r : Reader A} (s : List ℕ) (n p : ℕ) (a : A) (q : ℕ)
+    → Reads (suc (length (bitsLeft s n p))) least Good r → p ≤ n → r (bitsLeft s n p) p ≡ got a (bitsLeft s n q) q → Onward least Good n p a (bitsLeft s n q) q
+onward {least = least} {Good} {r} s n p a q h l e =
+    let g : Gives least Good (bitsLeft s n p) p (got a (bitsLeft s n q) q) = subst (λ x. Gives least Good (bitsLeft s n p) p x) e (h .gives (bitsLeft s n p) p (le-refl (suc (length (bitsLeft s n p))))) in
+    let t = g .0 in
+    record { ahead = t .onward; inside = omega (arith, t .end, length-left s n p, length-left s n q); good = g .1 }

@@ -1,8 +1,10 @@
 // The headers of a picture and of a group: rows of fields under their rules.
-use crate::{HeaderRead, PlaceRead};
+use crate::HeaderRead;
+use crate::PlaceRead;
 use bits::FieldRead;
 use format::Format;
-use refusals::{Reason, Refusal};
+use refusals::Reason;
+use refusals::Refusal;
 ghost use mathlib.Core.Path.{_≡_};
 ghost use Prim.Native.Nat.{_≤_, _<_};
 ghost use Rattle.bits.specs.Bits.{bitsLeft};
@@ -38,7 +40,14 @@ pub fn place_refusal(read: PlaceRead) -> Refusal
 }
 
 // A field that must hold this value, else it is refused for this reason.
-fn expect(bytes: &[u8], count: usize, at: usize, width: usize, value: u32, reason: Reason) -> PlaceRead
+fn expect(
+    bytes: &[u8],
+    count: usize,
+    at: usize,
+    width: usize,
+    value: u32,
+    reason: Reason,
+) -> PlaceRead
     requires { ⌜ (Within (now bytes) count at) × (width ≤ 24) ⌝ }
     ensures { λ r. ⌜ leaving (now (bytes .entry)) count r value ≡ expected width value reason (bitsLeft (now (bytes .entry)) count at) at ⌝ }
 {

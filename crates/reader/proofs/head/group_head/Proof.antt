@@ -1,3 +1,18 @@
+use Rattle.reader.proofs.Told.{no-field, no-place, is-field, is-place, within-next}
+use Rattle.refusals.specs.declared.Reason.the-variants.{NoStartCode, OtherGroup}
+use Rattle.reader.specs.Layers as layers
+use mathlib.Core.Path.{_≡_, refl, sym, ap, _∙_}
+use native.Mathlib.Omega.{arith}
+use Rattle.bits.specs.Read.{refused}
+use Rattle.bits.specs.Answer.{asField}
+use Rattle.reader.specs.Answer.{leaving, fieldRefusal, placeRefusal}
+use Rattle.reader.specs.declared.PlaceRead.{PlaceRead}
+use Rattle.reader.proofs.Told.{no-field, no-place}
+use Rattle.reader.proofs.Read.{onward}
+use Rattle.reader.specs.Layers.{expect-reads, quantiser-reads, spares-reads}
+use Rattle.refusals.specs.Number.{number}
+use Rattle.bits.specs.Logic.{reads-field}
+use Rattle.reader.proofs.HeaderSteps.{group-no-number, group-no-quantiser, group-no-spares, group-whole}
 use borrow.Author.Needs.{needs}
 use Rattle.reader.proofs.head.group_head.Statement.{statement}
 use Rattle.reader.proofs.head.group_head.Tie as tie
@@ -27,11 +42,12 @@ place-refusal-requires c κs = search needs
 
 -- src/head.rt:128:9
 returns : tie.Need-returns
-returns c = ?
+returns c = ap refused (c .place-refusal .ensures) ∙ sym (group-no-number _ _ _ _ (no-place _ _ (c .before .before .before .before .before .args .number) (c .before .before .before .expect .result) (c .before .before .match .keys2) (c .before .before .before .expect .ensures)))
 
 -- src/head.rt:130:9
 quantiser-requires : tie.Need-quantiser-requires
-quantiser-requires c κs = ?
+unfolding number
+quantiser-requires c κs = within-next _ _ _ _ _ (layers.expect-reads 4 (c .before .before .before .before .before .args .number) OtherGroup tt) (c .before .before .before .before .before .pre) (is-place _ _ _ _ _ (c .before .before .before .expect .ensures) (c .before .named .given .1))
 
 -- src/head.rt:131:24
 enum-known-quantised : tie.Need-enum-known-quantised
@@ -47,11 +63,12 @@ field-refusal-requires c κs = search needs
 
 -- src/head.rt:132:9
 returns-2 : tie.Need-returns-2
-returns-2 c = ?
+returns-2 c = ap refused (c .field-refusal .ensures) ∙ sym (group-no-quantiser _ _ _ _ _ (is-place _ _ _ _ _ (c .before .before .before .before .before .before .before .expect .ensures) (c .before .before .before .before .before .named .given .1)) _ (no-field _ _ (c .before .before .before .quantiser .result) (c .before .before .match2 .keys2) (c .before .before .before .quantiser .ensures)))
 
 -- src/head.rt:134:9
 spares-requires : tie.Need-spares-requires
-spares-requires c κs = ?
+unfolding number
+spares-requires c κs = within-next _ _ _ _ _ (layers.quantiser-reads) (within-next _ _ _ _ _ (layers.expect-reads 4 (c .before .before .before .before .before .before .before .before .before .args .number) OtherGroup tt) (c .before .before .before .before .before .before .before .before .before .pre) (is-place _ _ _ _ _ (c .before .before .before .before .before .before .before .expect .ensures) (c .before .before .before .before .before .named .given .1))) (is-field _ _ _ _ _ (c .before .before .before .quantiser .ensures) (c .before .quantised .given .1))
 
 -- src/head.rt:135:23
 enum-known-dropped : tie.Need-enum-known-dropped
@@ -67,11 +84,11 @@ place-refusal-requires-2 c κs = search needs
 
 -- src/head.rt:136:9
 returns-3 : tie.Need-returns-3
-returns-3 c = ?
+returns-3 c = ap refused (c .place-refusal2 .ensures) ∙ sym (group-no-spares _ _ _ _ _ (is-place _ _ _ _ _ (c .before .before .before .before .before .before .before .before .before .before .before .expect .ensures) (c .before .before .before .before .before .before .before .before .before .named .given .1)) _ _ _ (is-field _ _ _ _ _ (c .before .before .before .before .before .before .before .quantiser .ensures) (c .before .before .before .before .before .quantised .given .1)) _ (no-place _ _ 0 (c .before .before .before .spares .result) (c .before .before .match3 .keys2) (c .before .before .before .spares .ensures)))
 
 -- src/head.rt:122:1
 returns-4 : tie.Need-returns-4
-returns-4 c = ?
+returns-4 c = sym (group-whole _ _ _ _ _ (is-place _ _ _ _ _ (c .before .before .before .before .before .before .before .before .before .before .before .expect .ensures) (c .before .before .before .before .before .before .before .before .before .named .given .1)) _ _ _ (is-field _ _ _ _ _ (c .before .before .before .before .before .before .before .quantiser .ensures) (c .before .before .before .before .before .quantised .given .1)) _ _ (is-place _ _ _ _ _ (c .before .before .before .spares .ensures) (c .before .dropped .given .1)))
 
 pub group-head-spec : {M : Type 1} → statement M
 group-head-spec =

@@ -1,3 +1,13 @@
+use mathlib.Core.Path.{_≡_, refl, sym, ap, _∙_}
+use native.Mathlib.Omega.{arith}
+use Rattle.bits.specs.Read.{refused}
+use Rattle.reader.proofs.Told.{no-field, no-place, is-field, is-place, within-next}
+use Rattle.refusals.specs.declared.Reason.the-variants.{NoStartCode, OtherGroup}
+use Rattle.refusals.specs.Number.{number}
+use Rattle.bits.specs.Logic.{reads-field}
+use Rattle.reader.specs.Layers as layers
+use Rattle.reader.proofs.Read.{onward}
+use Rattle.reader.proofs.HeaderSteps.{header-no-start, header-no-reference, header-no-type, header-no-spares, header-no-group, header-whole}
 use borrow.Author.Needs.{needs}
 use Rattle.reader.proofs.head.header.Statement.{statement}
 use Rattle.reader.proofs.head.header.Tie as tie
@@ -28,11 +38,12 @@ place-refusal-requires c κs = search needs
 
 -- src/head.rt:148:9
 returns : tie.Need-returns
-returns c = ?
+returns c = ap refused (c .place-refusal .ensures) ∙ sym (header-no-start _ _ _ _ (no-place _ _ 16 (c .before .before .before .expect .result) (c .before .before .match .keys2) (c .before .before .before .expect .ensures)))
 
 -- src/head.rt:150:9
 field-requires : tie.Need-field-requires
-field-requires c κs = ?
+unfolding number
+field-requires c κs = (within-next _ _ _ _ _ (layers.expect-reads 20 16 NoStartCode tt) (c .before .before .before .before .before .pre) (is-place _ _ _ _ _ (c .before .before .before .expect .ensures) (c .before .started .given .1)), search needs)
 
 -- src/head.rt:151:24
 enum-known-reference : tie.Need-enum-known-reference
@@ -48,11 +59,12 @@ field-refusal-requires c κs = search needs
 
 -- src/head.rt:152:9
 returns-2 : tie.Need-returns-2
-returns-2 c = ?
+returns-2 c = ap refused (c .field-refusal .ensures) ∙ sym (header-no-reference _ _ _ _ _ (is-place _ _ _ _ _ (c .before .before .before .before .before .before .before .expect .ensures) (c .before .before .before .before .before .started .given .1)) _ (no-field _ _ (c .before .before .before .field .result) (c .before .before .match2 .keys2) (c .before .before .before .field .ensures)))
 
 -- src/head.rt:154:9
 ptype-requires : tie.Need-ptype-requires
-ptype-requires c κs = ?
+unfolding number
+ptype-requires c κs = within-next _ _ _ _ _ (reads-field 5) (within-next _ _ _ _ _ (layers.expect-reads 20 16 NoStartCode tt) (c .before .before .before .before .before .before .before .before .before .pre) (is-place _ _ _ _ _ (c .before .before .before .before .before .before .before .expect .ensures) (c .before .before .before .before .before .started .given .1))) (is-field _ _ _ _ _ (c .before .before .before .field .ensures) (c .before .reference .given .1))
 
 -- src/head.rt:155:24
 enum-known-kind : tie.Need-enum-known-kind
@@ -68,11 +80,12 @@ field-refusal-requires-2 c κs = search needs
 
 -- src/head.rt:156:9
 returns-3 : tie.Need-returns-3
-returns-3 c = ?
+returns-3 c = ap refused (c .field-refusal2 .ensures) ∙ sym (header-no-type _ _ _ _ _ (is-place _ _ _ _ _ (c .before .before .before .before .before .before .before .before .before .before .before .expect .ensures) (c .before .before .before .before .before .before .before .before .before .started .given .1)) _ _ _ (is-field _ _ _ _ _ (c .before .before .before .before .before .before .before .field .ensures) (c .before .before .before .before .before .reference .given .1)) _ (no-field _ _ (c .before .before .before .ptype .result) (c .before .before .match3 .keys2) (c .before .before .before .ptype .ensures)))
 
 -- src/head.rt:158:9
 spares-requires : tie.Need-spares-requires
-spares-requires c κs = ?
+unfolding number
+spares-requires c κs = within-next _ _ _ _ _ (layers.ptype-reads (c .before .before .before .before .before .before .before .before .before .before .before .before .before .args .format)) (within-next _ _ _ _ _ (reads-field 5) (within-next _ _ _ _ _ (layers.expect-reads 20 16 NoStartCode tt) (c .before .before .before .before .before .before .before .before .before .before .before .before .before .pre) (is-place _ _ _ _ _ (c .before .before .before .before .before .before .before .before .before .before .before .expect .ensures) (c .before .before .before .before .before .before .before .before .before .started .given .1))) (is-field _ _ _ _ _ (c .before .before .before .before .before .before .before .field .ensures) (c .before .before .before .before .before .reference .given .1))) (is-field _ _ _ _ _ (c .before .before .before .ptype .ensures) (c .before .kind .given .1))
 
 -- src/head.rt:159:23
 enum-known-dropped : tie.Need-enum-known-dropped
@@ -88,11 +101,12 @@ place-refusal-requires-2 c κs = search needs
 
 -- src/head.rt:160:9
 returns-4 : tie.Need-returns-4
-returns-4 c = ?
+returns-4 c = ap refused (c .place-refusal2 .ensures) ∙ sym (header-no-spares _ _ _ _ _ (is-place _ _ _ _ _ (c .before .before .before .before .before .before .before .before .before .before .before .before .before .before .before .expect .ensures) (c .before .before .before .before .before .before .before .before .before .before .before .before .before .started .given .1)) _ _ _ (is-field _ _ _ _ _ (c .before .before .before .before .before .before .before .before .before .before .before .field .ensures) (c .before .before .before .before .before .before .before .before .before .reference .given .1)) _ _ _ (is-field _ _ _ _ _ (c .before .before .before .before .before .before .before .ptype .ensures) (c .before .before .before .before .before .kind .given .1)) _ (no-place _ _ 0 (c .before .before .before .spares .result) (c .before .before .match4 .keys2) (c .before .before .before .spares .ensures)))
 
 -- src/head.rt:162:9
 expect-requires-2 : tie.Need-expect-requires-2
-expect-requires-2 c κs = ?
+unfolding number
+expect-requires-2 c κs = (within-next _ _ _ _ _ (layers.spares-reads) (within-next _ _ _ _ _ (layers.ptype-reads (c .before .before .before .before .before .before .before .before .before .before .before .before .before .before .before .before .before .args .format)) (within-next _ _ _ _ _ (reads-field 5) (within-next _ _ _ _ _ (layers.expect-reads 20 16 NoStartCode tt) (c .before .before .before .before .before .before .before .before .before .before .before .before .before .before .before .before .before .pre) (is-place _ _ _ _ _ (c .before .before .before .before .before .before .before .before .before .before .before .before .before .before .before .expect .ensures) (c .before .before .before .before .before .before .before .before .before .before .before .before .before .started .given .1))) (is-field _ _ _ _ _ (c .before .before .before .before .before .before .before .before .before .before .before .field .ensures) (c .before .before .before .before .before .before .before .before .before .reference .given .1))) (is-field _ _ _ _ _ (c .before .before .before .before .before .before .before .ptype .ensures) (c .before .before .before .before .before .kind .given .1))) (is-place _ _ _ _ _ (c .before .before .before .spares .ensures) (c .before .dropped .given .1)), search needs)
 
 -- src/head.rt:163:23
 enum-known-group : tie.Need-enum-known-group
@@ -108,19 +122,21 @@ place-refusal-requires-3 c κs = search needs
 
 -- src/head.rt:164:9
 returns-5 : tie.Need-returns-5
-returns-5 c = ?
+returns-5 c = ap refused (c .place-refusal3 .ensures) ∙ sym (header-no-group _ _ _ _ _ (is-place _ _ _ _ _ (c .before .before .before .before .before .before .before .before .before .before .before .before .before .before .before .before .before .before .before .expect .ensures) (c .before .before .before .before .before .before .before .before .before .before .before .before .before .before .before .before .before .started .given .1)) _ _ _ (is-field _ _ _ _ _ (c .before .before .before .before .before .before .before .before .before .before .before .before .before .before .before .field .ensures) (c .before .before .before .before .before .before .before .before .before .before .before .before .before .reference .given .1)) _ _ _ (is-field _ _ _ _ _ (c .before .before .before .before .before .before .before .before .before .before .before .ptype .ensures) (c .before .before .before .before .before .before .before .before .before .kind .given .1)) _ _ (is-place _ _ _ _ _ (c .before .before .before .before .before .before .before .spares .ensures) (c .before .before .before .before .before .dropped .given .1)) _ (no-place _ _ 1 (c .before .before .before .expect2 .result) (c .before .before .match5 .keys2) (c .before .before .before .expect2 .ensures)))
 
 -- src/head.rt:166:21
 cast-t23 : tie.Need-cast-t23
-cast-t23 c = ?
+unfolding number
+cast-t23 c = let g = onward _ _ _ _ _ (reads-field 5) ((within-next _ _ _ _ _ (layers.expect-reads 20 16 NoStartCode tt) (c .before .before .before .before .before .before .before .before .before .before .before .before .before .before .before .before .before .before .before .before .before .pre) (is-place _ _ _ _ _ (c .before .before .before .before .before .before .before .before .before .before .before .before .before .before .before .before .before .before .before .expect .ensures) (c .before .before .before .before .before .before .before .before .before .before .before .before .before .before .before .before .before .started .given .1))) .inside) (is-field _ _ _ _ _ (c .before .before .before .before .before .before .before .before .before .before .before .before .before .before .before .field .ensures) (c .before .before .before .before .before .before .before .before .before .before .before .before .before .reference .given .1)) in omega (arith, g .good)
 
 -- src/head.rt:166:31
 cast-t24 : tie.Need-cast-t24
-cast-t24 c = ?
+unfolding number
+cast-t24 c = let g = onward _ _ _ _ _ (layers.ptype-reads (c .before .before .before .before .before .before .before .before .before .before .before .before .before .before .before .before .before .before .before .before .before .args .format)) ((within-next _ _ _ _ _ (reads-field 5) (within-next _ _ _ _ _ (layers.expect-reads 20 16 NoStartCode tt) (c .before .before .before .before .before .before .before .before .before .before .before .before .before .before .before .before .before .before .before .before .before .pre) (is-place _ _ _ _ _ (c .before .before .before .before .before .before .before .before .before .before .before .before .before .before .before .before .before .before .before .expect .ensures) (c .before .before .before .before .before .before .before .before .before .before .before .before .before .before .before .before .before .started .given .1))) (is-field _ _ _ _ _ (c .before .before .before .before .before .before .before .before .before .before .before .before .before .before .before .field .ensures) (c .before .before .before .before .before .before .before .before .before .before .before .before .before .reference .given .1))) .inside) (is-field _ _ _ _ _ (c .before .before .before .before .before .before .before .before .before .before .before .ptype .ensures) (c .before .before .before .before .before .before .before .before .before .kind .given .1)) in omega (arith, g .good)
 
 -- src/head.rt:142:1
 returns-6 : tie.Need-returns-6
-returns-6 c = ?
+returns-6 c = sym (header-whole _ _ _ _ _ (is-place _ _ _ _ _ (c .before .before .before .before .before .before .before .before .before .before .before .before .before .before .before .before .before .before .before .expect .ensures) (c .before .before .before .before .before .before .before .before .before .before .before .before .before .before .before .before .before .started .given .1)) _ _ _ (is-field _ _ _ _ _ (c .before .before .before .before .before .before .before .before .before .before .before .before .before .before .before .field .ensures) (c .before .before .before .before .before .before .before .before .before .before .before .before .before .reference .given .1)) _ _ _ (is-field _ _ _ _ _ (c .before .before .before .before .before .before .before .before .before .before .before .ptype .ensures) (c .before .before .before .before .before .before .before .before .before .kind .given .1)) _ _ (is-place _ _ _ _ _ (c .before .before .before .before .before .before .before .spares .ensures) (c .before .before .before .before .before .dropped .given .1)) _ _ (is-place _ _ _ _ _ (c .before .before .before .expect2 .ensures) (c .before .group .given .1)))
 
 pub header-spec : {M : Type 1} → statement M
 header-spec =

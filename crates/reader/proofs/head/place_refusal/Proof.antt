@@ -1,3 +1,5 @@
+use mathlib.Core.Path.{sym, ap}
+use Rattle.reader.specs.Answer.{placeRefusal}
 use borrow.Author.Needs.{needs}
 use Rattle.reader.proofs.head.place_refusal.Statement.{statement}
 use Rattle.reader.proofs.head.place_refusal.Tie as tie
@@ -14,7 +16,7 @@ enum-known-read-2 c = search needs
 
 -- src/head.rt:28:1
 returns : tie.Need-returns
-returns c = ?
+returns c = sym (ap placeRefusal (c .before .read .given .1))
 
 -- src/head.rt:28:1
 returns-2 : tie.Need-returns-2
