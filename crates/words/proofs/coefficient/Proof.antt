@@ -1,0 +1,126 @@
+use native.Mathlib.Omega.{arith}
+use Rattle.laws.specs.Choice.{pick}
+use Rattle.bits.specs.Value.{value-lt}
+use Rattle.bits.specs.Windows.{Decided}
+use Rattle.words.specs.Tables.{firstTable5, laterTable5}
+use Rattle.words.proofs.Outcomes.{Says, known, short, none, end, escape-bad, escape-good, pair-level, pair-plus, pair-minus}
+use borrow.Author.Needs.{needs}
+use Rattle.words.proofs.coefficient.Statement.{statement}
+use Rattle.words.proofs.coefficient.Tie as tie
+
+-- what is known of the entry
+look : (c : tie.After-looked-up)
+    → let a = c .before .before .before .args in
+    (d : Decided) × Says (pick (a .first) firstTable5 laterTable5) (a .bytes .now) (a .count) (a .at) (c .looked-up .result) d
+look c =
+    let a = c .before .before .before .args in
+    rw (c .looked-up .ensures) (known (a .tables .now) (a .bytes .now) (a .count) (a .at) (c .before .window .result) (a .first) (c .before .before .before .pre .0) (c .before .window .ensures))
+
+window-requires : tie.Need-window-requires
+window-requires c κs = search needs
+
+looked-up-requires : tie.Need-looked-up-requires
+looked-up-requires c κs = omega (arith, c .window .ensures, value-lt (c .before .before .args .bytes .now) (c .before .before .args .at) 24)
+
+cast-size : tie.Need-cast-size
+cast-size c = search needs
+
+sub-if1 : tie.Need-sub-if1
+sub-if1 c = search needs
+
+returns : tie.Need-returns
+returns c = let k = look (c .before) in short (c .before .before .before .before .pre .1 .inside) (k .0) (k .1) (c .if1 .taken)
+
+returns-2 : tie.Need-returns-2
+returns-2 c = let k = look (c .before .before) in none (c .before .before .before .before .before .pre .1 .inside) (k .0) (k .1) (c .before .if1 .left) (c .if2 .taken)
+
+add-t23 : tie.Need-add-t23
+add-t23 c = search needs
+
+returns-3 : tie.Need-returns-3
+returns-3 c = let k = look (c .before .before .before) in end (c .before .before .before .before .before .before .pre .1 .inside) (k .0) (k .1) (c .before .before .if1 .left) (c .if3 .taken)
+
+sub-after : tie.Need-sub-after
+sub-after c = let k = look (c .before .before .before) in omega (arith, k .1 .small)
+
+cast-taken : tie.Need-cast-taken
+cast-taken c = search needs
+
+shr-taken : tie.Need-shr-taken
+shr-taken c = search needs
+
+returns-4 : tie.Need-returns-4
+returns-4 c = let k = look (c .before .before .before .before .before) in escape-bad (c .before .before .before .before .before .before .before .before .pre .1 .inside) _ (c .before .before .before .before .before .before .window .ensures) (k .0) (k .1) (c .before .before .before .before .if1 .left) (c .before .if4 .taken) (c .if5 .taken)
+
+cast-t29 : tie.Need-cast-t29
+cast-t29 c = search needs
+
+cast-t30 : tie.Need-cast-t30
+cast-t30 c = search needs
+
+add-t31 : tie.Need-add-t31
+add-t31 c = search needs
+
+returns-5 : tie.Need-returns-5
+returns-5 c = let k = look (c .before .before .before .before .before) in escape-good (c .before .before .before .before .before .before .before .before .pre .1 .inside) _ (c .before .before .before .before .before .before .window .ensures) (k .0) (k .1) (c .before .before .before .before .if1 .left) (c .before .if4 .taken) (c .if5 .left)
+
+sub-pair : tie.Need-sub-pair
+sub-pair c = search needs
+
+cast-t34 : tie.Need-cast-t34
+cast-t34 c = search needs
+
+cast-t35 : tie.Need-cast-t35
+cast-t35 c = search needs
+
+add-t36 : tie.Need-add-t36
+add-t36 c = search needs
+
+cast-t38 : tie.Need-cast-t38
+cast-t38 c = search needs
+
+sub-t39 : tie.Need-sub-t39
+sub-t39 c = search needs
+
+cast-t40 : tie.Need-cast-t40
+cast-t40 c = let k = look (c .before .before .before .before .before) in omega (arith, pair-level (c .before .before .before .before .before .before .before .before .pre .1 .inside) (c .before .before .before .if2 .left) (c .before .before .if3 .left) (c .before .if4 .left) (k .0) (k .1))
+
+add-t41 : tie.Need-add-t41
+add-t41 c = search needs
+
+returns-6 : tie.Need-returns-6
+returns-6 c = let k = look (c .before .before .before .before .before) in pair-plus (c .before .before .before .before .before .before .before .before .pre .1 .inside) _ (c .before .before .before .before .before .before .window .ensures) (k .0) (k .1) (c .before .before .before .before .if1 .left) (c .before .before .before .if2 .left) (c .before .before .if3 .left) (c .before .if4 .left) (c .if6 .taken)
+
+returns-7 : tie.Need-returns-7
+returns-7 c = let k = look (c .before .before .before .before .before) in pair-minus (c .before .before .before .before .before .before .before .before .pre .1 .inside) _ (c .before .before .before .before .before .before .window .ensures) (k .0) (k .1) (c .before .before .before .before .if1 .left) (c .before .before .before .if2 .left) (c .before .before .if3 .left) (c .before .if4 .left) (c .if6 .left)
+
+pub coefficient-spec : {M : Type 1} → statement M
+coefficient-spec =
+    tie.close
+    (tie.spec
+    window-requires
+    looked-up-requires
+    cast-size
+    sub-if1
+    returns
+    returns-2
+    add-t23
+    returns-3
+    sub-after
+    cast-taken
+    shr-taken
+    returns-4
+    cast-t29
+    cast-t30
+    add-t31
+    returns-5
+    sub-pair
+    cast-t34
+    cast-t35
+    add-t36
+    cast-t38
+    sub-t39
+    cast-t40
+    add-t41
+    returns-6
+    returns-7)
