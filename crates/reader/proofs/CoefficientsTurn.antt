@@ -13,11 +13,21 @@ use Rattle.bits.specs.Bits.{Bit, bitsLeft}
 use Rattle.bits.specs.Read.{Read, got, refused, bad, endless, loop}
 use Rattle.bits.specs.Code.{Entry}
 use Rattle.words.specs.Tables.{firstTable5, laterTable5}
-use Rattle.words.specs.Words.{Coefficient, coefficient, sent, over, coefficientRead}
+use Rattle.words.specs.Words.{Coefficient as Coefficient·, coefficient, sent, over, coefficientRead}
 use Rattle.description.specs.Flat.{putBlock}
-use Rattle.reader.specs.Answer.{mapRead}
+use Rattle.bits.specs.Logic.{Reads, reads-weaker}
+use Rattle.words.specs.Answer.{asCoefficient}
+use Rattle.words.specs.declared.CoefficientRead.{CoefficientRead}
+use Rattle.words.specs.declared.CoefficientRead.the-variants.{Coefficient, EndOfBlock, Refused as NoCoefficient}
+use Rattle.words.proofs.CoefficientRead.{the-type as coefficient-type}
+use denote.Enum.Declared.{tagOf}
+use types.Run.{OneOf}
+use mathlib.Core.Logic.{inl, inr}
+use lib.Dec.{lit≤}
+use Rattle.reader.specs.Layers.{coefficient-read-reads, first-worded, later-worded}
+use Rattle.reader.specs.Answer.{mapRead, leaving, blockEnd}
 use Rattle.reader.specs.Grammar.{coefficients}
-use Rattle.reader.proofs.Read.{map-done, length-left, some}
+use Rattle.reader.proofs.Read.{map-done, length-left, some, onward}
 
 -- the table of the next codeword
 abbrev pub tableOf : Bool → List Entry
@@ -33,24 +43,31 @@ module _ (fuel room : ℕ) (table : List Entry) (bs : List Bit) (at : ℕ) where
   unfolding coefficients
   step-over cs q e = rw e
 
-  step-past : (c : Coefficient) (cs : List Bit) (q : ℕ) → coefficientRead table bs at ≡ got (sent c) cs q → room ≤ c .run → coefficients (suc fuel) room table bs at ≡ bad CoefficientPast at
+  step-past : (c : Coefficient·) (cs : List Bit) (q : ℕ) → coefficientRead table bs at ≡ got (sent c) cs q → room ≤ c .run → coefficients (suc fuel) room table bs at ≡ bad CoefficientPast at
   unfolding coefficients
   step-past c cs q e l = rw (e, le-leb room (c .run) l)
 
-  step-more : (A : Type 0) (g : List Coefficient → A) (c : Coefficient) (cs : List Bit) (q : ℕ) → coefficientRead table bs at ≡ got (sent c) cs q → c .run < room
+  step-more : (A : Type 0) (g : List Coefficient· → A) (c : Coefficient·) (cs : List Bit) (q : ℕ) → coefficientRead table bs at ≡ got (sent c) cs q → c .run < room
       → mapRead g (coefficients (suc fuel) room table bs at) ≡ mapRead (λ rest. g (c ∷ rest)) (coefficients fuel (room - suc (c .run)) laterTable5 cs q)
   unfolding coefficients
   step-more A g c cs q e l = rw (e, lt-leb room (c .run) l) (map-done g (λ rest. c ∷ rest) (coefficients fuel (room - suc (c .run)) laterTable5 cs q))
 
+-- a codeword of Table 5 takes a bit at least
+coefficient-word : {bound : ℕ} (first : Bool) → Reads bound 1 (λ e left. Unit {0}) (coefficientRead (tableOf first))
+coefficient-word true = reads-weaker (coefficient-read-reads false firstTable5 first-worded) (lit≤ tt) (λ e left g. tt)
+coefficient-word false = reads-weaker (coefficient-read-reads true laterTable5 later-worded) (lit≤ tt) (λ e left g. tt)
+
 -- ---- the loop
 pub record CoefficientsSoFar (start : Read (List ℕ)) (s : List ℕ) (n end : ℕ) (first : Bool) (levels : List ℕ) (k p : ℕ) : Type 0 where
+  pub inside : p ≤ n
+  pub room : k ≤ end
   pub fuel : ℕ
   pub enough : n - p < fuel
   pub same : start ≡ mapRead (putBlock levels k) (coefficients fuel (end - k) (tableOf first) (bitsLeft s n p) p)
 
-pub coefficients-first : (s : List ℕ) (n end : ℕ) (first : Bool) (levels : List ℕ) (k p : ℕ)
+pub coefficients-first : (s : List ℕ) (n end : ℕ) (first : Bool) (levels : List ℕ) (k p : ℕ) → p ≤ n → k ≤ end
     → CoefficientsSoFar (mapRead (putBlock levels k) (loop (λ turns. coefficients turns (end - k) (tableOf first)) (bitsLeft s n p) p)) s n end first levels k p
-coefficients-first s n end first levels k p = record { fuel = suc (length (bitsLeft s n p)); enough = omega (arith, length-left s n p); same = refl }
+coefficients-first s n end first levels k p l m = record { inside = l; room = m; fuel = suc (length (bitsLeft s n p)); enough = omega (arith, length-left s n p); same = refl }
 
 module _ {start : Read (List ℕ)} {s : List ℕ} {n end : ℕ} {first : Bool} {levels : List ℕ} {k p : ℕ} (h : CoefficientsSoFar start s n end first levels k p) where
   turn : (rest : ℕ) → h .fuel ≡ suc rest → start ≡ mapRead (putBlock levels k) (coefficients (suc rest) (end - k) (tableOf first) (bitsLeft s n p) p)
@@ -73,17 +90,36 @@ module _ {start : Read (List ℕ)} {s : List ℕ} {n end : ℕ} {first : Bool} {
         let o = some (n - p) (h .fuel) (h .enough) in
         sym (turn (o .0) (o .1) ∙ ap (mapRead (putBlock levels k)) (step-past (o .0) (end - k) (tableOf first) (bitsLeft s n p) p (coefficient run code) (bitsLeft s n q) q e (omega arith)))
 
-    pub coefficients-more : k + run < end → p < q → q ≤ n → CoefficientsSoFar start s n end false (set levels (k + run) code) (k + run + 1) q
+    pub coefficients-next : (p < q) × (q ≤ n)
+    coefficients-next =
+        let o = onward s n p _ q (coefficient-word first) (h .inside) e in
+        (omega (arith, o .ahead), o .inside)
+
+    pub coefficients-more : k + run < end → CoefficientsSoFar start s n end false (set levels (k + run) code) (k + run + 1) q
     unfolding putBlock
-    coefficients-more l m w =
+    coefficients-more l =
         let o = some (n - p) (h .fuel) (h .enough) in
+        let w = coefficients-next in
         let a : end - k - suc run ≡ end - (k + run + 1) = omega arith in
         let b : k + suc run ≡ k + run + 1 = omega arith in
         record {
+          inside = w .1;
+          room = omega arith;
           fuel = o .0;
-          enough = omega (arith, h .enough, o .1);
+          enough = omega (arith, h .enough, o .1, w);
           same =
               turn (o .0) (o .1)
               ∙ step-more (o .0) (end - k) (tableOf first) (bitsLeft s n p) p (List ℕ) (putBlock levels k) (coefficient run code) (bitsLeft s n q) q e (omega arith)
               ∙ (λ i. mapRead (putBlock (set levels (k + run) code) (b i)) (coefficients (o .0) (a i) laterTable5 (bitsLeft s n q) q));
         }
+
+  -- a read that is no coefficient ends the block
+  pub coefficients-end : (r : CoefficientRead) → OneOf (1 ∷ 2 ∷ []) (tagOf coefficient-type r) → asCoefficient s n r ≡ coefficientRead (tableOf first) (bitsLeft s n p) p
+      → leaving s n (blockEnd r) levels ≡ start
+  coefficients-end (Coefficient run code q) t e = absurd (neither t)
+    where
+      neither : OneOf (1 ∷ 2 ∷ []) 0 → ⊥
+      neither (inl z) = omega arith
+      neither (inr z) = omega arith
+  coefficients-end (EndOfBlock q) t e = coefficients-over q (sym e)
+  coefficients-end (NoCoefficient r) t e = coefficients-refused r (sym e)

@@ -12,6 +12,8 @@ use Rattle.bits.specs.declared.FieldRead.the-variants.{Got as GotField, Refused
 use Rattle.bits.specs.declared.WordRead.{WordRead}
 use Rattle.bits.specs.declared.WordRead.the-variants.{Got as GotWord, Refused as NoWord}
 use Rattle.bits.specs.Read.{Read, got, refused, endless}
+use Rattle.words.specs.declared.CoefficientRead.{CoefficientRead}
+use Rattle.words.specs.declared.CoefficientRead.the-variants.{Coefficient, EndOfBlock, Refused as NoCoefficient}
 use Rattle.description.specs.Vector.{Vector, Before}
 use Rattle.description.specs.Value.{Macroblock, after}
 use Rattle.description.specs.Flat.{Flat, index, fieldsOf, putBlocks}
@@ -48,6 +50,12 @@ wordRefusal (NoWord r) = r
 abbrev pub placeRefusal : PlaceRead → Refusal
 placeRefusal (At p) = refusal BitsEnd p
 placeRefusal (Refused r) = r
+
+-- where a block ended: at EOB, or by the refusal; of a coefficient it is never asked
+abbrev pub blockEnd : CoefficientRead → PlaceRead
+blockEnd (Coefficient run code p) = At p
+blockEnd (EndOfBlock p) = At p
+blockEnd (NoCoefficient r) = Refused r
 
 -- a layer's answer, with what it left in the buffers; on a refusal that is not said
 abbrev pub leaving : {A : Type 0} → List ℕ → ℕ → PlaceRead → A → Read A

@@ -111,7 +111,7 @@ abbrev pub Placed : Bool → ℕ → Event → Type 0
 Placed ends room (sent c) = (c .run < room) × T (isCode (c .code))
 Placed ends room over = T ends
 
-abbrev Allowed : Bool → Event → Type 0
+abbrev pub Allowed : Bool → Event → Type 0
 Allowed ends (sent c) = T (isCode (c .code))
 Allowed ends over = T ends
 
@@ -130,14 +130,14 @@ judges-fits ends room (sent c) h =
     judges-pick (leb room (c .run)) (λ y. judges-against CoefficientPast tt) (λ n. judges-fine (sent c) (leb-false room (c .run) n, h))
 judges-fits ends room over h = judges-fine over h
 
+pub coefficient-read-reads : {bound : ℕ} (ends : Bool) (table : List Entry) → T (worded (meant ends) table) → Reads bound 1 (λ e left. Allowed ends e) (coefficientRead table)
+unfolding coefficientRead tcoeff
+coefficient-read-reads ends table t =
+    reads-judged (reads-whole (reads-then (reads-word (meant ends) table t) (λ m left g. tcoeff-after ends m g))) (λ e left g. judges-allowed ends e g)
+
 pub coefficient-reads : {bound : ℕ} (ends : Bool) (room : ℕ) (table : List Entry) → T (worded (meant ends) table)
     → Reads bound 1 (λ e left. Placed ends room e) (judged (coefficientRead table) (fits room))
-unfolding coefficientRead tcoeff
-coefficient-reads ends room table t =
-    reads-judged
-    (reads-judged (reads-whole (reads-then (reads-word (meant ends) table t) (λ m left g. tcoeff-after ends m g)))
-    (λ e left g. judges-allowed ends e g))
-    (λ e left g. judges-fits ends room e g)
+coefficient-reads ends room table t = reads-judged (coefficient-read-reads ends table t) (λ e left g. judges-fits ends room e g)
 
 -- ---- blocks
 -- a block that may be empty only where EOB may come first

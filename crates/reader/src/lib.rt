@@ -1,6 +1,7 @@
 // Picture, group, macroblock and block layers: from bits to a description, or the refusal.
 use refusals::Refusal;
 
+mod block;
 mod head;
 
 // Where a layer ended, or the refusal.
