@@ -1,11 +1,13 @@
 // The blocks of a macroblock: their coefficients, laid out in the levels as they are read.
-use crate::head::{field_refusal, place_refusal};
 use crate::PlaceRead;
+use crate::head::field_refusal;
+use crate::head::place_refusal;
 use bits::FieldRead;
-use refusals::{Reason, Refusal};
+use refusals::Reason;
+use refusals::Refusal;
 use words::CoefficientRead;
 ghost use mathlib.Core.Path.{_≡_};
-ghost use Prim.Native.Nat.{_+_, _-_, _≤_, _<_};
+ghost use Prim.Native.Nat.{_+_, _*_, _-_, _≤_, _<_};
 ghost use lib.ListN.{length};
 ghost use Rattle.laws.specs.Choice.{pick};
 ghost use Rattle.bits.specs.Bits.{bitsLeft, bitsOf};
@@ -62,4 +64,85 @@ fn coefficients(
         place = next;
         first = false;
     }
+}
+
+// An INTRA block: an 8-bit DC code, then its coefficients.
+fn intra_block(
+    tables: &[u16; 1521],
+    bytes: &[u8],
+    count: usize,
+    at: usize,
+    levels: &mut [u8],
+    base: usize,
+) -> PlaceRead
+    requires { ⌜ (Tables (now tables)) × (Within (now bytes) count at) × (base + 64 ≤ length (now levels)) ⌝ }
+    ensures { λ r. ⌜ leaving (now (bytes .entry)) count r (now (levels .exit)) ≡ mapRead (putBlock (now (levels .entry)) base) (intraBlock (bitsLeft (now (bytes .entry)) count at) at) ⌝ }
+{
+    let read = bits::field(bytes, count, at, 8);
+    let FieldRead::Got(code, next) = read else {
+        return PlaceRead::Refused(field_refusal(read));
+    };
+    if code % 128 == 0 {
+        return PlaceRead::Refused(Refusal {
+            reason: Reason::Forbidden,
+            place: at,
+        });
+    }
+    levels[base] = code as u8;
+    coefficients(
+        tables,
+        bytes,
+        count,
+        next,
+        false,
+        levels,
+        base + 1,
+        base + 64,
+    )
+}
+
+fn one_block(
+    tables: &[u16; 1521],
+    bytes: &[u8],
+    count: usize,
+    at: usize,
+    intra: bool,
+    levels: &mut [u8],
+    base: usize,
+) -> PlaceRead
+    requires { ⌜ (Tables (now tables)) × (Within (now bytes) count at) × (base + 64 ≤ length (now levels)) ⌝ }
+    ensures { λ r. ⌜ leaving (now (bytes .entry)) count r (now (levels .exit)) ≡ mapRead (putBlock (now (levels .entry)) base) (pick intra intraBlock interBlock (bitsLeft (now (bytes .entry)) count at) at) ⌝ }
+{
+    if intra {
+        return intra_block(tables, bytes, count, at, levels, base);
+    }
+    coefficients(tables, bytes, count, at, true, levels, base, base + 64)
+}
+
+// The blocks of a macroblock that the pattern names, most significant bit first.
+pub fn blocks(
+    tables: &[u16; 1521],
+    bytes: &[u8],
+    count: usize,
+    at: usize,
+    intra: bool,
+    pattern: u16,
+    levels: &mut [u8],
+    base: usize,
+) -> PlaceRead
+    requires { ⌜ (Tables (now tables)) × (Within (now bytes) count at) × (base + 384 ≤ length (now levels)) ⌝ }
+    ensures { λ r. ⌜ leaving (now (bytes .entry)) count r (now (levels .exit)) ≡ mapRead (putBlocks (now (levels .entry)) base) (blocksRead intra (bitsOf 6 pattern) (bitsLeft (now (bytes .entry)) count at) at) ⌝ }
+{
+    let mut place = at;
+    for b in 0..6 {
+        let after = 5 - b;
+        if (pattern >> after) % 2 == 1 {
+            let read = one_block(tables, bytes, count, place, intra, levels, base + b * 64);
+            let PlaceRead::At(next) = read else {
+                return PlaceRead::Refused(place_refusal(read));
+            };
+            place = next;
+        }
+    }
+    PlaceRead::At(place)
 }
