@@ -13,11 +13,12 @@ use Rattle.words.specs.Words.{isIntra, isMC, hasMQUANT, hasCBP}
 use Rattle.format.specs.Format.{formatBit, groupCount, groupNumbers}
 use Rattle.format.specs.declared.Format.{Format}
 use Rattle.format.specs.declared.Format.the-variants.{Qcif, Cif}
+use Rattle.words.specs.Reads.{isCode}
 use Rattle.description.specs.Vector.{Vector, zeroVector, inRange, inPicture}
 use Rattle.description.specs.Value.{Block, Macroblock}
 use Rattle.description.specs.Flat.{Flat, numberOf, gather, gathers, macroblocksIn, groupsIn, pictureIn}
 use Rattle.description.specs.Valid.{all, isZero, isQuantiser, isLevel, codesFirst, validVector, validLevels, validMacroblock, validMacroblocks, validGroups, lengthsOf, validHead, valid}
-use Rattle.description.specs.Proper.{If, Each, isCode, Fits, Begins, allEmpty, ProperBlocks, ProperVector, ProperMacroblock, Rising, ProperGroups, Proper}
+use Rattle.description.specs.Proper.{If, Each, Fits, Begins, allEmpty, ProperBlocks, ProperVector, ProperMacroblock, Rising, ProperGroups, Proper}
 use Rattle.description.specs.Spread.{as-many}
 
 -- ---- a test of a list's numbers

@@ -40,3 +40,34 @@ column group address = (group - 1) % 2 * 176 + (address - 1) % 11 * 16
 
 abbrev pub row : ℕ → ℕ → ℕ
 row group address = (group - 1) / 2 * 48 + (address - 1) / 11 * 16
+
+-- ---- the named lengths of lent buffers
+-- "38,016 bytes for QCIF, 152,064 for CIF"
+abbrev pub storeLength : Format → ℕ
+storeLength Qcif = 38016
+storeLength Cif = 152064
+
+-- a description: TR, PTYPE, the format and the GQUANTs; four bytes a macroblock; six blocks of 64 levels a macroblock
+abbrev pub headLength : Format → ℕ
+headLength f = 3 + groupCount f
+
+abbrev pub macroblocksLength : Format → ℕ
+macroblocksLength f = groupCount f * 132
+
+abbrev pub levelsLength : Format → ℕ
+levelsLength f = groupCount f * 12672
+
+-- the writer's: "Its output is 8,192 or 32,768 bytes."
+abbrev pub outputLength : Format → ℕ
+outputLength Qcif = 8192
+outputLength Cif = 32768
+
+-- "the collection buffer (8,500 or 33,000 bytes)"
+abbrev pub collectionLength : Format → ℕ
+collectionLength Qcif = 8500
+collectionLength Cif = 33000
+
+-- the sender "writes a picture's blocks into 8,704 or 33,792 bytes"
+abbrev pub blocksLength : Format → ℕ
+blocksLength Qcif = 8704
+blocksLength Cif = 33792

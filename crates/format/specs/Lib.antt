@@ -1,1 +1,5 @@
 pub mod Format
+pub mod Place
+pub mod Order
+pub mod Grid
+pub mod Blocks

@@ -6,6 +6,7 @@ pub mod Operation
 pub mod Table
 pub mod Zeros
 pub mod Block
+pub mod Rows
 pub mod Linear
 pub mod Row
 pub mod Splice

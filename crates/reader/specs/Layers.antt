@@ -13,7 +13,7 @@ use Rattle.refusals.specs.declared.Reason.{Reason}
 use Rattle.refusals.specs.declared.Reason.the-variants.{NoStartCode, OtherFormat, OtherGroup, QuantiserZero, AddressPast, Forbidden, CoefficientPast, StartCodeLast, VectorOut}
 use Rattle.refusals.specs.Number.{number}
 use Rattle.bits.specs.Bits.{Bit, O, I, bitsOf}
-use Rattle.bits.specs.Read.{Reader, fine, against, judged}
+use Rattle.bits.specs.Read.{field, Reader, fine, against, judged}
 use Rattle.bits.specs.Code.{Entry, word}
 use Rattle.bits.specs.Codes.{each}
 use Rattle.bits.specs.Logic.{ofBits, Reads, reads-any, reads-done, reads-then, reads-turn, reads-map, reads-loop, reads-never, Judges, reads-judged, judges-pick, judges-fine, judges-against, reads-field, reads-word, reads-orEnd}
@@ -28,14 +28,14 @@ use Rattle.description.specs.Value.{Block, Macroblock, after}
 use Rattle.description.specs.Valid.{within, isQuantiser}
 use Rattle.description.specs.Proper.{If, Each, Fits, Begins, allEmpty, ProperBlocks, ProperVector, ProperMacroblock, Rising, ProperGroups, Proper}
 use Rattle.reader.specs.Vector.{pairOf, landing, componentRead, componentsRead, vectorRead}
-use Rattle.reader.specs.Grammar.{expect, quantiser, sparesAfter, sparesFrom, spares, optional, fits, coefficientsAfter, coefficients, dcRead, intraBlock, interBlock, blocksRead, patternRead, macroblock, Mba, step, stuffed, ended, mbaOf, mba, macroblocksAfter, macroblocksFrom, groupHead, group, groupsRead, header, picture}
+use Rattle.reader.specs.Grammar.{expect, quantiser, sparesAfter, sparesFrom, spares, optional, fits, coefficientsAfter, coefficients, dcRead, intraBlock, interBlock, blocksRead, patternRead, macroblock, Mba, step, stuffed, ended, mbaOf, mba, macroblocksAfter, macroblocksFrom, groupHead, group, groupsRead, ptypeOf, header, picture}
 
 -- nothing is asked of what was read
-abbrev Any : {A : Type 0} → A → List Bit → Type 0
+abbrev pub Any : {A : Type 0} → A → List Bit → Type 0
 Any a left = Unit {0}
 
 -- ---- fields under a rule
-expect-reads : {bound : ℕ} (k v : ℕ) (reason : Reason) → T (ofBits reason) → Reads bound k Any (expect k v reason)
+pub expect-reads : {bound : ℕ} (k v : ℕ) (reason : Reason) → T (ofBits reason) → Reads bound k Any (expect k v reason)
 expect-reads k v reason t =
     reads-judged (reads-field k) (λ x left l. judges-pick (eqb x v) (λ y. judges-fine x tt) (λ n. judges-against reason t))
 
@@ -47,7 +47,7 @@ is-quantiser q l n =
     above : (q : ℕ) → (q ≡ 0 → ⊥) → 1 ≤ q
     above q n = omega arith
 
-quantiser-reads : {bound : ℕ} → Reads bound 5 (λ q left. T (isQuantiser q)) quantiser
+pub quantiser-reads : {bound : ℕ} → Reads bound 5 (λ q left. T (isQuantiser q)) quantiser
 unfolding number
 quantiser-reads =
     reads-judged (reads-field 5)
@@ -64,19 +64,19 @@ spares-from zero = reads-never
 spares-from (suc turns) =
     reads-any (reads-turn (reads-field 1) (λ more left g. spares-after (sparesFrom turns) more (spares-from turns)))
 
-spares-reads : {bound : ℕ} → Reads bound 0 Any spares
+pub spares-reads : {bound : ℕ} → Reads bound 0 Any spares
 unfolding spares
 spares-reads = reads-loop spares-from
 
 -- a read that the type may leave out
-optional-reads : {A : Type 0} {bound least : ℕ} {Good : A → Type 0} {r : Reader A} (t : Bool) (a : A)
+pub optional-reads : {A : Type 0} {bound least : ℕ} {Good : A → Type 0} {r : Reader A} (t : Bool) (a : A)
     → (T t → Reads bound least (λ a left. Good a) r) → Reads bound 0 (λ b left. If t (Good b) (b ≡ a)) (optional t a r)
 optional-reads true a h = reads-any (h tt)
 optional-reads false a h = reads-done (λ left. refl)
 
 -- ---- coefficients
 -- an allowed coefficient with room for it; EOB where it may come
-abbrev Placed : Bool → ℕ → Event → Type 0
+abbrev pub Placed : Bool → ℕ → Event → Type 0
 Placed ends room (sent c) = (c .run < room) × T (isCode (c .code))
 Placed ends room over = T ends
 
@@ -114,7 +114,7 @@ coefficients-read (suc turns) ends room table t =
     (λ e left g. coefficients-after ends (λ left. coefficients turns left laterTable5) room e (λ room. coefficients-read turns true room laterTable5 later-meanings) g))
 
 -- a block that is sent
-abbrev Sent : Bool → Block → Type 0
+abbrev pub Sent : Bool → Block → Type 0
 Sent intra b = Fits 64 b × If intra (Begins b) (Coming false b)
 
 dc-reads : {bound : ℕ} → Reads bound 8 (λ code left. T (isCode code)) dcRead
@@ -123,18 +123,18 @@ dc-reads =
     reads-judged (reads-field 8)
     (λ code left l. judges-pick (forbidden code) (λ y. judges-against Forbidden tt) (λ n. judges-fine code (code-of code (omega arith) n)))
 
-intra-reads : {bound : ℕ} → Reads bound 8 (λ b left. Sent true b) intraBlock
+pub intra-reads : {bound : ℕ} → Reads bound 8 (λ b left. Sent true b) intraBlock
 unfolding intraBlock
 intra-reads =
     reads-then dc-reads
     (λ dc left d. reads-map (λ rest. coefficient 0 dc ∷ rest) (reads-loop (λ turns. coefficients-read turns true 63 laterTable5 later-meanings))
     (λ rest left g. ((lit≤ tt, d, g .0), refl)))
 
-inter-reads : {bound : ℕ} → Reads bound 0 (λ b left. Sent false b) interBlock
+pub inter-reads : {bound : ℕ} → Reads bound 0 (λ b left. Sent false b) interBlock
 unfolding interBlock
 inter-reads = reads-loop (λ turns. coefficients-read turns false 64 firstTable5 first-meanings)
 
-block-reads : {bound : ℕ} (intra : Bool) → Reads bound 0 (λ b left. Sent intra b) (pick intra intraBlock interBlock)
+pub block-reads : {bound : ℕ} (intra : Bool) → Reads bound 0 (λ b left. Sent intra b) (pick intra intraBlock interBlock)
 block-reads true = reads-any intra-reads
 block-reads false = inter-reads
 
@@ -146,7 +146,7 @@ Patterned intra (x ∷ ps) [] = ⊥
 Patterned intra (O ∷ ps) (b ∷ bs) = (b ≡ []) × Patterned intra ps bs
 Patterned intra (I ∷ ps) (b ∷ bs) = Sent intra b × Patterned intra ps bs
 
-blocks-read : {bound : ℕ} (intra : Bool) (ps : List Bit) → Reads bound 0 (λ bs left. Patterned intra ps bs) (blocksRead intra ps)
+pub blocks-read : {bound : ℕ} (intra : Bool) (ps : List Bit) → Reads bound 0 (λ bs left. Patterned intra ps bs) (blocksRead intra ps)
 unfolding blocksRead
 blocks-read intra [] = reads-done (λ left. tt)
 blocks-read intra (O ∷ ps) = reads-map (λ rest. [] ∷ rest) (blocks-read intra ps) (λ rest left g. (refl, g))
@@ -194,21 +194,21 @@ patterned-empty (I ∷ ps) ([] ∷ bs) h = absurd (h .0 .1)
 patterned-empty (I ∷ ps) ((c ∷ cs) ∷ bs) h = refl
 
 -- "INTRA sends all six ..; other types those in CBP."
-abbrev Pattern : ℕ → ℕ → Type 0
+abbrev pub Pattern : ℕ → ℕ → Type 0
 Pattern type pattern = If (hasCBP type) (T (some (bitsOf 6 pattern))) (pattern ≡ pick (isIntra type) 63 0)
 
 table4-meanings : T (each (λ m. some (bitsOf 6 m)) table4)
 unfolding table4
 table4-meanings = tt
 
-pattern-reads : {bound : ℕ} (type : ℕ) → Reads bound 0 (λ pattern left. Pattern type pattern) (patternRead type)
+pub pattern-reads : {bound : ℕ} (type : ℕ) → Reads bound 0 (λ pattern left. Pattern type pattern) (patternRead type)
 pattern-reads type = optional-reads (hasCBP type) (pick (isIntra type) 63 0) (λ t. reads-word (λ m. some (bitsOf 6 m)) table4 table4-meanings)
 
 -- an INTRA type has no CBP
-abbrev typed : ℕ → Bool
+abbrev pub typed : ℕ → Bool
 typed type = both (within 1 10 type) (pick (isIntra type) (opposite (hasCBP type)) true)
 
-table2-meanings : T (each typed table2)
+pub table2-meanings : T (each typed table2)
 unfolding table2
 table2-meanings = tt
 
@@ -242,22 +242,22 @@ table3-meanings : T (each (λ m. true) table3)
 unfolding table3
 table3-meanings = tt
 
-component-reads : {bound : ℕ} (before : ℤ) → Reads bound 1 (λ z left. T (inRange z)) (componentRead before)
+pub component-reads : {bound : ℕ} (before : ℤ) → Reads bound 1 (λ z left. T (inRange z)) (componentRead before)
 unfolding componentRead
 component-reads before =
     reads-judged (reads-word (λ m. true) table3 table3-meanings)
     (λ n left g. judges-landing (before +ℤ pairOf n .printed) (before +ℤ pairOf n .other))
 
-abbrev Ranged : Vector → Type 0
+abbrev pub Ranged : Vector → Type 0
 Ranged v = T (inRange (v .horizontal)) × T (inRange (v .vertical))
 
-components-read : {bound : ℕ} (before : Vector) → Reads bound 1 (λ v left. Ranged v) (componentsRead before)
+pub components-read : {bound : ℕ} (before : Vector) → Reads bound 1 (λ v left. Ranged v) (componentsRead before)
 unfolding componentsRead
 components-read before =
     reads-then (component-reads (before .horizontal))
     (λ h left hr. reads-map (λ v. record { horizontal = h; vertical = v }) (component-reads (before .vertical)) (λ v left vr. (hr, vr)))
 
-vector-reads : {bound : ℕ} (f : Format) (number address : ℕ) (before : Vector)
+pub vector-reads : {bound : ℕ} (f : Format) (number address : ℕ) (before : Vector)
     → Reads bound 1 (λ v left. ProperVector f number address v) (vectorRead f number address before)
 unfolding vectorRead Rattle.refusals.specs.Number.number
 vector-reads f number address before =
@@ -266,7 +266,7 @@ vector-reads f number address before =
     (λ y. judges-fine v (record { horizontally = g .0; vertically = g .1; inside = y })) (λ n. judges-against VectorOut tt))
 
 -- ---- macroblocks
-macroblock-reads : {bound : ℕ} (f : Format) (number : ℕ) (before : Before) (s : ℕ)
+pub macroblock-reads : {bound : ℕ} (f : Format) (number : ℕ) (before : Before) (s : ℕ)
     → Reads bound 1 (λ m left. (m .address ≡ before .address + s) × ProperMacroblock f number m) (macroblock f number before s)
 unfolding macroblock
 macroblock-reads f number before s =
@@ -288,7 +288,7 @@ macroblock-reads f number before s =
     ))))))
 
 -- what stands at an MBA place: a step to an address up to 33; the end, but not by a start code in the last group
-abbrev Met : Bool → ℕ → Mba → Type 0
+abbrev pub Met : Bool → ℕ → Mba → Type 0
 Met last address (step s) = (1 ≤ s) × (address + s ≤ 33)
 Met last address stuffed = Unit {0}
 Met last address ended = T (opposite last)
@@ -308,7 +308,7 @@ table1-meanings : T (each (leb 1) table1)
 unfolding table1
 table1-meanings = tt
 
-mba-reads : {bound : ℕ} (last : Bool) (address : ℕ) → Reads bound 1 (λ x left. Met last address x) (judged (word table1) (mbaOf last address))
+pub mba-reads : {bound : ℕ} (last : Bool) (address : ℕ) → Reads bound 1 (λ x left. Met last address x) (judged (word table1) (mbaOf last address))
 mba-reads last address = reads-judged (reads-word (leb 1) table1 table1-meanings) (λ m left g. judges-mba last address m (leb→le 1 m g))
 
 -- in the last group no bit is left after the macroblocks
@@ -344,7 +344,7 @@ macroblocks-from (suc turns) f false number before =
     reads-any (reads-turn (mba-reads false (before .address)) (λ x left g. macroblocks-after (macroblocksFrom turns f false number) f false number before x (macroblocks-from turns f false number) g))
 
 -- ---- groups
-group-head-reads : {bound : ℕ} (number : ℕ) → Reads bound 4 (λ q left. T (isQuantiser q)) (groupHead number)
+pub group-head-reads : {bound : ℕ} (number : ℕ) → Reads bound 4 (λ q left. T (isQuantiser q)) (groupHead number)
 unfolding groupHead Rattle.refusals.specs.Number.number
 group-head-reads number =
     reads-then (expect-reads 4 number OtherGroup tt)
@@ -373,19 +373,24 @@ all-groups-read Qcif = groups-read Qcif 1 (3 ∷ 5 ∷ [])
 all-groups-read Cif = groups-read Cif 1 (2 ∷ 3 ∷ 4 ∷ 5 ∷ 6 ∷ 7 ∷ 8 ∷ 9 ∷ 10 ∷ 11 ∷ 12 ∷ [])
 
 -- ---- the picture
-header-reads : {bound : ℕ} (f : Format) → Reads bound 20 (λ h left. (h .tr ≤ 31) × (h .ptype ≤ 7)) (header f)
-unfolding header number
-header-reads f =
-    reads-then (expect-reads 20 16 NoStartCode tt)
-    (λ psc left g. reads-then (reads-field 5)
-    (λ tr left t. reads-then (reads-judged (reads-field 6)
-    (λ x left l. judges-pick (both (eqb (x / 4 % 2) (formatBit f)) (eqb (x / 2 % 2) 1)) (λ y. judges-fine (x / 8) (eighth x l)) (λ n. judges-against OtherFormat tt)))
-    (λ ptype left p. reads-then spares-reads
-    (λ dropped left g. reads-map (λ gbsc. record { tr = tr; ptype = ptype }) (expect-reads 16 1 NoStartCode tt) (λ gbsc left g. (small tr t, p))))))
+pub ptype-reads : {bound : ℕ} (f : Format) → Reads bound 6 (λ x left. x ≤ 7) (judged (field 6) (ptypeOf f))
+unfolding number
+ptype-reads f =
+    reads-judged (reads-field 6)
+    (λ x left l. judges-pick (both (eqb (x / 4 % 2) (formatBit f)) (eqb (x / 2 % 2) 1)) (λ y. judges-fine (x / 8) (eighth x l)) (λ n. judges-against OtherFormat tt))
   where
     eighth : (x : ℕ) → x < 64 → x / 8 ≤ 7
     eighth x l = omega arith
 
+pub header-reads : {bound : ℕ} (f : Format) → Reads bound 20 (λ h left. (h .tr ≤ 31) × (h .ptype ≤ 7)) (header f)
+unfolding header number
+header-reads f =
+    reads-then (expect-reads 20 16 NoStartCode tt)
+    (λ psc left g. reads-then (reads-field 5)
+    (λ tr left t. reads-then (ptype-reads f)
+    (λ ptype left p. reads-then spares-reads
+    (λ dropped left g. reads-map (λ gbsc. record { tr = tr; ptype = ptype }) (expect-reads 16 1 NoStartCode tt) (λ gbsc left g. (small tr t, p))))))
+  where
     small : (x : ℕ) → x < 32 → x ≤ 31
     small x l = omega arith
 

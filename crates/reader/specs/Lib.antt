@@ -1,4 +1,5 @@
 pub mod Vector
 pub mod Grammar
+pub mod Answer
 pub mod Layers
 pub mod Verdict

@@ -1,0 +1,20 @@
+use mathlib.Core.Path.{sym, ap}
+use Rattle.format.specs.Format.{headLength}
+use borrow.Author.Needs.{needs}
+use Rattle.format.proofs.head_length.Statement.{statement}
+use Rattle.format.proofs.head_length.Tie as tie
+
+enum-told : tie.Need-enum-told
+enum-told c = search needs
+
+enum-told-2 : tie.Need-enum-told-2
+enum-told-2 c = search needs
+
+returns : tie.Need-returns
+returns c = sym (ap headLength (c .enum-told .given .1))
+
+returns-2 : tie.Need-returns-2
+returns-2 c = sym (ap headLength (c .enum-told2 .given .1))
+
+pub head-length-spec : {M : Type 1} → statement M
+head-length-spec = tie.close (tie.spec enum-told enum-told-2 returns returns-2)

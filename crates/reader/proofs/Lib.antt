@@ -1,0 +1,9 @@
+pub mod Read
+pub mod Told
+pub mod HeadTurn
+pub mod HeaderSteps
+pub mod CoefficientsTurn
+pub mod IntraSteps
+pub mod BlocksTurn
+pub mod MacroblocksTurn
+pub mod GroupsTurn
