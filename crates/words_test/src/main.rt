@@ -12,13 +12,10 @@ use refusals::Refusal;
 use words::CoefficientRead;
 ghost use mathlib.Core.Path.{_≡_};
 ghost use Prim.Native.Nat.{_+_, _*_, _≤_};
-ghost use Rattle.refusals.specs.Number.{number};
 ghost use Rattle.bits.specs.Answer.{Within};
 ghost use Rattle.words.specs.Lookup.{Tables};
 
-fn number_of(reason: Reason) -> u64
-    ensures { λ r. ⌜ r ≡ number reason ⌝ }
-{
+fn number_of(reason: Reason) -> u64 {
     match reason {
         Reason::Length => 1,
         Reason::Count => 2,
