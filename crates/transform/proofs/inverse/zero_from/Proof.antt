@@ -3,7 +3,6 @@ use mathlib.Core.Bool.{true}
 use Prim.Native.Nat.{ℕ, _≤_, _<_, _-_, _+_}
 use native.Mathlib.Nat.{lt-of-lt-of-le}
 use native.Mathlib.Omega.{arith}
-use lib.Bits.{bitOr, or-add-and, and-le-l, and-le-r}
 use lib.IntN.{ℤ, pos}
 use lib.ListN.{getD}
 use mir.Syntax.{w32}
@@ -11,6 +10,7 @@ use mir.Val.{toZ, ofZ}
 use borrow.Author.Needs.{needs}
 use borrow.Author.Tests.{eqb-true}
 use borrow.Author.Count.{below-more}
+use Rattle.transform.proofs.Bits.{or-left, or-right}
 use Rattle.laws.specs.Integer.{Low, back}
 use Rattle.transform.proofs.inverse.zero_from.Statement.{statement}
 use Rattle.transform.proofs.inverse.zero_from.Tie as tie
@@ -25,13 +25,6 @@ abbrev μ-loop : tie.MeasureT-loop
 
 none : (from k : ℕ) → k < from → from ≤ k → ⊥
 none from k l p = omega arith
-
--- where two numbers' bits together are 0, each is 0
-or-left : (a b : ℕ) → bitOr a b ≡ 0 → a ≡ 0
-or-left a b e = omega (arith, or-add-and a b, and-le-l a b, and-le-r a b)
-
-or-right : (a b : ℕ) → bitOr a b ≡ 0 → b ≡ 0
-or-right a b e = omega (arith, or-add-and a b, and-le-l a b, and-le-r a b)
 
 -- bits of 0 are 0
 is-zero : {z : ℤ} → Low 2048 z → ofZ w32 z ≡ 0 → z ≡ pos 0
