@@ -219,22 +219,22 @@ fn columns(t: [[i32; 8]; 8]) -> [[i32; 8]; 8]
     out
 }
 
-// Whether all but the number at (0, 0) is 0.
+// Whether all but the number at (0, 0) is 0. All bits are gathered before the test: the compiler then takes several numbers at once.
 fn lone(f: [[i32; 8]; 8]) -> bool
     requires { ⌜ Small 2048 f ⌝ }
     ensures { λ r. ⌜ (r ≡ true → Lone f) ⌝ }
 {
-    let first = f[0];
-    if !zero_from(first, 1) {
-        return false;
-    }
+    let mut bits: i32 = 0;
     for v in 1..8 {
-        let f_v = f[v];
-        if !zero_from(f_v, 0) {
-            return false;
+        for u in 0..8 {
+            bits = bits | f[v][u];
         }
     }
-    true
+    if bits != 0 {
+        return false;
+    }
+    let first = f[0];
+    zero_from(first, 1)
 }
 
 // What a number alone at (0, 0) gives everywhere.
