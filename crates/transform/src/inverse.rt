@@ -219,22 +219,22 @@ fn columns(t: [[i32; 8]; 8]) -> [[i32; 8]; 8]
     out
 }
 
-// Whether all but the number at (0, 0) is 0. All bits are gathered before the test: the compiler then takes several numbers at once.
-fn lone(f: [[i32; 8]; 8]) -> bool
-    requires { ⌜ Small 2048 f ⌝ }
-    ensures { λ r. ⌜ (r ≡ true → Lone f) ⌝ }
+// Whether all but the number at (0, 0) is 0. Most blocks that have more show it in their first rows.
+fn lone(f: &[[i32; 8]; 8]) -> bool
+    requires { ⌜ Small 2048 (now f) ⌝ }
+    ensures { λ r. ⌜ (r ≡ true → Lone (now (f .entry))) ⌝ }
 {
-    let mut bits: i32 = 0;
-    for v in 1..8 {
-        for u in 0..8 {
-            bits = bits | f[v][u];
-        }
-    }
-    if bits != 0 {
+    let first = f[0];
+    if !zero_from(first, 1) {
         return false;
     }
-    let first = f[0];
-    zero_from(first, 1)
+    for v in 1..8 {
+        let f_v = f[v];
+        if !zero_from(f_v, 0) {
+            return false;
+        }
+    }
+    true
 }
 
 // What a number alone at (0, 0) gives everywhere.
@@ -249,7 +249,7 @@ pub fn inverse(f: [[i32; 8]; 8]) -> [[i32; 8]; 8]
     requires { ⌜ Small 2048 f ⌝ }
     ensures { λ r. ⌜ Is (pos 0) (inverseAt f) r ⌝ }
 {
-    if lone(f) {
+    if lone(&f) {
         let z = flat(f[0][0]);
         let line = [z; 8];
         return [line; 8];

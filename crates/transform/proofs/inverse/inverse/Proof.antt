@@ -29,11 +29,11 @@ index-2-flat : tie.Need-index-2-flat
 index-2-flat c = search needs
 
 flat-requires : tie.Need-flat-requires
-flat-requires c κs = rw (back w32 tt (c .before .before .before .pre 0 0)) (c .before .before .before .pre 0 0)
+flat-requires c κs = rw (back w32 tt (c .before .before .before .before .pre 0 0)) (c .before .before .before .before .pre 0 0)
 
 returns : tie.Need-returns
 returns c =
-    let s = c .before .before .before .before in
+    let s = c .before .before .before .before .before in
     flat-block (s .args .t1) (c .before .before .before .lone .ensures (c .before .before .if1 .taken))
     (back32 (c .flat .result) (c .flat .ok) ∙ c .flat .ensures ∙ ap flatAt (back w32 tt (s .pre 0 0)))
 
@@ -42,7 +42,7 @@ rows-requires c κs = search needs
 
 columns-requires : tie.Need-columns-requires
 columns-requires c κs =
-    is-each (λ (z : ℤ). Low 46546944 z) (c .rows .ensures) (record { low = zero-le }) (λ v x. along-low _ x (c .before .before .before .pre v))
+    is-each (λ (z : ℤ). Low 46546944 z) (c .rows .ensures) (record { low = zero-le }) (λ v x. along-low _ x (c .before .before .before .before .pre v))
 
 returns-2 : tie.Need-returns-2
 returns-2 c = whole _ _ _ (c .before .rows .ensures) (c .columns .ensures)
