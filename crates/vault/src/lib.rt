@@ -10,7 +10,7 @@ ghost use lib.ListN.{length, drop};
 ghost use lib.Seq.{sets, paste};
 ghost use Rattle.laws.specs.Choice.{both};
 ghost use Rattle.vault.specs.Block.{pairAt, pictureOf, headerOf, pictures, greatestPart, refreshRule, usedRule, ruled as ruledOf, unused, clear, payloadOf, follows as followsOf, sumOf, refusedBy, checkOf, judgeOf, marksFor, headBytes, twoBytes, blockFor};
-ghost use Rattle.vault.specs.Parts.{partCount, keptByte, payloadAt, headerAt, blocksOf, placed};
+ghost use Rattle.vault.specs.Parts.{partCount, usedAt, keptByte, payloadAt, headerAt, blocksOf, placed};
 ghost use Rattle.vault.specs.Due.{dueOf};
 
 // What a block says before its payload.
@@ -340,7 +340,7 @@ fn refresh_at(refresh: bool, part: usize) -> bool
 
 fn used_at(count: usize, part: usize) -> u16
     requires { ⌜ 4000 * part ≤ count ⌝ }
-    ensures { λ r. ⌜ r ≡ min 4000 (count - 4000 * part) ⌝ }
+    ensures { λ r. ⌜ r ≡ usedAt count part ⌝ }
 {
     let left = count - 4000 * part;
     if left < 4000 {
