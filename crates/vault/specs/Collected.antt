@@ -36,6 +36,10 @@ part-most : (format : Format) (count part : ℕ) → count ≤ limit format → 
 part-most Qcif count part l p = omega arith
 part-most Cif count part l p = omega arith
 
+pub parts-most : (format : Format) (count : ℕ) → count ≤ limit format → partCount count ≤ greatestPart format + 1
+parts-most Qcif count l = omega arith
+parts-most Cif count l = omega arith
+
 refresh-first : (refresh first : Bool) → either (opposite (both refresh first)) first ≡ true
 refresh-first true true = refl
 refresh-first true false = refl

@@ -283,7 +283,7 @@ fn whole_bytes(count: usize, from: usize) -> usize
     500
 }
 
-// Whole bytes are copied as they are; the rest is looked at bit by bit.
+// Whole bytes are copied as they are; of the rest only the picture's bits are kept.
 fn write_payload(bytes: &[u8], count: usize, part: usize, block: &mut [u8])
     requires { ⌜ (length (now block) ≡ 512) × (part < 66) × (count ≤ 8 * length (now bytes)) ⌝ }
     ensures { λ _. ⌜ now (block .exit) ≡ paste (now (block .entry)) 8 (payloadAt (now (bytes .entry)) count part) 500 ⌝ }
