@@ -1,21 +1,22 @@
 -- A logic of reads: what a reader gives, whatever the bits, by a rule for each word that the grammar is written with. Assumes nothing.
 -- `Reads bound least Good r`: with fewer than `bound` bits left, r ends; it gives a Good meaning, having read `least` bits or more, or a refusal of reading at a place among those bits or at their end.
-use Prim.Native.Nat.{ℕ, zero, suc, _+_, _*_, _^_, _≤_, _<_}
-use mathlib.Core.Path.{_≡_, refl, sym, ap, subst, _∙_}
+use Prim.Native.Nat.{ℕ, zero, suc, _+_, _*_, _^_, _≤_, _<_, zero-le}
+use mathlib.Core.Path.{_≡_, refl, subst, _∙_}
 use mathlib.Core.Bool.{Bool, true, false}
 use mathlib.Core.List.{List, [], _∷_}
 use native.Mathlib.Omega.{arith}
-use native.Mathlib.Nat.{pow-suc, add-zero, le-refl}
-use lib.Dec.{T, leb, ltb, eqb, lit<}
-use lib.ListN.{length, drop, length-drop}
-use Rattle.laws.specs.Choice.{pick, both, either, both-left, both-right}
+use native.Mathlib.Nat.{pow-suc, le-refl}
+use lib.Dec.{T, leb, lit<}
+use lib.ListN.{length, drop}
+use Rattle.laws.specs.Choice.{pick, both}
 use Rattle.refusals.specs.declared.Reason.{Reason}
 use Rattle.refusals.specs.declared.Reason.the-variants.{BitsEnd, NoCodeword}
 use Rattle.refusals.specs.declared.Refusal.{Refusal}
 use Rattle.refusals.specs.Number.{number}
-use Rattle.bits.specs.Bits.{Bit, O, I, num, same}
-use Rattle.bits.specs.Read.{Read, got, refused, endless, bad, Reader, next, _>>=_, done, fieldFrom, field, Judged, fine, against, settle, judged, moved, whole, orEnd, loop}
+use Rattle.bits.specs.Bits.{Bit, O, I, num}
+use Rattle.bits.specs.Read.{Read, got, refused, endless, Reader, next, _>>=_, done, fieldFrom, field, Judged, fine, against, settle, judged, moved, whole, orEnd, loop}
 use Rattle.bits.specs.Code.{Entry, entry, starts, longer, lookup, word}
+use Rattle.bits.specs.Codes.{each, word-got}
 
 -- ---- one read
 -- what was got is P, what was refused is Q, and the read ended
@@ -24,7 +25,7 @@ Holds P Q (got a bs at) = P a bs at
 Holds P Q (refused r) = Q r
 Holds P Q endless = ⊥
 
--- less may be said of a read; what was got, and of what was refused
+-- less may be said of what was got, and of what was refused
 pub holds-weaker : {A : Type 0} {P P′ : A → List Bit → ℕ → Type 0} {Q Q′ : Refusal → Type 0} (x : Read A)
     → ((a : A) (bs : List Bit) (at : ℕ) → P a bs at → P′ a bs at) → ((r : Refusal) → Q r → Q′ r) → Holds P Q x → Holds P′ Q′ x
 holds-weaker (got a bs at) p q h = p a bs at h
@@ -78,9 +79,9 @@ reads-weaker {less = less} {r = r} h l f =
           (λ a left p g. (record { end = g .0 .end; onward = omega (arith, l, g .0) }, f a left (g .1))) (λ r q. q) (h .gives bs at b);
     }
 
-pub reads-fewer : {A : Type 0} {bound fewer least : ℕ} {Good : A → List Bit → Type 0} {r : Reader A}
-    → Reads bound least Good r → fewer ≤ bound → Reads fewer least Good r
-reads-fewer {fewer = fewer} h l = record { gives = λ bs at b. h .gives bs at (omega arith) }
+-- that bits are read need not be said
+pub reads-any : {A : Type 0} {bound least : ℕ} {Good : A → List Bit → Type 0} {r : Reader A} → Reads bound least Good r → Reads bound 0 Good r
+reads-any h = reads-weaker h zero-le (λ a left g. g)
 
 took-none : (bs : List Bit) (at : ℕ) → Took 0 bs at bs at
 took-none bs at = record { end = refl; onward = omega arith }
@@ -88,29 +89,26 @@ took-none bs at = record { end = refl; onward = omega arith }
 pub reads-done : {A : Type 0} {bound : ℕ} {Good : A → List Bit → Type 0} {a : A} → ((left : List Bit) → Good a left) → Reads bound 0 Good (done a)
 reads-done g = record { gives = λ bs at b. (took-none bs at, g bs) }
 
--- the one read, then the other
+-- the one read, and from where it ended, with fewer than `rest` bits left, the other
+module _ {A B : Type 0} {bound rest least more : ℕ} {Good : A → List Bit → Type 0} {Fine : B → List Bit → Type 0} {r : Reader A} {k : A → Reader B} where
+  bind : ((n : ℕ) → n + least < bound → n < rest) → Reads bound least Good r → ((a : A) (left : List Bit) → Good a left → Reads rest more Fine (k a)) → Reads bound least Fine (r >>= k)
+  bind shorter h f =
+      record {
+        gives = λ bs at b. after least more Good Fine bs at (r bs at) k (h .gives bs at b)
+            (λ a left p t g. f a left g .gives left p (shorter (length left) (fewer bs at left p t b)));
+      }
+    where
+      fewer : (bs : List Bit) (at : ℕ) (left : List Bit) (p : ℕ) → Took least bs at left p → length bs < bound → length left + least < bound
+      fewer bs at left p t b = omega arith
+
 pub reads-then : {A B : Type 0} {bound least more : ℕ} {Good : A → List Bit → Type 0} {Fine : B → List Bit → Type 0} {r : Reader A} {k : A → Reader B}
     → Reads bound least Good r → ((a : A) (left : List Bit) → Good a left → Reads bound more Fine (k a)) → Reads bound least Fine (r >>= k)
-reads-then {bound = bound} {least} {more} {Good} {Fine} {r} {k} h f =
-    record {
-      gives = λ bs at b. after least more Good Fine bs at (r bs at) k (h .gives bs at b)
-          (λ a left p t g. f a left g .gives left p (fewer bs at left p t b));
-    }
-  where
-    fewer : (bs : List Bit) (at : ℕ) (left : List Bit) (p : ℕ) → Took least bs at left p → length bs < bound → length left < bound
-    fewer bs at left p t b = omega arith
+reads-then {bound = bound} {least} h f = bind (λ n l. omega arith) h f
 
 -- a turn of a loop: a bit at least is read, so that the next has one bit fewer and one turn fewer
 pub reads-turn : {A B : Type 0} {bound more : ℕ} {Good : A → List Bit → Type 0} {Fine : B → List Bit → Type 0} {r : Reader A} {k : A → Reader B}
     → Reads (suc bound) 1 Good r → ((a : A) (left : List Bit) → Good a left → Reads bound more Fine (k a)) → Reads (suc bound) 1 Fine (r >>= k)
-reads-turn {bound = bound} {more} {Good} {Fine} {r} {k} h f =
-    record {
-      gives = λ bs at b. after 1 more Good Fine bs at (r bs at) k (h .gives bs at b)
-          (λ a left p t g. f a left g .gives left p (fewer bs at left p t b));
-    }
-  where
-    fewer : (bs : List Bit) (at : ℕ) (left : List Bit) (p : ℕ) → Took 1 bs at left p → length bs < suc bound → length left < bound
-    fewer bs at left p t b = omega arith
+reads-turn {bound = bound} h f = bind (λ n l. omega arith) h f
 
 -- what is made of what was read
 pub reads-map : {A B : Type 0} {bound least : ℕ} {Good : A → List Bit → Type 0} {Fine : B → List Bit → Type 0} {r : Reader A} (f : A → B)
@@ -191,8 +189,8 @@ field-from : (k j rest : ℕ) → j + rest ≡ k → (bs : List Bit) (at v : ℕ
     → Took j bs at left p → v < 2 ^ j → Gives k (λ v left. v < 2 ^ k) bs at (fieldFrom rest at v left p)
 unfolding fieldFrom
 field-from k j zero e bs at v left p t l =
-    let same : j ≡ k = omega arith in
-    (record { end = t .end; onward = omega arith }, subst (λ (n : ℕ). v < 2 ^ n) same l)
+    let all : j ≡ k = omega arith in
+    (record { end = t .end; onward = omega arith }, subst (λ (n : ℕ). v < 2 ^ n) all l)
 field-from k j (suc rest) e bs at v [] p t l = record { listed = unfold number in tt; within = omega arith }
 field-from k j (suc rest) e bs at v (b ∷ left) p t l =
     let more : Took (suc j) bs at left (p + 1) = record { end = omega (arith, t .end); onward = omega arith } in
@@ -201,44 +199,39 @@ field-from k j (suc rest) e bs at v (b ∷ left) p t l =
 pub reads-field : {bound : ℕ} (k : ℕ) → Reads bound k (λ v left. v < 2 ^ k) (field k)
 reads-field k = record { gives = λ bs at b. field-from k 0 k (omega arith) bs at 0 bs at (took-none bs at) (lit< tt) }
 
--- ---- a codeword: every word of the table has a bit, and a meaning that is p
-abbrev pub worded : (ℕ → Bool) → List Entry → Bool
-worded p [] = true
-worded p (entry [] m ∷ table) = false
-worded p (entry (b ∷ w) m ∷ table) = both (p m) (worded p table)
-
-starts-shorter : (w bs : List Bit) → T (starts w bs) → length w ≤ length bs
-starts-shorter [] bs t = omega arith
-starts-shorter (x ∷ w) [] t = absurd t
-starts-shorter (x ∷ w) (b ∷ bs) t = omega (arith, starts-shorter w bs (both-right (same x b) (starts w bs) t))
-
--- a word of the table that the bits begin with, or what is found after it
-found-gives : (p : ℕ → Bool) (w : List Bit) (m : ℕ) (bs : List Bit) (at : ℕ) (later : Read ℕ) (s : Bool)
-    → T (p m) → 1 ≤ length w → (T s → length w ≤ length bs) → Gives 1 (λ m left. T (p m)) bs at later
-    → Gives 1 (λ m left. T (p m)) bs at (elim s [ true ↦ got m (drop (length w) bs) (at + length w) | false ↦ later ])
-found-gives p w m bs at later true t some l h =
-    let fits : length w ≤ length bs = l tt in
-    (record { end = omega (arith, length-drop (length w) bs); onward = omega arith }, t)
-found-gives p w m bs at later false t some l h = h
-
-lookup-gives : (p : ℕ → Bool) (table : List Entry) (bs : List Bit) (at : ℕ) (other : Read ℕ)
-    → T (worded p table) → Gives 1 (λ m left. T (p m)) bs at other → Gives 1 (λ m left. T (p m)) bs at (lookup table bs at other)
+-- ---- a codeword, of a table in which every codeword has a bit and a meaning that passes p
+-- the table finds a meaning, or leaves what other says
+lookup-ends : (Q : Refusal → Type 0) (table : List Entry) (bs : List Bit) (at : ℕ) (other : Read ℕ)
+    → Holds (λ m left place. Unit {0}) Q other → Holds (λ m left place. Unit {0}) Q (lookup table bs at other)
 unfolding lookup
-lookup-gives p [] bs at other t h = h
-lookup-gives p (entry [] m ∷ table) bs at other t h = absurd t
-lookup-gives p (entry (b ∷ w) m ∷ table) bs at other t h =
-    found-gives p (b ∷ w) m bs at (lookup table bs at other) (starts (b ∷ w) bs) (both-left (p m) (worded p table) t)
-    (omega arith) (starts-shorter (b ∷ w) bs) (lookup-gives p table bs at other (both-right (p m) (worded p table) t) h)
+lookup-ends Q [] bs at other h = h
+lookup-ends Q (entry w m ∷ table) bs at other h = from (starts w bs) (lookup-ends Q table bs at other h)
+  where
+    from : (s : Bool) → Holds (λ m left place. Unit {0}) Q (lookup table bs at other)
+        → Holds {A = ℕ} (λ m left place. Unit {0}) Q (elim s [ true ↦ got m (drop (length w) bs) (at + length w) | false ↦ lookup table bs at other ])
+    from true h = tt
+    from false h = h
 
 none-listed : (cut : Bool) → T (ofBits (pick cut BitsEnd NoCodeword))
 unfolding number
 none-listed true = tt
 none-listed false = tt
 
-pub reads-word : {bound : ℕ} (p : ℕ → Bool) (table : List Entry) → T (worded p table) → Reads bound 1 (λ m left. T (p m)) (word table)
+pub reads-word : {bound : ℕ} (p : ℕ → Bool) (table : List Entry) → T (each p table) → Reads bound 1 (λ m left. T (p m)) (word table)
 unfolding word
 reads-word p table t =
-    record { gives = λ bs at b. lookup-gives p table bs at _ t (record { listed = none-listed (longer table bs); within = omega arith }) }
+    record {
+      gives = λ bs at b. from bs at (word table bs at) refl
+          (lookup-ends (Fair (at + length bs)) table bs at _ (record { listed = none-listed (longer table bs); within = omega arith }));
+    }
+  where
+    from : (bs : List Bit) (at : ℕ) (x : Read ℕ) → word table bs at ≡ x → Holds (λ m left place. Unit {0}) (Fair (at + length bs)) x
+        → Gives 1 (λ m left. T (p m)) bs at x
+    from bs at (got m left place) e h =
+        let found = word-got p table bs at m left place t e in
+        (record { end = found .taken; onward = omega (arith, found .after) }, found .meant)
+    from bs at (refused r) e h = h
+    from bs at endless e h = h
 
 -- ---- no bits left
 -- where no bits are left, what is made of the end; else what is read

@@ -1,27 +1,26 @@
 -- A proper picture's layout describes the picture again. Assumes nothing.
-use Prim.Native.Nat.{ℕ, zero, suc, _+_, _-_, _*_, _≤_, _<_}
-use mathlib.Core.Path.{_≡_, refl, sym, ap, ap₂, subst, _∙_}
+use Prim.Native.Nat.{ℕ, zero, suc, _+_, _-_, _≤_}
+use mathlib.Core.Path.{_≡_, refl, sym, ap, ap₂, _∙_}
 use mathlib.Core.Bool.{Bool, true, false}
 use mathlib.Core.List.{List, [], _∷_, _++_, append-assoc, append-nil}
 use native.Mathlib.Omega.{arith}
 use native.Mathlib.Nat.{add-zero}
 use lib.Dec.{T, leb, leb→le}
-use lib.ListN.{length, take, drop, getD, length-append}
+use lib.ListN.{length, take, drop}
 use lib.Seq.{take-at, drop-at}
-use lib.IntN.{ℤ, natAbs}
+use lib.IntN.{natAbs}
 use mir.Syntax.{w8}
-use mir.Val.{ofZ, toZ}
-use Rattle.laws.specs.Choice.{both, opposite, both-left, both-right}
+use Rattle.laws.specs.Choice.{both-left}
 use Rattle.laws.specs.Integer.{Low, back}
-use Rattle.laws.specs.Zeros.{zeros, length-zeros, zeros-split}
-use Rattle.words.specs.Words.{Coefficient, coefficient, isMC, forbidden}
-use Rattle.format.specs.Format.{formatBit, groupNumbers}
+use Rattle.laws.specs.Zeros.{zeros, length-zeros}
+use Rattle.words.specs.Words.{coefficient, isMC}
+use Rattle.words.specs.Reads.{isCode}
+use Rattle.format.specs.Format.{groupNumbers}
 use Rattle.format.specs.declared.Format.{Format}
-use Rattle.description.specs.Vector.{Vector, zeroVector, inRange}
+use Rattle.description.specs.Vector.{Vector, zeroVector}
 use Rattle.description.specs.Value.{Block, Macroblock, Group, Picture}
-use Rattle.description.specs.Valid.{within}
-use Rattle.description.specs.Flat.{Flat, byteOf, numberOf, fieldsOf, laid, gather, gathers, described, macroblocksIn, groupsIn, pictureIn}
-use Rattle.description.specs.Proper.{If, Each, isCode, Fits, ProperBlocks, ProperVector, ProperMacroblock, Rising, ProperGroups, Proper}
+use Rattle.description.specs.Flat.{byteOf, numberOf, fieldsOf, laid, gather, gathers, macroblocksIn, groupsIn, pictureIn}
+use Rattle.description.specs.Proper.{If, Each, Fits, ProperVector, ProperMacroblock, Rising, ProperGroups, Proper}
 use Rattle.description.specs.Walk.{walk-none, walk-more}
 use Rattle.description.specs.Spread.{spread, spreads, length-spread, rows, length-rows, storeFields, storeLevels, levelsOf, fields-written, levels-written, length-levels, columns, gquants, laid-spread}
 

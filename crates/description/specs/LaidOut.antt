@@ -1,28 +1,29 @@
 -- A proper picture lays out as a valid description. Assumes nothing.
-use Prim.Native.Nat.{ℕ, zero, suc, _+_, _-_, _*_, _≤_, _<_}
-use mathlib.Core.Path.{_≡_, refl, sym, ap, ap₂, subst, _∙_}
+use Prim.Native.Nat.{ℕ, zero, suc, _+_, _-_, _*_, _≤_}
+use mathlib.Core.Path.{_≡_, refl, sym, ap, subst, _∙_}
 use mathlib.Core.Bool.{Bool, true, false}
 use mathlib.Core.List.{List, [], _∷_, _++_, append-assoc}
 use native.Mathlib.Nat.{zero-mul}
 use native.Mathlib.Omega.{arith}
-use lib.Dec.{T, leb, eqb, leb→le, le→leb, eqb-refl}
+use lib.Dec.{T, leb, eqb, le→leb, eqb-refl}
 use lib.ListN.{length, take, drop, getD, length-append}
 use lib.Seq.{take-at, drop-at}
-use lib.IntN.{ℤ, pos, natAbs}
+use lib.IntN.{ℤ}
 use mir.Syntax.{w8}
-use mir.Val.{ofZ, toZ, Fits as Held}
+use mir.Val.{Fits as Held}
 use mir.Facts.{fits-ofZ, yes-eqb}
 use Rattle.laws.specs.Choice.{pick, both, either, opposite, both-left, both-right, both-make, T-true, true-T}
 use Rattle.laws.specs.Integer.{Low, low-fits, back}
-use Rattle.laws.specs.Zeros.{zeros, length-zeros}
+use Rattle.laws.specs.Zeros.{zeros}
 use Rattle.words.specs.Words.{Coefficient, isIntra, isMC, hasMQUANT, hasCBP, forbidden}
+use Rattle.words.specs.Reads.{isCode}
 use Rattle.format.specs.Format.{formatBit, groupCount, groupNumbers}
 use Rattle.format.specs.declared.Format.{Format}
 use Rattle.description.specs.Vector.{Vector, zeroVector, inRange, inPicture}
 use Rattle.description.specs.Value.{Block, Macroblock, Group, Picture}
-use Rattle.description.specs.Flat.{Flat, byteOf, numberOf, fieldsOf, laid}
-use Rattle.description.specs.Valid.{all, within, isZero, isQuantiser, isLevel, codesFirst, vectorIn, validVector, validLevels, validMacroblock, validMacroblocks, validGroups, lengthsOf, validHead, valid}
-use Rattle.description.specs.Proper.{If, Each, isCode, Fits, Begins, allEmpty, ProperBlocks, ProperVector, ProperMacroblock, Rising, ProperGroups, Proper}
+use Rattle.description.specs.Flat.{Flat, byteOf, fieldsOf, laid}
+use Rattle.description.specs.Valid.{all, isZero, isQuantiser, isLevel, codesFirst, vectorIn, validVector, validLevels, validMacroblock, validMacroblocks, validGroups, lengthsOf, validHead, valid}
+use Rattle.description.specs.Proper.{If, Each, Fits, Begins, allEmpty, ProperBlocks, ProperVector, ProperMacroblock, Rising, ProperGroups, Proper}
 use Rattle.description.specs.Walk.{walk-none, walk-more}
 use Rattle.description.specs.Described.{small-vector}
 use Rattle.description.specs.Spread.{Writes, spread, spreads, length-spread, rows, length-rows, storeFields, storeLevels, levelsOf, fields-written, levels-written, length-levels, columns, gquants, flat, groups-length, as-many, laid-spread}

@@ -1,12 +1,13 @@
 -- A proper picture: what document 01 asks of a description ("It is valid when .."), said of the picture as a value. What is read is proper, and what is proper lays out as a valid description (LaidOut.antt). Assumes nothing.
-use Prim.Native.Nat.{ℕ, zero, suc, _+_, _-_, _≤_, _<_}
+use Prim.Native.Nat.{ℕ, suc, _-_, _≤_, _<_}
 use mathlib.Core.Path.{_≡_}
 use mathlib.Core.Bool.{Bool, true, false}
 use mathlib.Core.List.{List, [], _∷_}
-use lib.Dec.{T, leb}
+use lib.Dec.{T}
 use lib.ListN.{length}
-use Rattle.laws.specs.Choice.{both, opposite}
-use Rattle.words.specs.Words.{isIntra, isMC, hasMQUANT, hasCBP, forbidden}
+use Rattle.laws.specs.Choice.{opposite}
+use Rattle.words.specs.Words.{isIntra, isMC, hasMQUANT, hasCBP}
+use Rattle.words.specs.Reads.{isCode}
 use Rattle.format.specs.Format.{groupNumbers}
 use Rattle.format.specs.declared.Format.{Format}
 use Rattle.description.specs.Vector.{Vector, zeroVector, inRange, inPicture}
@@ -23,10 +24,6 @@ Each P [] = Unit {0}
 Each P (x ∷ xs) = P x × Each P xs
 
 -- ---- blocks
--- "Levels 0 and -128 and DC codes 0 and 128 are forbidden.": what eight bits may hold
-abbrev pub isCode : ℕ → Bool
-isCode code = both (leb code 255) (opposite (forbidden code))
-
 -- allowed coefficients, none past the last of `room` places
 abbrev pub Fits : ℕ → Block → Type 0
 Fits room [] = Unit {0}

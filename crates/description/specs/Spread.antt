@@ -1,20 +1,16 @@
 -- The layout of a proper picture, written out: its levels, fields and GQUANTs in order, with zeros where nothing is sent. The stores of Flat.antt come to this. Assumes nothing.
-use Prim.Native.Nat.{ℕ, zero, suc, _+_, _-_, _*_, _≤_, _<_}
-use mathlib.Core.Path.{_≡_, refl, sym, ap, subst, _∙_}
-use mathlib.Core.Bool.{Bool, true, false}
-use mathlib.Core.List.{List, [], _∷_, _++_, append-assoc, append-nil}
+use Prim.Native.Nat.{ℕ, suc, _+_, _-_, _*_, _≤_, _<_}
+use mathlib.Core.Path.{_≡_, refl, sym, ap, _∙_}
+use mathlib.Core.List.{List, [], _∷_, _++_, append-assoc}
 use native.Mathlib.Omega.{arith}
-use lib.Dec.{T}
-use lib.ListN.{length, set, take, drop, getD, replicate, length-append}
+use lib.ListN.{length, length-append}
 use lib.Seq.{sets, set-at, append-snoc}
-use Rattle.laws.specs.Choice.{pick, both, opposite, both-left, both-right, both-make}
 use Rattle.laws.specs.Zeros.{zeros, zeros-replicate, length-zeros, zeros-add, zeros-split, zeros-set, sets-over}
-use Rattle.words.specs.Words.{Coefficient, coefficient}
 use Rattle.format.specs.Format.{formatBit, groupCount, groupNumbers}
 use Rattle.format.specs.declared.Format.{Format}
 use Rattle.format.specs.declared.Format.the-variants.{Qcif, Cif}
 use Rattle.description.specs.Value.{Block, Macroblock, Group, Picture}
-use Rattle.description.specs.Flat.{Flat, putBlock, putBlocks, index, fieldsOf, putMacroblocks, putGroups, blank, laid}
+use Rattle.description.specs.Flat.{Flat, putBlock, putBlocks, index, fieldsOf, putMacroblocks, putGroups, laid}
 use Rattle.description.specs.Proper.{Each, Fits, ProperBlocks, ProperMacroblock, Rising, ProperGroups, Proper}
 
 -- ---- blocks

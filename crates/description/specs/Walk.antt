@@ -1,6 +1,6 @@
 -- A walk over the 33 entries of a group, as `macroblocksIn` and `validMacroblocks` make it: over the layout of a proper picture it comes from one macroblock that is sent to the next. Assumes nothing.
 use Prim.Native.Nat.{ℕ, zero, suc, _+_, _-_, _*_, _≤_, _<_}
-use mathlib.Core.Path.{_≡_, refl, sym, ap, ap₂, _∙_}
+use mathlib.Core.Path.{_≡_, refl, ap, ap₂, _∙_}
 use mathlib.Core.List.{List, [], _∷_, _++_, append-assoc}
 use native.Mathlib.Omega.{arith}
 use Rattle.laws.specs.Zeros.{zeros, zeros-split}

@@ -1,6 +1,6 @@
 -- What each layer of the grammar reads, by the logic of reads: every loop ends, every refusal is of the table, and what is accepted is proper. Assumes nothing.
-use Prim.Native.Nat.{ℕ, zero, suc, _+_, _-_, _*_, _/_, _%_, _^_, _≤_, _<_, zero-le}
-use mathlib.Core.Path.{_≡_, refl, sym, ap, subst, _∙_}
+use Prim.Native.Nat.{ℕ, zero, suc, _+_, _-_, _/_, _%_, _≤_, _<_}
+use mathlib.Core.Path.{_≡_, refl, ap, subst}
 use mathlib.Core.Bool.{Bool, true, false}
 use mathlib.Core.List.{List, [], _∷_}
 use native.Mathlib.Omega.{arith}
@@ -8,25 +8,27 @@ use lib.Dec.{T, leb, ltb, eqb, leb→le, le→leb, lit≤}
 use lib.ListN.{length}
 use lib.IntN.{ℤ, _+ℤ_}
 use borrow.Author.Tests.{leb-false, ltb-false, eqb-false}
-use Rattle.laws.specs.Choice.{pick, both, either, opposite, both-left, both-right, both-make}
+use Rattle.laws.specs.Choice.{pick, both, opposite, both-left, both-right, both-make}
 use Rattle.refusals.specs.declared.Reason.{Reason}
 use Rattle.refusals.specs.declared.Reason.the-variants.{NoStartCode, OtherFormat, OtherGroup, QuantiserZero, AddressPast, Forbidden, CoefficientPast, StartCodeLast, VectorOut}
 use Rattle.refusals.specs.Number.{number}
 use Rattle.bits.specs.Bits.{Bit, O, I, bitsOf}
-use Rattle.bits.specs.Read.{Read, Reader, _>>=_, done, field, Judged, fine, against, judged}
+use Rattle.bits.specs.Read.{Reader, fine, against, judged}
 use Rattle.bits.specs.Code.{Entry, word}
-use Rattle.bits.specs.Logic.{ofBits, Reads, reads-weaker, reads-fewer, reads-done, reads-then, reads-turn, reads-map, reads-loop, reads-never, reads-pick, Judges, reads-judged, judges-pick, judges-fine, judges-against, reads-whole, reads-field, reads-word, reads-orEnd, worded}
-use Rattle.words.specs.Tables.{table1, table2, table3, table4, pairs, firstTable5, laterTable5, stuffing, startCode, endOfBlock, escape}
-use Rattle.words.specs.Words.{isIntra, isMC, hasMQUANT, hasCBP, Coefficient, coefficient, Event, sent, over, signed, escaped, paired, tcoeff, forbidden, allowed, coefficientRead}
+use Rattle.bits.specs.Codes.{each}
+use Rattle.bits.specs.Logic.{ofBits, Reads, reads-any, reads-done, reads-then, reads-turn, reads-map, reads-loop, reads-never, Judges, reads-judged, judges-pick, judges-fine, judges-against, reads-field, reads-word, reads-orEnd}
+use Rattle.words.specs.Tables.{table1, table2, table3, table4, firstTable5, laterTable5, stuffing, startCode}
+use Rattle.words.specs.Words.{isIntra, isMC, hasMQUANT, hasCBP, coefficient, Event, sent, over, forbidden, coefficientRead}
+use Rattle.words.specs.Reads.{isCode, code-of, meant, first-meanings, later-meanings, Allowed, coefficient-reads}
 use Rattle.format.specs.Format.{formatBit, groupNumbers}
 use Rattle.format.specs.declared.Format.{Format}
 use Rattle.format.specs.declared.Format.the-variants.{Qcif, Cif}
 use Rattle.description.specs.Vector.{Vector, zeroVector, inRange, inPicture, Before, atStart, preceding}
-use Rattle.description.specs.Value.{Block, Macroblock, Group, Picture, after}
+use Rattle.description.specs.Value.{Block, Macroblock, after}
 use Rattle.description.specs.Valid.{within, isQuantiser}
-use Rattle.description.specs.Proper.{If, Each, isCode, Fits, Begins, allEmpty, ProperBlocks, ProperVector, ProperMacroblock, Rising, ProperGroups, Proper}
-use Rattle.reader.specs.Vector.{pairOf, landing, component, componentRead, componentsRead, pointing, vectorRead}
-use Rattle.reader.specs.Grammar.{expect, quantiser, sparesAfter, sparesFrom, spares, optional, fits, coefficientsAfter, coefficients, dcRead, intraBlock, interBlock, blocksRead, patternRead, macroblock, Mba, step, stuffed, ended, mbaOf, mba, macroblocksAfter, macroblocksFrom, groupHead, group, none, groupsRead, ptypeOf, header, Header, picture}
+use Rattle.description.specs.Proper.{If, Each, Fits, Begins, allEmpty, ProperBlocks, ProperVector, ProperMacroblock, Rising, ProperGroups, Proper}
+use Rattle.reader.specs.Vector.{pairOf, landing, componentRead, componentsRead, vectorRead}
+use Rattle.reader.specs.Grammar.{expect, quantiser, sparesAfter, sparesFrom, spares, optional, fits, coefficientsAfter, coefficients, dcRead, intraBlock, interBlock, blocksRead, patternRead, macroblock, Mba, step, stuffed, ended, mbaOf, mba, macroblocksAfter, macroblocksFrom, groupHead, group, groupsRead, header, picture}
 
 -- nothing is asked of what was read
 abbrev Any : {A : Type 0} → A → List Bit → Type 0
@@ -54,13 +56,13 @@ quantiser-reads =
 -- a turn reads PEI at least
 spares-after : {bound : ℕ} (r : Reader ℕ) (more : ℕ) → Reads bound 0 Any r → Reads bound 0 Any (sparesAfter r more)
 spares-after r zero h = reads-done (λ left. tt)
-spares-after r (suc more) h = reads-weaker (reads-then (reads-field 8) (λ a left g. h)) (lit≤ tt) (λ a left g. g)
+spares-after r (suc more) h = reads-any (reads-then (reads-field 8) (λ a left g. h))
 
 spares-from : (turns : ℕ) → Reads turns 0 Any (sparesFrom turns)
 unfolding sparesFrom
 spares-from zero = reads-never
 spares-from (suc turns) =
-    reads-weaker (reads-turn (reads-field 1) (λ more left g. spares-after (sparesFrom turns) more (spares-from turns))) (lit≤ tt) (λ a left g. g)
+    reads-any (reads-turn (reads-field 1) (λ more left g. spares-after (sparesFrom turns) more (spares-from turns)))
 
 spares-reads : {bound : ℕ} → Reads bound 0 Any spares
 unfolding spares
@@ -69,60 +71,14 @@ spares-reads = reads-loop spares-from
 -- a read that the type may leave out
 optional-reads : {A : Type 0} {bound least : ℕ} {Good : A → Type 0} {r : Reader A} (t : Bool) (a : A)
     → (T t → Reads bound least (λ a left. Good a) r) → Reads bound 0 (λ b left. If t (Good b) (b ≡ a)) (optional t a r)
-optional-reads true a h = reads-weaker (h tt) (zero-le) (λ a left g. g)
+optional-reads true a h = reads-any (h tt)
 optional-reads false a h = reads-done (λ left. refl)
 
 -- ---- coefficients
--- a code of eight bits, allowed or not; EOB where it may come
-abbrev Eight : Bool → Event → Type 0
-Eight ends (sent c) = c .code ≤ 255
-Eight ends over = T ends
-
--- what a codeword of Table 5 may mean: EOB where it may come, an escape, or a pair with a level
-abbrev meant : Bool → ℕ → Bool
-meant ends m = pick (eqb m endOfBlock) ends (either (eqb m escape) (leb 1 (m % 16)))
-
-escaped-reads : {bound : ℕ} (ends : Bool) → Reads bound 0 (λ e left. Eight ends e) escaped
-escaped-reads ends =
-    reads-weaker (reads-then (reads-field 6) (λ run left g. reads-map (λ code. sent (coefficient run code)) (reads-field 8) (λ code left l. omega arith)))
-    zero-le (λ e left h. h)
-
-signed-eight : (s level : ℕ) → 1 ≤ level → level ≤ 255 → signed s level ≤ 255
-signed-eight zero level some l = l
-signed-eight (suc s) level some l = omega arith
-
-paired-reads : {bound : ℕ} (ends : Bool) (m : ℕ) → 1 ≤ m % 16 → Reads bound 0 (λ e left. Eight ends e) (paired m)
-paired-reads ends m some =
-    reads-weaker (reads-map (λ s. sent (coefficient (m / 16) (signed s (m % 16)))) (reads-field 1) (λ s left l. signed-eight s (m % 16) some (omega arith)))
-    zero-le (λ e left h. h)
-
--- what follows a codeword of Table 5
-tcoeff-after : {bound : ℕ} (ends : Bool) (m : ℕ) → T (meant ends m)
-    → Reads bound 0 (λ e left. Eight ends e) (pick (eqb m endOfBlock) (done over) (pick (eqb m escape) escaped (paired m)))
-tcoeff-after {bound} ends m t = from (eqb m endOfBlock) (eqb m escape) t
-  where
-    from : (end esc : Bool) → T (pick end ends (either esc (leb 1 (m % 16)))) → Reads bound 0 (λ e left. Eight ends e) (pick end (done over) (pick esc escaped (paired m)))
-    from true esc t = reads-done (λ left. t)
-    from false true t = escaped-reads ends
-    from false false t = paired-reads ends m (leb→le 1 (m % 16) t)
-
 -- an allowed coefficient with room for it; EOB where it may come
 abbrev Placed : Bool → ℕ → Event → Type 0
 Placed ends room (sent c) = (c .run < room) × T (isCode (c .code))
 Placed ends room over = T ends
-
-abbrev Allowed : Bool → Event → Type 0
-Allowed ends (sent c) = T (isCode (c .code))
-Allowed ends over = T ends
-
-code-of : (code : ℕ) → code ≤ 255 → forbidden code ≡ false → T (isCode code)
-code-of code l e = both-make (leb code 255) (opposite (forbidden code)) (le→leb code 255 l) (rw e tt)
-
-judges-allowed : (ends : Bool) (e : Event) → Eight ends e → Judges (Allowed ends) (allowed e)
-unfolding number
-judges-allowed ends (sent c) h =
-    judges-pick (forbidden (c .code)) (λ y. judges-against Forbidden tt) (λ n. judges-fine (sent c) (code-of (c .code) h n))
-judges-allowed ends over h = judges-fine over h
 
 judges-fits : (ends : Bool) (room : ℕ) (e : Event) → Allowed ends e → Judges (Placed ends room) (fits room e)
 unfolding number
@@ -130,14 +86,9 @@ judges-fits ends room (sent c) h =
     judges-pick (leb room (c .run)) (λ y. judges-against CoefficientPast tt) (λ n. judges-fine (sent c) (leb-false room (c .run) n, h))
 judges-fits ends room over h = judges-fine over h
 
-coefficient-reads : {bound : ℕ} (ends : Bool) (room : ℕ) (table : List Entry) → T (worded (meant ends) table)
+placed-reads : {bound : ℕ} (ends : Bool) (room : ℕ) (table : List Entry) → T (each (meant ends) table)
     → Reads bound 1 (λ e left. Placed ends room e) (judged (coefficientRead table) (fits room))
-unfolding coefficientRead tcoeff
-coefficient-reads ends room table t =
-    reads-judged
-    (reads-judged (reads-whole (reads-then (reads-word (meant ends) table t) (λ m left g. tcoeff-after ends m g)))
-    (λ e left g. judges-allowed ends e g))
-    (λ e left g. judges-fits ends room e g)
+placed-reads ends room table t = reads-judged (coefficient-reads ends table t) (λ e left g. judges-fits ends room e g)
 
 -- ---- blocks
 -- a block that may be empty only where EOB may come first
@@ -152,24 +103,15 @@ coefficients-after ends more room (sent c) h p =
     reads-map (λ rest. c ∷ rest) (h (room - suc (c .run))) (λ rest left g. ((p .0, p .1, g .0), tt))
 coefficients-after ends more room over h p = reads-done (λ left. (tt, p))
 
-later-worded : T (worded (meant true) laterTable5)
-unfolding laterTable5 pairs
-later-worded = tt
-
-first-worded : T (worded (meant false) firstTable5)
-unfolding firstTable5 pairs
-first-worded = tt
-
 -- a turn reads a codeword
-coefficients-read : (turns : ℕ) (ends : Bool) (room : ℕ) (table : List Entry) → T (worded (meant ends) table)
+coefficients-read : (turns : ℕ) (ends : Bool) (room : ℕ) (table : List Entry) → T (each (meant ends) table)
     → Reads turns 0 (λ b left. Fits room b × Coming ends b) (coefficients turns room table)
 unfolding coefficients
 coefficients-read zero ends room table t = reads-never
 coefficients-read (suc turns) ends room table t =
-    reads-weaker
-    (reads-turn (coefficient-reads ends room table t)
-    (λ e left g. coefficients-after ends (λ left. coefficients turns left laterTable5) room e (λ room. coefficients-read turns true room laterTable5 later-worded) g))
-    zero-le (λ b left h. h)
+    reads-any
+    (reads-turn (placed-reads ends room table t)
+    (λ e left g. coefficients-after ends (λ left. coefficients turns left laterTable5) room e (λ room. coefficients-read turns true room laterTable5 later-meanings) g))
 
 -- a block that is sent
 abbrev Sent : Bool → Block → Type 0
@@ -185,15 +127,15 @@ intra-reads : {bound : ℕ} → Reads bound 8 (λ b left. Sent true b) intraBloc
 unfolding intraBlock
 intra-reads =
     reads-then dc-reads
-    (λ dc left d. reads-map (λ rest. coefficient 0 dc ∷ rest) (reads-loop (λ turns. coefficients-read turns true 63 laterTable5 later-worded))
+    (λ dc left d. reads-map (λ rest. coefficient 0 dc ∷ rest) (reads-loop (λ turns. coefficients-read turns true 63 laterTable5 later-meanings))
     (λ rest left g. ((lit≤ tt, d, g .0), refl)))
 
 inter-reads : {bound : ℕ} → Reads bound 0 (λ b left. Sent false b) interBlock
 unfolding interBlock
-inter-reads = reads-loop (λ turns. coefficients-read turns false 64 firstTable5 first-worded)
+inter-reads = reads-loop (λ turns. coefficients-read turns false 64 firstTable5 first-meanings)
 
 block-reads : {bound : ℕ} (intra : Bool) → Reads bound 0 (λ b left. Sent intra b) (pick intra intraBlock interBlock)
-block-reads true = reads-weaker intra-reads zero-le (λ b left h. h)
+block-reads true = reads-any intra-reads
 block-reads false = inter-reads
 
 -- the blocks that a pattern names are sent, the others empty
@@ -255,20 +197,20 @@ patterned-empty (I ∷ ps) ((c ∷ cs) ∷ bs) h = refl
 abbrev Pattern : ℕ → ℕ → Type 0
 Pattern type pattern = If (hasCBP type) (T (some (bitsOf 6 pattern))) (pattern ≡ pick (isIntra type) 63 0)
 
-table4-worded : T (worded (λ m. some (bitsOf 6 m)) table4)
+table4-meanings : T (each (λ m. some (bitsOf 6 m)) table4)
 unfolding table4
-table4-worded = tt
+table4-meanings = tt
 
 pattern-reads : {bound : ℕ} (type : ℕ) → Reads bound 0 (λ pattern left. Pattern type pattern) (patternRead type)
-pattern-reads type = optional-reads (hasCBP type) (pick (isIntra type) 63 0) (λ t. reads-word (λ m. some (bitsOf 6 m)) table4 table4-worded)
+pattern-reads type = optional-reads (hasCBP type) (pick (isIntra type) 63 0) (λ t. reads-word (λ m. some (bitsOf 6 m)) table4 table4-meanings)
 
 -- an INTRA type has no CBP
 abbrev typed : ℕ → Bool
 typed type = both (within 1 10 type) (pick (isIntra type) (opposite (hasCBP type)) true)
 
-table2-worded : T (worded typed table2)
+table2-meanings : T (each typed table2)
 unfolding table2
-table2-worded = tt
+table2-meanings = tt
 
 opposite-twice : (b : Bool) → T b → T (opposite (opposite b))
 opposite-twice true t = t
@@ -296,14 +238,14 @@ unfolding number
 judges-landing a b =
     judges-pick (inRange a) (λ y. judges-fine a y) (λ n. judges-pick (inRange b) (λ y. judges-fine b y) (λ n. judges-against VectorOut tt))
 
-table3-worded : T (worded (λ m. true) table3)
+table3-meanings : T (each (λ m. true) table3)
 unfolding table3
-table3-worded = tt
+table3-meanings = tt
 
 component-reads : {bound : ℕ} (before : ℤ) → Reads bound 1 (λ z left. T (inRange z)) (componentRead before)
 unfolding componentRead
 component-reads before =
-    reads-judged (reads-word (λ m. true) table3 table3-worded)
+    reads-judged (reads-word (λ m. true) table3 table3-meanings)
     (λ n left g. judges-landing (before +ℤ pairOf n .printed) (before +ℤ pairOf n .other))
 
 abbrev Ranged : Vector → Type 0
@@ -328,7 +270,7 @@ macroblock-reads : {bound : ℕ} (f : Format) (number : ℕ) (before : Before) (
     → Reads bound 1 (λ m left. (m .address ≡ before .address + s) × ProperMacroblock f number m) (macroblock f number before s)
 unfolding macroblock
 macroblock-reads f number before s =
-    reads-then (reads-word typed table2 table2-worded)
+    reads-then (reads-word typed table2 table2-meanings)
     (λ type left t. reads-then (optional-reads (hasMQUANT type) 0 (λ y. quantiser-reads))
     (λ mquant left q. reads-then (optional-reads (isMC type) zeroVector (λ y. vector-reads f number (before .address + s) (preceding before s)))
     (λ vector left v. reads-then (pattern-reads type)
@@ -362,12 +304,12 @@ judges-mba last address m some =
     start true = judges-against StartCodeLast tt
     start false = judges-fine ended tt
 
-table1-worded : T (worded (leb 1) table1)
+table1-meanings : T (each (leb 1) table1)
 unfolding table1
-table1-worded = tt
+table1-meanings = tt
 
 mba-reads : {bound : ℕ} (last : Bool) (address : ℕ) → Reads bound 1 (λ x left. Met last address x) (judged (word table1) (mbaOf last address))
-mba-reads last address = reads-judged (reads-word (leb 1) table1 table1-worded) (λ m left g. judges-mba last address m (leb→le 1 m g))
+mba-reads last address = reads-judged (reads-word (leb 1) table1 table1-meanings) (λ m left g. judges-mba last address m (leb→le 1 m g))
 
 -- in the last group no bit is left after the macroblocks
 abbrev Ended : Bool → List Bit → Type 0
@@ -377,9 +319,8 @@ macroblocks-after : {bound : ℕ} (more : Before → Reader (List Macroblock)) (
     → ((before : Before) → Reads bound 0 (λ ms left. Rising f number (before .address) ms × Ended last left) (more before)) → Met last (before .address) x
     → Reads bound 0 (λ ms left. Rising f number (before .address) ms × Ended last left) (macroblocksAfter more f number before x)
 macroblocks-after more f last number before (step s) h m =
-    reads-weaker (reads-then (macroblock-reads f number before s)
+    reads-any (reads-then (macroblock-reads f number before s)
     (λ x left g. reads-map (λ xs. x ∷ xs) (h (after x)) (λ xs left r. ((rise (x .address) (g .0) (m .0), limit (x .address) (g .0) (m .1), g .1, r .0), r .1))))
-    zero-le (λ a left g. g)
   where
     rise : (address : ℕ) → address ≡ before .address + s → 1 ≤ s → before .address < address
     rise address e l = omega arith
@@ -398,11 +339,9 @@ macroblocks-from zero f last number before = reads-never
 macroblocks-from (suc turns) f true number before =
     reads-orEnd ended (judged (word table1) (mbaOf true (before .address))) (macroblocksAfter (macroblocksFrom turns f true number) f number before)
     (λ at. (record { end = refl; onward = omega arith }, (tt, refl)))
-    (reads-weaker (reads-turn (mba-reads true (before .address)) (λ x left g. macroblocks-after (macroblocksFrom turns f true number) f true number before x (macroblocks-from turns f true number) g))
-    zero-le (λ a left g. g))
+    (reads-any (reads-turn (mba-reads true (before .address)) (λ x left g. macroblocks-after (macroblocksFrom turns f true number) f true number before x (macroblocks-from turns f true number) g)))
 macroblocks-from (suc turns) f false number before =
-    reads-weaker (reads-turn (mba-reads false (before .address)) (λ x left g. macroblocks-after (macroblocksFrom turns f false number) f false number before x (macroblocks-from turns f false number) g))
-    zero-le (λ a left g. g)
+    reads-any (reads-turn (mba-reads false (before .address)) (λ x left g. macroblocks-after (macroblocksFrom turns f false number) f false number before x (macroblocks-from turns f false number) g))
 
 -- ---- groups
 group-head-reads : {bound : ℕ} (number : ℕ) → Reads bound 4 (λ q left. T (isQuantiser q)) (groupHead number)
@@ -424,11 +363,10 @@ groups-read : {bound : ℕ} (f : Format) (number : ℕ) (numbers : List ℕ)
     → Reads bound 0 (λ xs left. ProperGroups f (number ∷ numbers) xs × (left ≡ [])) (groupsRead f (number ∷ numbers))
 unfolding groupsRead
 groups-read f number [] =
-    reads-weaker (reads-map (λ x. x ∷ []) (group-reads f true number) (λ x left g. ((g .0 .0, g .0 .1, tt), g .1))) zero-le (λ a left g. g)
+    reads-any (reads-map (λ x. x ∷ []) (group-reads f true number) (λ x left g. ((g .0 .0, g .0 .1, tt), g .1)))
 groups-read f number (second ∷ numbers) =
-    reads-weaker (reads-then (group-reads f false number)
+    reads-any (reads-then (group-reads f false number)
     (λ x left g. reads-map (λ xs. x ∷ xs) (groups-read f second numbers) (λ xs left r. ((g .0 .0, g .0 .1, r .0), r .1))))
-    zero-le (λ a left g. g)
 
 all-groups-read : {bound : ℕ} (f : Format) → Reads bound 0 (λ xs left. ProperGroups f (groupNumbers f) xs × (left ≡ [])) (groupsRead f (groupNumbers f))
 all-groups-read Qcif = groups-read Qcif 1 (3 ∷ 5 ∷ [])

@@ -1,10 +1,10 @@
 -- What reading a picture can give, for any bytes and any N: an accepted picture is proper and took all N bits; a refusal is of document 01's table, at a place up to N. Assumes nothing.
-use Prim.Native.Nat.{ℕ, suc, _+_, _*_, _≤_, _<_}
-use mathlib.Core.Path.{_≡_, refl, sym, ap, subst, _∙_}
+use Prim.Native.Nat.{ℕ, suc, _+_, _-_, _*_, _≤_}
+use mathlib.Core.Path.{_≡_, refl, ap, subst, _∙_}
 use mathlib.Core.Bool.{Bool, true, false}
-use mathlib.Core.List.{List, [], _∷_}
+use mathlib.Core.List.{List, []}
 use native.Mathlib.Omega.{arith}
-use native.Mathlib.Nat.{le-refl}
+use native.Mathlib.Nat.{le-refl, sub-zero}
 use lib.Dec.{T, leb, ltb, leb→le, le→leb}
 use lib.ListN.{length}
 use borrow.Author.Tests.{le-ltb, ltb-false}
@@ -15,8 +15,9 @@ use Rattle.refusals.specs.declared.Refusal.{Refusal}
 use Rattle.refusals.specs.Number.{number}
 use Rattle.bits.specs.Bits.{Bit, source}
 use Rattle.bits.specs.Read.{Read, got, refused, endless, bad}
-use Rattle.bits.specs.Count.{length-source}
-use Rattle.bits.specs.Logic.{Holds, holds-weaker, ofBits, Fair, Took}
+use Rattle.bits.specs.Value.{length-bits}
+use Rattle.bits.specs.Source.{source-left}
+use Rattle.bits.specs.Logic.{Holds, holds-weaker, Fair, Took}
 use Rattle.format.specs.Format.{limit}
 use Rattle.format.specs.declared.Format.{Format}
 use Rattle.description.specs.Value.{Picture}
@@ -58,6 +59,9 @@ fair-refuses n end r e h =
       within = omega arith;
       counted = λ c. absurd (two (r .reason) c low);
     }
+
+length-source : (s : List ℕ) (n : ℕ) → n ≤ 8 * length s → length (source s n) ≡ n
+length-source s n h = rw (source-left s n h) (length-bits s 0 (n - 0) ∙ sub-zero n)
 
 picture-gives : (f : Format) (s : List ℕ) (n : ℕ) → n ≤ 8 * length s → Holds (Accepts f n) (Refuses n) (picture f (source s n) 0)
 picture-gives f s n h =
