@@ -10,6 +10,7 @@ use lib.ListN.{length, getD, take, drop, length-take, length-drop}
 use lib.Seq.{getD-take, take-take, take-nil}
 use Rattle.laws.specs.Choice.{pick, both, either, opposite, both-left, both-right, both-make}
 use Rattle.words.specs.Words.{isIntra, isMC, hasMQUANT, hasCBP}
+use Rattle.words.specs.Reads.{isCode}
 use Rattle.format.specs.Format.{formatBit, groupCount, groupNumbers}
 use Rattle.format.specs.declared.Format.{Format}
 use Rattle.format.specs.declared.Format.the-variants.{Qcif, Cif}
@@ -17,7 +18,7 @@ use Rattle.description.specs.Vector.{Vector, zeroVector, inRange, inPict
 use Rattle.description.specs.Value.{Block, Macroblock}
 use Rattle.description.specs.Flat.{Flat, numberOf, gather, gathers, macroblocksIn, groupsIn, pictureIn}
 use Rattle.description.specs.Valid.{all, isZero, isQuantiser, isLevel, codesFirst, validVector, validLevels, validMacroblock, validMacroblocks, validGroups, lengthsOf, validHead, valid}
-use Rattle.description.specs.Proper.{If, Each, isCode, Fits, Begins, allEmpty, ProperBlocks, ProperVector, ProperMacroblock, Rising, ProperGroups, Proper}
+use Rattle.description.specs.Proper.{If, Each, Fits, Begins, allEmpty, ProperBlocks, ProperVector, ProperMacroblock, Rising, ProperGroups, Proper}
 use Rattle.description.specs.Spread.{as-many}
 
 -- ---- a test of a list's numbers

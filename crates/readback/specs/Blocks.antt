@@ -16,9 +16,10 @@ use Rattle.bits.specs.Code.{Entry, word, wordOf}
 use Rattle.bits.specs.ReadBack.{Back, back-done, back-next, back-end, back-judged, back-loop, back-field}
 use Rattle.words.specs.Tables.{table4, pairs, firstTable5, laterTable5}
 use Rattle.words.specs.Words.{isIntra, hasCBP, Coefficient, coefficient, sent, over, forbidden, coefficientRead, tcoeffOf}
+use Rattle.words.specs.Reads.{isCode}
 use Rattle.words.specs.Back.{Sendable}
 use Rattle.description.specs.Value.{Block}
-use Rattle.description.specs.Proper.{If, Each, isCode, Fits, Begins, allEmpty, ProperBlocks}
+use Rattle.description.specs.Proper.{If, Each, Fits, Begins, allEmpty, ProperBlocks}
 use Rattle.reader.specs.Grammar.{optional, fits, coefficientsAfter, coefficients, dcRead, intraBlock, interBlock, blocksRead, patternRead}
 use Rattle.writer.specs.Write.{given, coefficientsOf, blockOf, blocksOf, present, patternOf}
 use Rattle.readback.specs.Words.{back-cbp, back-first, back-later, back-over, length-coefficient}
