@@ -5,4 +5,5 @@ pub mod Operation
 pub mod Table
 pub mod Block
 pub mod Rows
+pub mod Tabulate
 pub mod Linear
