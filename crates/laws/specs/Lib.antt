@@ -1,5 +1,6 @@
 pub mod Choice
 pub mod Integer
+pub mod Floor
 pub mod Sum
 pub mod Operation
 pub mod Table

@@ -1,0 +1,8 @@
+// From a description and a reference to a store.
+
+// What a macroblock that is sent is predicted from: nothing, the reference, or the reference filtered.
+pub enum Prediction {
+    Intra,
+    Inter,
+    Filtered,
+}

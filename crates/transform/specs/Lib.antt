@@ -1,0 +1,6 @@
+pub mod Cut
+pub mod Level
+pub mod Inverse
+pub mod Passes
+pub mod Filter
+pub mod Sample

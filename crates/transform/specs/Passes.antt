@@ -1,0 +1,28 @@
+-- What the quick way of the inverse transform computes on its way: sums along a line of eight, by their even and odd halves. Assumes nothing.
+use mathlib.Core.Path.{_≡_}
+use mathlib.Core.List.{List, []}
+use Prim.Native.Nat.{ℕ, _+_, _<_}
+use lib.IntN.{ℤ, pos, _+ℤ_, _*ℤ_}
+use lib.ListN.{length, getD}
+use Rattle.laws.specs.Sum.{sumZ}
+use Rattle.laws.specs.Linear.{Lin, term, plus}
+use Rattle.transform.specs.Inverse.{A}
+
+abbrev pub entry : List ℤ → ℕ → ℤ
+entry row i = getD row i (pos 0)
+
+-- a line's sum at x
+unfoldable pub along : List ℤ → ℕ → ℤ
+along row x = sumZ 8 (λ u. entry row u *ℤ A u x)
+
+-- r is the line of eight whose entries are what g says
+pub record Line (g : ℕ → ℤ) (r : List ℤ) : Type 0 where
+  pub size : length r ≡ 8
+  pub entries : (x : ℕ) → x < 8 → entry r x ≡ g x
+
+-- the part of a line's sum that its even places give, and its odd ones
+abbrev pub evenPart : ℤ → ℤ → ℤ → Lin
+evenPart k2 k4 k6 = plus (plus (plus (term 0 (pos 2048)) (term 2 k2)) (term 4 k4)) (term 6 k6)
+
+abbrev pub oddPart : ℤ → ℤ → ℤ → ℤ → Lin
+oddPart k1 k3 k5 k7 = plus (plus (plus (term 1 k1) (term 3 k3)) (term 5 k5)) (term 7 k7)

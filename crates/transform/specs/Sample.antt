@@ -1,0 +1,46 @@
+-- What a store's byte is: "prediction (0 for INTRA) plus transform output, cut to 0..255". Assumes nothing.
+use mathlib.Core.Path.{_≡_, refl, sym, ap, subst, _∙_}
+use mathlib.Core.Bool.{Bool, true, false}
+use Prim.Native.Nat.{ℕ, _≤_, zero-le}
+use native.Mathlib.Nat.{le-trans, le-of-eq}
+use borrow.Author.Tests.{ltb-false, le-ltb}
+use lib.Dec.{T, ltb, lit≤}
+use lib.IntN.{ℤ, pos, negsuc, natAbs, _+ℤ_}
+use lib.Signed.{nonNeg}
+use Rattle.laws.specs.Choice.{pick}
+use Rattle.laws.specs.Integer.{Low}
+use Rattle.transform.specs.Cut.{atLeast, atMost, cut, pick-true, pick-false}
+
+unfoldable pub sampleOf : ℤ → ℤ → ℕ
+sampleOf prediction difference = natAbs (cut (pos 0) (pos 255) (prediction +ℤ difference))
+
+-- z is one of 0..255
+pub record Sample (z : ℤ) : Type 0 where
+  pub value : ℕ
+  pub is : z ≡ pos value
+  pub most : value ≤ 255
+
+pub cut-sample : (z : ℤ) → Sample (cut (pos 0) (pos 255) z)
+unfolding cut atLeast atMost
+cut-sample (pos n) =
+    subst (λ (z : ℤ). Sample (atMost (pos 255) z)) (pick-false (pos 0) (pos n) (le-ltb n 0 zero-le)) (go (ltb 255 n) refl)
+  where
+    go : (b : Bool) → ltb 255 n ≡ b → Sample (pick b (pos 255) (pos n))
+    go true e = record { value = 255; is = refl; most = lit≤ tt }
+    go false e = record { value = n; is = refl; most = ltb-false 255 n e }
+cut-sample (negsuc n) = record { value = 0; is = refl; most = lit≤ tt }
+
+-- what the machine asks of a number that becomes a byte
+pub sample-not-negative : {z : ℤ} → Sample z → T (nonNeg z)
+sample-not-negative s = subst (λ (z : ℤ). T (nonNeg z)) (sym (s .is)) tt
+
+pub sample-size : {z : ℤ} → Sample z → natAbs z ≤ 255
+sample-size s = le-trans (le-of-eq (ap natAbs (s .is))) (s .most)
+
+pub sample-low : {z : ℤ} → Sample z → Low 255 z
+sample-low s = record { low = sample-size s }
+
+-- A sample is a byte.
+pub sample-most : (prediction difference : ℤ) → sampleOf prediction difference ≤ 255
+unfolding sampleOf
+sample-most prediction difference = sample-size (cut-sample (prediction +ℤ difference))

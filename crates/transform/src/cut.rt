@@ -1,0 +1,22 @@
+// A number cut to a range.
+ghost use mathlib.Core.Path.{_≡_};
+ghost use Rattle.transform.specs.Cut.{atLeast, atMost, cut};
+
+// Each bound is a step of its own: the compiler then does several numbers at once.
+fn at_least(lowest: i32, z: i32) -> i32
+    ensures { λ r. ⌜ r ≡ atLeast lowest z ⌝ }
+{
+    if z < lowest { lowest } else { z }
+}
+
+fn at_most(highest: i32, z: i32) -> i32
+    ensures { λ r. ⌜ r ≡ atMost highest z ⌝ }
+{
+    if highest < z { highest } else { z }
+}
+
+pub fn cut(lowest: i32, highest: i32, z: i32) -> i32
+    ensures { λ r. ⌜ r ≡ cut lowest highest z ⌝ }
+{
+    at_most(highest, at_least(lowest, z))
+}

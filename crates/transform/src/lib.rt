@@ -1,0 +1,6 @@
+// From levels to samples: dequantiser, inverse transform, loop filter, and the sum of prediction and transform output, on blocks of eight rows of eight by value.
+pub mod cut;
+pub mod dequantise;
+pub mod filter;
+pub mod inverse;
+pub mod sample;
