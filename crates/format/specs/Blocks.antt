@@ -88,7 +88,7 @@ pub record Belongs (f : Format) (k : ℕ) : Type 0 where
   pub column : j < 8
   pub is : k ≡ placeOf f n b i j
 
-number-less : (f : Format) (r c : ℕ) → r < macroblocksDown f → c < macroblocksAcross f → numberOf f r c < macroblockCount f
+pub number-less : (f : Format) (r c : ℕ) → r < macroblocksDown f → c < macroblocksAcross f → numberOf f r c < macroblockCount f
 number-less Qcif r c l m = omega arith
 number-less Cif r c l m = omega arith
 

@@ -1,2 +1,5 @@
 pub mod Sample
 pub mod Wrote
+pub mod Turn
+pub mod Rendered
+pub mod Zero
