@@ -22,7 +22,7 @@ use Rattle.description.specs.Flat.{Flat}
 use Rattle.description.specs.Fields.{typeOf}
 use Rattle.description.specs.Moved.{moved}
 use Rattle.transform.specs.Cut.{cut, atLeast, atMost}
-use Rattle.transform.specs.Sample.{sampleOf}
+use Rattle.transform.specs.Sample.{Sample, sampleOf}
 use Rattle.render.specs.declared.Prediction.{Prediction}
 use Rattle.render.specs.declared.Prediction.the-variants.{Intra, Inter, Filtered}
 use Rattle.render.specs.Sample.{Content, source, predicted, valueOf, contentOf, valueAt}
@@ -35,6 +35,10 @@ rowsOf s start stride i j = getD s (start + i * stride + j) 0
 -- the same, as numbers that are added to
 abbrev pub blockFrom : List ℕ → ℕ → ℕ → ℕ → ℕ → ℤ
 blockFrom s start stride i j = pos (rowsOf s start stride i j)
+
+-- each number of a block is a sample
+abbrev pub Samples : List (List ℤ) → Type 0
+Samples block = (i j : ℕ) → Sample (cell (pos 0) block i j)
 
 -- a macroblock that isn't sent
 abbrev pub keptOf : Format → List ℕ → Values
