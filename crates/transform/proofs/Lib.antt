@@ -1,1 +1,3 @@
 mod Placing
+mod Lines
+mod Rows

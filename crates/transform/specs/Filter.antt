@@ -1,11 +1,17 @@
 -- The loop filter (FIL), by its definition. Assumes nothing.
+use mathlib.Core.Path.{_≡_, refl, sym, ap, subst, _∙_}
 use mathlib.Core.Bool.{Bool, true, false}
 use mathlib.Core.List.{List, []}
-use Prim.Native.Nat.{ℕ, _+_, _-_, _≤_}
-use lib.Dec.{eqb}
+use Prim.Native.Nat.{ℕ, _+_, _*_, _-_, _≤_, _<_}
+use native.Mathlib.Decide.{ℕ-discrete}
+use native.Mathlib.Omega.{arith}
+use borrow.Author.Tests.{ne-eqb}
+use lib.Dec.{T, eqb, lit≤}
 use lib.IntN.{ℤ, pos, _+ℤ_, _*ℤ_}
-use Rattle.laws.specs.Choice.{pick, either}
+use Rattle.laws.specs.Choice.{pick, either, T-true}
+use Rattle.transform.specs.Sample.{Sample}
 use Rattle.laws.specs.Block.{cell}
+use Rattle.laws.specs.Integer.{Low, low-up, low-mul, low-add}
 use Rattle.laws.specs.Floor.{floorDivided}
 
 -- One way, at place k: "weights 1, 2, 1 each way inside the 8 by 8 block, 0, 4, 0 at its edge"
@@ -21,3 +27,61 @@ roundedSixteenth sum = floorDivided (sum +ℤ pos 8) 16
 unfoldable pub filterAt : List (List ℤ) → ℕ → ℕ → ℤ
 filterAt block row column =
     roundedSixteenth (weighted (λ x. weighted (λ y. cell (pos 0) block y x) row) column)
+
+-- Every number of a block is a sample.
+abbrev pub Samples : List (List ℤ) → Type 0
+Samples block = (i j : ℕ) → Sample (cell (pos 0) block i j)
+
+-- k is a place at the edge.
+abbrev pub AtEdge : ℕ → Type 0
+AtEdge k = T (either (eqb k 0) (eqb k 7))
+
+-- ---- one way: at the edge, inside, and by what it looks at
+pub weighted-edge : (g : ℕ → ℤ) (k : ℕ) → AtEdge k → weighted g k ≡ pos 4 *ℤ g k
+unfolding weighted
+weighted-edge g k t = ap (λ (b : Bool). pick b (pos 4 *ℤ g k) (g (k - 1) +ℤ pos 2 *ℤ g k +ℤ g (k + 1))) (T-true (either (eqb k 0) (eqb k 7)) t)
+
+pub weighted-inside : (g : ℕ → ℤ) (k : ℕ) → 1 ≤ k → k ≤ 6 → weighted g k ≡ g (k - 1) +ℤ pos 2 *ℤ g k +ℤ g (k + 1)
+unfolding weighted
+weighted-inside g k p q =
+    ap (λ (b : Bool). pick b (pos 4 *ℤ g k) (g (k - 1) +ℤ pos 2 *ℤ g k +ℤ g (k + 1)))
+    ((λ i. either (ne-eqb k 0 (more p) i) (ne-eqb k 7 (less q) i)))
+  where
+    more : {k : ℕ} → 1 ≤ k → k ≡ 0 → ⊥
+    more p e = omega arith
+
+    less : {k : ℕ} → k ≤ 6 → k ≡ 7 → ⊥
+    less q e = omega arith
+
+-- ---- how large one way makes numbers
+pub edge-low : {b : ℤ} {m : ℕ} → Low m b → Low (4 * m) (pos 4 *ℤ b)
+edge-low p = low-mul {a = pos 4} {m = 4} (record { low = lit≤ tt }) p
+
+pub inside-low : {a b c : ℤ} {m : ℕ} → Low m a → Low m b → Low m c → Low (4 * m) (a +ℤ pos 2 *ℤ b +ℤ c)
+inside-low {m = m} p q r =
+    low-up (4 * m) (low-add (low-add p (low-mul {a = pos 2} {m = 2} (record { low = lit≤ tt }) q)) r) (omega arith)
+
+-- the places below 8, by where they stand
+by-place : (P : ℕ → Type 0) → ((k : ℕ) → AtEdge k → P k) → ((k : ℕ) → 1 ≤ k → k ≤ 6 → P k) → (k : ℕ) → k < 8 → P k
+by-place P e i k l = go (ℕ-discrete k 0) (ℕ-discrete k 7)
+  where
+    go : Dec (k ≡ 0) → Dec (k ≡ 7) → P k
+    go (yes p) d = subst P (sym p) (e 0 tt)
+    go (no n) (yes p) = subst P (sym p) (e 7 tt)
+    go (no n) (no m) = i k (omega arith) (omega arith)
+
+pub edge-below : (k : ℕ) → AtEdge k → k < 8
+edge-below k t = go (ℕ-discrete k 0) (ℕ-discrete k 7)
+  where
+    go : Dec (k ≡ 0) → Dec (k ≡ 7) → k < 8
+    go (yes p) d = omega arith
+    go (no n) (yes p) = omega arith
+    go (no n) (no m) = absurd (subst (λ (b : Bool). T b) (λ i. either (ne-eqb k 0 n i) (ne-eqb k 7 m i)) t)
+
+pub weighted-same : (g h : ℕ → ℤ) → ((k : ℕ) → k < 8 → g k ≡ h k) → (k : ℕ) → k < 8 → weighted g k ≡ weighted h k
+weighted-same g h e =
+    by-place (λ k. weighted g k ≡ weighted h k)
+    (λ k t. weighted-edge g k t ∙ ap (λ (z : ℤ). pos 4 *ℤ z) (e k (edge-below k t)) ∙ sym (weighted-edge h k t))
+    (λ k p q.
+    weighted-inside g k p q ∙ (λ i. e (k - 1) (omega arith) i +ℤ pos 2 *ℤ e k (omega arith) i +ℤ e (k + 1) (omega arith) i)
+    ∙ sym (weighted-inside h k p q))

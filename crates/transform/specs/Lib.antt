@@ -2,5 +2,5 @@ pub mod Cut
 pub mod Level
 pub mod Inverse
 pub mod Passes
-pub mod Filter
 pub mod Sample
+pub mod Filter
