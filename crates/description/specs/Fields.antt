@@ -2,6 +2,7 @@
 use Prim.Native.Nat.{ℕ, zero, suc, _+_, _*_, _/_, _%_}
 use mathlib.Core.Bool.{Bool, true, false}
 use mathlib.Core.List.{List}
+use lib.Dec.{eqb}
 use lib.ListN.{getD, take, drop}
 use Rattle.laws.specs.Choice.{pick}
 use Rattle.laws.specs.Table.{allB}
@@ -10,6 +11,10 @@ use Rattle.format.specs.declared.Format.{Format}
 use Rattle.format.specs.Order.{macroblockCount}
 use Rattle.description.specs.Vector.{Vector, zeroVector}
 use Rattle.description.specs.Flat.{Flat, numberOf}
+
+-- a description out of its three lists
+abbrev pub flat : List ℕ → List ℕ → List ℕ → Flat
+flat head macroblocks levels = record { head = head; macroblocks = macroblocks; levels = levels }
 
 -- the four bytes and the 384 levels of macroblock n
 abbrev pub fieldsAt : Flat → ℕ → List ℕ
@@ -59,3 +64,7 @@ quantiserOf d n = quantiserNext d n (quantiserBefore d (n / 33) (n % 33))
 -- ---- "A refresh picture sends every macroblock as INTRA."
 unfoldable pub refresh : Format → Flat → Bool
 refresh f d = allB (macroblockCount f) (λ n. isIntra (typeOf d n))
+
+-- no macroblock is sent
+unfoldable pub nothingSent : Format → Flat → Bool
+nothingSent f d = allB (macroblockCount f) (λ n. eqb (typeOf d n) 0)

@@ -12,7 +12,7 @@ use Rattle.format.specs.declared.Format.{Format}
 use Rattle.format.specs.declared.Format.the-variants.{Qcif, Cif}
 use Rattle.format.specs.Format.{storeLength}
 use Rattle.format.specs.Place.{macroblocksAcross, macroblocksDown, wide, high, base, index, own}
-use Rattle.format.specs.Order.{macroblockCount, numberOf}
+use Rattle.format.specs.Order.{macroblockCount, macroblockAt}
 use Rattle.format.specs.Grid.{store-is, Spot, spot}
 use Rattle.format.specs.Blocks.{On, on-at, own-across, own-down, number-less}
 use Rattle.description.specs.Flat.{Flat}

@@ -10,7 +10,7 @@ use Rattle.laws.specs.Tabulate.{rows, made}
 use Rattle.words.specs.Words.{isIntra, isFiltered}
 use Rattle.format.specs.declared.Format.{Format}
 use Rattle.format.specs.Place.{wide, high, index, own, blockOf, cellOf}
-use Rattle.format.specs.Order.{numberOf}
+use Rattle.format.specs.Order.{macroblockAt}
 use Rattle.description.specs.Vector.{Vector}
 use Rattle.description.specs.Flat.{Flat}
 use Rattle.description.specs.Fields.{typeOf, vectorOf, quantiserOf}
@@ -62,7 +62,7 @@ contentOf d n = record {
 
 -- row i, column j of the block at block row y, block column x of plane p
 unfoldable pub valueAt : Format → Flat → List ℕ → ℕ → ℕ → ℕ → ℕ → ℕ → ℕ
-valueAt f d s p y x i j = valueOf f s (contentOf d (numberOf f (own p y) (own p x))) p y x i j
+valueAt f d s p y x i j = valueOf f s (contentOf d (macroblockAt f (own p y) (own p x))) p y x i j
 
 -- the sample in row y, column x of plane p
 abbrev pub sampleAt : Format → Flat → List ℕ → ℕ → ℕ → ℕ → ℕ

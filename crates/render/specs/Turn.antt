@@ -4,29 +4,26 @@ use mathlib.Core.Bool.{Bool, true, false}
 use mathlib.Core.List.{List}
 use Prim.Native.Nat.{ℕ, zero, suc, _+_, _*_, _/_, _%_, _≤_, _<_, zero-le}
 use native.Mathlib.Omega.{arith}
-use borrow.Author.Tests.{eq-eqb, ne-eqb, le-ltb}
-use lib.Dec.{eqb}
+use borrow.Author.Tests.{le-ltb}
 use lib.IntN.{ℤ, pos, negsuc, natAbs, _+ℤ_, +ℤ-idr}
 use lib.ListN.{length, getD}
-use Rattle.laws.specs.Choice.{pick, opposite}
-use Rattle.laws.specs.Rows.{Put, put-as}
+use Rattle.laws.specs.Rows.{Put, put-as, Room}
 use Rattle.laws.specs.Block.{Is, cell}
-use Rattle.laws.specs.Tabulate.{made, is-made}
 use Rattle.format.specs.declared.Format.{Format}
-use Rattle.format.specs.Place.{macroblocksAcross, macroblocksDown, wide, base, index, own, blockOf, cellOf}
-use Rattle.format.specs.Order.{rowOf, columnOf, numberOf}
-use Rattle.format.specs.Grid.{of-number}
-use Rattle.format.specs.Blocks.{On, Placed, index-cell}
+use Rattle.format.specs.declared.Format.the-variants.{Qcif, Cif}
+use Rattle.format.specs.Format.{storeLength}
+use Rattle.format.specs.Place.{macroblocksAcross, macroblocksDown, blocksAcross, blocksDown, wide, high, base, index, blockOf, cellOf}
+use Rattle.format.specs.Blocks.{On, Placed, index-cell, room-at}
 use Rattle.description.specs.Vector.{Vector}
-use Rattle.description.specs.Flat.{Flat}
-use Rattle.description.specs.Fields.{typeOf}
-use Rattle.description.specs.Moved.{moved}
+use Rattle.description.specs.Flat.{numberOf}
+use Rattle.description.specs.Moved.{moved, Aims}
 use Rattle.transform.specs.Cut.{cut, atLeast, atMost}
-use Rattle.transform.specs.Sample.{Sample, sampleOf}
+use Rattle.transform.specs.Sample.{sampleOf}
 use Rattle.render.specs.declared.Prediction.{Prediction}
 use Rattle.render.specs.declared.Prediction.the-variants.{Intra, Inter, Filtered}
-use Rattle.render.specs.Sample.{Content, source, predicted, valueOf, contentOf, valueAt}
-use Rattle.render.specs.Wrote.{Values, Wrote, wrote, wrote-as, Part, Macroblock, part-as, part-more, part-four}
+use Rattle.render.specs.Sample.{source, predicted, differenceOf}
+use Rattle.render.specs.Wrote.{Values, Wrote, wrote, wrote-as, Part, part-more, part-four}
+use Rattle.render.specs.Zero.{difference-zero}
 
 -- rows of a store, a stride apart
 abbrev pub rowsOf : List ℕ → ℕ → ℕ → ℕ → ℕ → ℕ
@@ -36,9 +33,15 @@ rowsOf s start stride i j = getD s (start + i * stride + j) 0
 abbrev pub blockFrom : List ℕ → ℕ → ℕ → ℕ → ℕ → ℤ
 blockFrom s start stride i j = pos (rowsOf s start stride i j)
 
--- each number of a block is a sample
-abbrev pub Samples : List (List ℤ) → Type 0
-Samples block = (i j : ℕ) → Sample (cell (pos 0) block i j)
+-- a prediction's blocks have a DC code first
+abbrev pub intraOf : Prediction → Bool
+intraOf Intra = true
+intraOf Inter = false
+intraOf Filtered = false
+
+-- a vector's two bytes
+abbrev pub vectorFrom : ℕ → ℕ → Vector
+vectorFrom horizontal vertical = record { horizontal = numberOf horizontal; vertical = numberOf vertical }
 
 -- a macroblock that isn't sent
 abbrev pub keptOf : Format → List ℕ → Values
@@ -87,16 +90,81 @@ pub sample-whole : (n : ℕ) → n ≤ 255 → n ≡ sampleOf (pos n) (pos 0)
 unfolding sampleOf
 sample-whole n l = sym (ap natAbs (ap (cut (pos 0) (pos 255)) (+ℤ-idr (pos n)) ∙ cut-whole n l))
 
--- a prediction and what is added, put where the block lies
-pub block-put : {f : Format} {p b w y x : ℕ} {g e : ℕ → ℕ → ℤ} {a d : List (List ℤ)} {t u : List ℕ} → Plane f p b w → On f p y x → Is (pos 0) g a → Is (pos 0) e d
-    → Put 8 8 (b + y * 8 * w + x * 8) w (λ i j. sampleOf (cell (pos 0) a i j) (cell (pos 0) d i j)) t u → Wrote f p y x (λ i j. sampleOf (g i j) (e i j)) t u
-block-put m o h k r = wrote-as (λ i j l n z. sampleOf (h .cells i j l n z) (k .cells i j l n z)) (wrote (m .start) (m .stride) o r)
+-- a prediction and what is added, put at a place of the store
+pub drawn : {k : Prediction} (m : Prediction) (s : List ℕ) (from : ℕ) (bytes : ℕ → ℕ) (q : ℕ) {to w : ℕ} {a d : List (List ℤ)} {t u : List ℕ} → k ≡ m
+    → Is (pos 0) (predicted m (blockFrom s from w)) a → Is (pos 0) (differenceOf bytes (intraOf m) q) d
+    → Put 8 8 to w (λ i j. sampleOf (cell (pos 0) a i j) (cell (pos 0) d i j)) t u
+    → Put 8 8 to w (λ i j. sampleOf (predicted k (blockFrom s from w) i j) (differenceOf bytes (intraOf k) q i j)) t u
+drawn m s from bytes q {to} {w} {t = t} {u = u} e h n r =
+    subst (λ (k : Prediction). Put 8 8 to w (λ i j. sampleOf (predicted k (blockFrom s from w) i j) (differenceOf bytes (intraOf k) q i j)) t u) (sym e)
+    (put-as (λ i j l m z. sampleOf (h .cells i j l m z) (n .cells i j l m z)) r)
 
 -- the reference's block as it is, where nothing is added
-pub block-copied : {f : Format} {p b w y x : ℕ} {e : ℕ → ℕ → ℤ} (s : List ℕ) (from : ℕ) {t u : List ℕ} → Plane f p b w → On f p y x → ((k : ℕ) → getD s k 0 ≤ 255) → ((i j : ℕ) → i < 8 → j < 8 → e i j ≡ pos 0)
-    → Put 8 8 (b + y * 8 * w + x * 8) w (rowsOf s from w) t u → Wrote f p y x (λ i j. sampleOf (blockFrom s from w i j) (e i j)) t u
-block-copied {w = w} s from m o h k r =
-    wrote-as (λ i j l n. sample-whole (rowsOf s from w i j) (h (from + i * w + j)) ∙ ap (sampleOf (blockFrom s from w i j)) (sym (k i j l n))) (wrote (m .start) (m .stride) o r)
+pub copied : {k : Prediction} (s : List ℕ) (from : ℕ) (bytes : ℕ → ℕ) (q : ℕ) {to w : ℕ} {t u : List ℕ} → k ≡ Inter
+    → ((n : ℕ) → getD s n 0 ≤ 255) → ((n : ℕ) → n < 64 → bytes n ≡ 0)
+    → Put 8 8 to w (rowsOf s from w) t u
+    → Put 8 8 to w (λ i j. sampleOf (predicted k (blockFrom s from w) i j) (differenceOf bytes (intraOf k) q i j)) t u
+copied s from bytes q {to} {w} {t} {u} e h n r =
+    subst (λ (k : Prediction). Put 8 8 to w (λ i j. sampleOf (predicted k (blockFrom s from w) i j) (differenceOf bytes (intraOf k) q i j)) t u) (sym e)
+    (put-as (λ i j l m. sample-whole (rowsOf s from w i j) (h (from + i * w + j)) ∙ ap (sampleOf (blockFrom s from w i j)) (sym (difference-zero bytes q i j n l m))) r)
+
+-- both rooms: of the block that the vector points to, and of the block itself
+pub room-from : {f : Format} {p b w : ℕ} → Plane f p b w → (v : Vector) (y x : ℕ) {my mx n : ℕ} → my ≡ moved p (y * 8) (v .vertical) → mx ≡ moved p (x * 8) (v .horizontal)
+    → On f p y x → Aims f p y x v → n ≡ storeLength f → Room 8 8 (b + my * w + mx) w n
+room-from {f} {p} {b} {w} e v y x {my} {mx} {n} ey ex o a en =
+    room-at f p my mx 8 8 b w n (e .start) (e .stride) en (o .plane) (omega arith)
+    (subst (λ (k : ℕ). k + 8 ≤ high f p) (sym ey) (a .bottom)) (subst (λ (k : ℕ). k + 8 ≤ wide f p) (sym ex) (a .right))
+
+pub room-to : {f : Format} {p b w y x n : ℕ} → Plane f p b w → On f p y x → n ≡ storeLength f → Room 8 8 (b + y * 8 * w + x * 8) w n
+room-to {f} {p} {b} {w} {y} {x} {n} e o en =
+    room-at f p (y * 8) (x * 8) 8 8 b w n (e .start) (e .stride) en (o .plane) (omega arith) (less (blocksDown f p) (o .row)) (less (blocksAcross f p) (o .column))
+  where
+    less : (m : ℕ) {k : ℕ} → k < m → k * 8 + 8 ≤ m * 8
+    less m l = omega arith
+
+pub room-four : {f : Format} {b w n : ℕ} → Plane f 0 b w → (r c : ℕ) → r < macroblocksDown f → c < macroblocksAcross f → n ≡ storeLength f → Room 16 16 (b + r * 16 * w + c * 16) w n
+room-four {f} {b} {w} {n} e r c hr hc en =
+    room-at f 0 (r * 16) (c * 16) 16 16 b w n (e .start) (e .stride) en (omega arith) (omega arith) (less (macroblocksDown f) hr) (less (macroblocksAcross f) hc)
+  where
+    less : (m : ℕ) {k : ℕ} → k < m → k * 16 + 16 ≤ m * 2 * 8
+    less m l = omega arith
+
+-- the block, by its place
+pub block-drawn : {f : Format} {p b w : ℕ} → Plane f p b w → (k : Prediction) (s : List ℕ) (v : Vector) (y x : ℕ) {my mx : ℕ} {e : ℕ → ℕ → ℤ} {t u : List ℕ} → my ≡ moved p (y * 8) (v .vertical) → mx ≡ moved p (x * 8) (v .horizontal)
+    → On f p y x → Put 8 8 (b + y * 8 * w + x * 8) w (λ i j. sampleOf (predicted k (blockFrom s (b + my * w + mx) w) i j) (e i j)) t u
+    → Wrote f p y x (λ i j. sampleOf (predicted k (source f s v p y x) i j) (e i j)) t u
+block-drawn m k s v y x {e = e} ey ex o r =
+    wrote-as (λ i j l n z. sampleOf (predicted k (rows-source m s v y x ey ex z) i j) (e i j)) (wrote (m .start) (m .stride) o r)
+
+-- places are small numbers
+pub on-small : {f : Format} {p y x : ℕ} → On f p y x → (y < 36) × (x < 44)
+on-small {f} {p} {y} {x} o = (go f p (o .row), go2 f p (o .column))
+  where
+    go : (f : Format) (p : ℕ) → y < blocksDown f p → y < 36
+    go Qcif zero l = omega arith
+    go Qcif (suc p) l = omega arith
+    go Cif zero l = omega arith
+    go Cif (suc p) l = omega arith
+
+    go2 : (f : Format) (p : ℕ) → x < blocksAcross f p → x < 44
+    go2 Qcif zero l = omega arith
+    go2 Qcif (suc p) l = omega arith
+    go2 Cif zero l = omega arith
+    go2 Cif (suc p) l = omega arith
+
+pub size-small : (f : Format) → (macroblocksDown f ≤ 18) × (macroblocksAcross f ≤ 22)
+size-small Qcif = (omega arith, omega arith)
+size-small Cif = (omega arith, omega arith)
+
+pub wide-least : (f : Format) (p : ℕ) → 8 ≤ wide f p
+wide-least Qcif zero = omega arith
+wide-least Qcif (suc p) = omega arith
+wide-least Cif zero = omega arith
+wide-least Cif (suc p) = omega arith
+
+pub wide-luminance : (f : Format) → 16 ≤ wide f 0
+wide-luminance Qcif = omega arith
+wide-luminance Cif = omega arith
 
 -- one block more of the six
 pub sent-more : {f : Format} {r c b p y x : ℕ} (s : List ℕ) (k : Prediction) (v : Vector) (a : ℕ → ℕ → ℕ → ℤ) {t₀ t u : List ℕ} → Placed f r c b p y x
@@ -104,14 +172,3 @@ pub sent-more : {f : Format} {r c b p y x : ℕ} (s : List ℕ) (k : Prediction)
 unfolding sentOf
 sent-more {f} {p = p} {y = y} {x = x} s k v a l q h =
     part-more l q (wrote-as (λ i j m n. ap (λ (e : ℕ). sampleOf (predicted k (source f s v p y x) i j) (a e i j)) (sym (l .number))) h)
-
--- ---- of a description
--- the number of a block of the macroblock in the row and column of n is n
-number-is : (f : Format) (n p y x : ℕ) → own p y ≡ rowOf f n → own p x ≡ columnOf f n → n ≡ numberOf f (own p y) (own p x)
-number-is f n p y x e h = sym ((λ i. numberOf f (e i) (h i)) ∙ of-number f n)
-
-pub kept-all : {f : Format} {t u : List ℕ} (n : ℕ) (d : Flat) (s : List ℕ) → typeOf d n ≡ 0
-    → Macroblock f (rowOf f n) (columnOf f n) (keptOf f s) t u → Macroblock f (rowOf f n) (columnOf f n) (valueAt f d s) t u
-unfolding valueAt valueOf contentOf
-kept-all {f} n d s e h =
-    part-as (λ p y x a b i j l m. rw (eq-eqb _ _ e) refl ∙ ap (λ (k : ℕ). valueOf f s (contentOf d k) p y x i j) (number-is f n p y x a b)) h

@@ -10,7 +10,7 @@ use Rattle.laws.specs.Rows.{Put}
 use Rattle.format.specs.declared.Format.{Format}
 use Rattle.format.specs.Format.{storeLength}
 use Rattle.format.specs.Place.{macroblocksAcross, macroblocksDown, blocksAcross, blocksDown, wide, high, base, index, own, blockOf, cellOf}
-use Rattle.format.specs.Order.{rowOf, columnOf, numberOf}
+use Rattle.format.specs.Order.{rowOf, columnOf, macroblockAt}
 use Rattle.format.specs.Grid.{Same, index-same, number-row, number-column, of-number}
 use Rattle.format.specs.Blocks.{On, own-across, block-six, block-same, Placed, index-cell}
 
@@ -134,7 +134,7 @@ part-four {f} {r} {c} {b} {w} {g} {e} {s} {t} eb ew hr hc a h = record {
 -- ---- a picture: the macroblocks whose numbers are below n
 pub record Drawn (f : Format) (n : ℕ) (g : Values) (t : List ℕ) : Type 0 where
   pub size : length t ≡ storeLength f
-  pub inside : (p y x : ℕ) → On f p y x → numberOf f (own p y) (own p x) < n → (i j : ℕ) → i < 8 → j < 8 → cellOf f t p y x i j ≡ g p y x i j
+  pub inside : (p y x : ℕ) → On f p y x → macroblockAt f (own p y) (own p x) < n → (i j : ℕ) → i < 8 → j < 8 → cellOf f t p y x i j ≡ g p y x i j
 
 pub drawn-none : {f : Format} {g : Values} {s : List ℕ} → length s ≡ storeLength f → Drawn f 0 g s
 drawn-none e = record { size = e; inside = λ p y x o l. absurd (none l) }
@@ -148,7 +148,7 @@ drawn-more {f} {n} {g} {s} {t} h m = record {
   size = m .size ∙ h .size;
   inside = λ p y x o l i j a b. ⊎-elim
       (λ e. m .inside p y x o (sym (number-row f (own p y) (own p x) (own-across f p x (o .column))) ∙ ap (rowOf f) e) (sym (number-column f (own p y) (own p x) (own-across f p x (o .column))) ∙ ap (columnOf f) e) (block-six p y x (o .plane)) i j a b)
-      (λ k. m .outside p y x o (λ e1 e2. less (numberOf f (own p y) (own p x)) k ((λ i. numberOf f (e1 i) (e2 i)) ∙ of-number f n)) i j a b ∙ h .inside p y x o k i j a b)
+      (λ k. m .outside p y x o (λ e1 e2. less (macroblockAt f (own p y) (own p x)) k ((λ i. macroblockAt f (e1 i) (e2 i)) ∙ of-number f n)) i j a b ∙ h .inside p y x o k i j a b)
       (eq-or-lt-of-le (at-most l));
 }
   where

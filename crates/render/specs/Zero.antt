@@ -4,7 +4,8 @@ use mathlib.Core.Bool.{Bool, true, false}
 use mathlib.Core.List.{List, []}
 use Prim.Native.Nat.{ℕ, zero, suc, _+_, _*_, _<_}
 use native.Mathlib.Omega.{arith}
-use lib.Dec.{T, ltb, ltb→lt}
+use lib.Dec.{T, ltb, ltb→lt, eqb, eqb→eq}
+use Rattle.laws.specs.Choice.{true-T}
 use lib.IntN.{ℤ, pos, negsuc, _+ℤ_, _*ℤ_, zero-*ℤ, +ℤ-idl, +ℤ-idr}
 use lib.ListN.{getD}
 use Rattle.laws.specs.Table.{allB, all-at}
@@ -48,3 +49,7 @@ difference-zero bytes q i j h l m = ap output sums
     sums =
         sum-ext 8 _ _ (λ v lv. sum-ext 8 _ _ (λ u lu. ap (λ (z : ℤ). z *ℤ A u j *ℤ A v i) (made-at (pos 0) (coefficientAt bytes false q) v u lv lu ∙ coefficient-zero bytes q v u h lv lu) ∙ ap (λ (z : ℤ). z *ℤ A v i) (zero-*ℤ (A u j)) ∙ zero-*ℤ (A v i)) ∙ sum-none 8)
         ∙ sum-none 8
+
+-- what a test of all 64 says
+pub empty-zero : (bytes : ℕ → ℕ) {b : Bool} → b ≡ allB 64 (λ k. eqb (bytes k) 0) → b ≡ true → (k : ℕ) → k < 64 → bytes k ≡ 0
+empty-zero bytes e h k l = eqb→eq (bytes k) 0 (all-at 64 (λ k. eqb (bytes k) 0) (true-T (allB 64 (λ k. eqb (bytes k) 0)) (sym e ∙ h)) k l)

@@ -10,7 +10,8 @@ ghost use Rattle.laws.specs.Table.{allB};
 ghost use Rattle.transform.specs.Level.{bytesFrom};
 ghost use Rattle.transform.specs.Inverse.{Small};
 ghost use Rattle.transform.specs.Sample.{sampleOf};
-ghost use Rattle.render.specs.Turn.{rowsOf, blockFrom, Samples};
+ghost use Rattle.transform.specs.Filter.{Samples};
+ghost use Rattle.render.specs.Turn.{rowsOf, blockFrom};
 
 fn eight(samples: &[u8], from: usize) -> [u8; 8]
     requires { ⌜ from + 8 ≤ length (now samples) ⌝ }

@@ -61,7 +61,7 @@ loop-less : tie.Need-loop-less Inv-loop μ-loop
 loop-less c = search needs
 
 loop-again : tie.Need-loop-again Inv-loop μ-loop
-loop-again c = (search needs, omega (arith, c .shared-slice-known .given (c .before .before .before .args .at + c .before .before .loop .k)), more _ _ _ (λ j. eqb (bytesFrom (c .before .before .before .args .levels .now) (c .before .before .before .args .at) j) 0) (c .before .before .loop .inv .2) refl)
+loop-again c = (search needs, omega (arith, c .shared-slice-known .given (c .before .before .before .args .at + c .before .before .loop .k)), more (c .before .before .loop .sum) (getD (c .before .before .before .args .levels .now) (c .before .before .before .args .at + c .before .before .loop .k) 0) (c .before .before .loop .k) (λ j. eqb (bytesFrom (c .before .before .before .args .levels .now) (c .before .before .before .args .at) j) 0) (c .before .before .loop .inv .2) refl)
 
 returns : tie.Need-returns Inv-loop μ-loop
 returns c = whole (c .before .loop .sum) (c .before .loop .k) _ (c .before .loop .inv .2) (search needs) (search needs)

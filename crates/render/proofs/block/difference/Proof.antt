@@ -1,0 +1,28 @@
+use mathlib.Core.Path.{_≡_, refl, sym, ap, subst, _∙_}
+use Prim.Native.Nat.{ℕ, zero, suc, _+_, _*_, _-_, _/_, _%_, _≤_, _<_}
+use native.Mathlib.Omega.{arith}
+use borrow.Author.Needs.{needs}
+use Rattle.transform.specs.Level.{bytesFrom}
+use Rattle.render.specs.Zero.{difference-zero, empty-zero}
+use Rattle.render.specs.Bounds.{zeros-are, zeros-small}
+use Rattle.render.proofs.block.difference.Statement.{statement}
+use Rattle.render.proofs.block.difference.Tie as tie
+use Rattle.render.proofs.block.difference.Reads as reads
+use Rattle.render.proofs.block.difference.Lts as lts
+use Rattle.render.proofs.block.output.Reads as output-reads
+use Rattle.render.proofs.parts.empty.Reads as empty-reads
+
+empty-requires : tie.Need-empty-requires
+empty-requires c κs = search needs
+
+returns : tie.Need-returns
+returns c = (zeros-are _ (λ i j l m. difference-zero (bytesFrom (‹args› .levels .now) (‹args› .at)) (‹args› .quantiser) i j (empty-zero (bytesFrom (‹args› .levels .now) (‹args› .at)) (‹empty› .ensures) (‹if1› .taken)) l m), zeros-small)
+
+output-requires : tie.Need-output-requires
+output-requires c κs = search needs
+
+returns-2 : tie.Need-returns-2
+returns-2 c = search needs
+
+pub difference-spec : {M : Type 1} → statement M
+difference-spec = tie.close (tie.spec empty-requires returns output-requires returns-2)

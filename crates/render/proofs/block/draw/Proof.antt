@@ -1,0 +1,110 @@
+use mathlib.Core.Path.{_≡_, refl, sym, ap, subst, _∙_}
+use Prim.Native.Nat.{ℕ, zero, suc, _+_, _*_, _-_, _/_, _%_, _≤_, _<_}
+use native.Mathlib.Omega.{arith}
+use borrow.Author.Needs.{needs}
+use lib.ListN.{getD}
+use Rattle.transform.specs.Level.{bytesFrom}
+use Rattle.render.specs.declared.Prediction.the-variants.{Intra, Inter, Filtered}
+use Rattle.render.specs.Turn.{blockFrom, drawn, copied}
+use Rattle.render.specs.Zero.{empty-zero}
+use Rattle.render.specs.Bounds.{samples-of, byte-sample, zeros-are, zeros-samples}
+use Rattle.render.proofs.block.draw.Statement.{statement}
+use Rattle.render.proofs.block.draw.Tie as tie
+use Rattle.render.proofs.block.draw.Reads as reads
+use Rattle.render.proofs.block.draw.Lts as lts
+use Rattle.render.proofs.block.difference.Reads as difference-reads
+use Rattle.render.proofs.block.filtered.Reads as filtered-reads
+use Rattle.render.proofs.block.output.Reads as output-reads
+use Rattle.render.proofs.parts.copy_eight.Reads as copy-eight-reads
+use Rattle.render.proofs.parts.empty.Reads as empty-reads
+use Rattle.render.proofs.parts.fetch.Reads as fetch-reads
+use Rattle.render.proofs.parts.put.Reads as put-reads
+
+enum-told : tie.Need-enum-told
+enum-told c = search needs
+
+output-requires : tie.Need-output-requires
+output-requires c κs = search needs
+
+put-requires : tie.Need-put-requires
+put-requires c κs = (‹pre› .0, ‹pre› .2, zeros-samples, ‹output› .ensures .1)
+
+enum-told-2 : tie.Need-enum-told-2
+enum-told-2 c = search needs
+
+empty-requires : tie.Need-empty-requires
+empty-requires c κs = search needs
+
+copy-eight-requires : tie.Need-copy-eight-requires
+copy-eight-requires c κs = search needs
+
+fetch-requires : tie.Need-fetch-requires
+fetch-requires c κs = search needs
+
+output-requires-2 : tie.Need-output-requires-2
+output-requires-2 c κs = search needs
+
+put-requires-2 : tie.Need-put-requires-2
+put-requires-2 c κs = (‹pre› .0, ‹pre› .2, samples-of (‹fetch› .ensures) (λ i j. byte-sample _ (omega (arith, ‹shared-slice-known› .given (‹args› .from + i * ‹args› .stride + j)))), ‹output2› .ensures .1)
+
+enum-told-3 : tie.Need-enum-told-3
+enum-told-3 c = search needs
+
+filtered-requires : tie.Need-filtered-requires
+filtered-requires c κs = search needs
+
+difference-requires : tie.Need-difference-requires
+difference-requires c κs = search needs
+
+put-requires-3 : tie.Need-put-requires-3
+put-requires-3 c κs = (‹pre› .0, ‹pre› .2, ‹filtered› .ensures .1, ‹difference› .ensures .1)
+
+same-length : tie.Need-same-length
+same-length c = search needs
+
+returns : tie.Need-returns
+returns c = drawn Intra (‹args› .reference .now) (‹args› .from) (bytesFrom (‹args› .levels .now) (‹args› .at)) (‹args› .quantiser) (‹enum-told› .given .1) (zeros-are _ (λ i j l m. refl)) (‹output› .ensures .0) (‹put› .ensures)
+
+same-length-2 : tie.Need-same-length-2
+same-length-2 c = search needs
+
+returns-2 : tie.Need-returns-2
+returns-2 c = copied (‹args› .reference .now) (‹args› .from) (bytesFrom (‹args› .levels .now) (‹args› .at)) (‹args› .quantiser) (‹enum-told2› .given .1) (λ n. omega (arith, ‹shared-slice-known› .given n)) (empty-zero (bytesFrom (‹args› .levels .now) (‹args› .at)) (‹empty› .ensures) (‹if1› .taken)) (‹copy-eight› .ensures)
+
+same-length-3 : tie.Need-same-length-3
+same-length-3 c = search needs
+
+returns-3 : tie.Need-returns-3
+returns-3 c = drawn Inter (‹args› .reference .now) (‹args› .from) (bytesFrom (‹args› .levels .now) (‹args› .at)) (‹args› .quantiser) (‹enum-told2› .given .1) (‹fetch› .ensures) (‹output2› .ensures .0) (‹put2› .ensures)
+
+same-length-4 : tie.Need-same-length-4
+same-length-4 c = search needs
+
+returns-4 : tie.Need-returns-4
+returns-4 c = drawn Filtered (‹args› .reference .now) (‹args› .from) (bytesFrom (‹args› .levels .now) (‹args› .at)) (‹args› .quantiser) (‹enum-told3› .given .1) (‹filtered› .ensures .0) (‹difference› .ensures .0) (‹put3› .ensures)
+
+pub draw-spec : {M : Type 1} → statement M
+draw-spec =
+    tie.close
+    (tie.spec
+    enum-told
+    output-requires
+    put-requires
+    enum-told-2
+    empty-requires
+    copy-eight-requires
+    fetch-requires
+    output-requires-2
+    put-requires-2
+    enum-told-3
+    filtered-requires
+    difference-requires
+    put-requires-3
+    same-length
+    returns
+    same-length-2
+    returns-2
+    same-length-3
+    returns-3
+    same-length-4
+    returns-4)

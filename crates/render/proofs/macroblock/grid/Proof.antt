@@ -1,0 +1,25 @@
+use mathlib.Core.Path.{_≡_, refl, sym, ap, subst, _∙_}
+use Prim.Native.Nat.{ℕ, zero, suc, _+_, _*_, _-_, _/_, _%_, _≤_, _<_}
+use native.Mathlib.Omega.{arith}
+use borrow.Author.Needs.{needs}
+use Rattle.format.specs.Place.{gridOf}
+use Rattle.format.specs.Grid.{other-plane}
+use Rattle.render.proofs.macroblock.grid.Statement.{statement}
+use Rattle.render.proofs.macroblock.grid.Tie as tie
+use Rattle.render.proofs.macroblock.grid.Reads as reads
+use Rattle.render.proofs.macroblock.grid.Lts as lts
+
+mul-result : tie.Need-mul-result
+mul-result c = search needs
+
+add-result : tie.Need-add-result
+add-result c = search needs
+
+returns : tie.Need-returns
+returns c = sym (ap (λ (q : ℕ). gridOf q (‹args› .place) (‹args› .half)) (‹if1› .taken))
+
+returns-2 : tie.Need-returns-2
+returns-2 c = ap (λ (q : ℕ). gridOf q (‹args› .place) (‹args› .half)) (other-plane _ (‹if1› .left))
+
+pub grid-spec : {M : Type 1} → statement M
+grid-spec = tie.close (tie.spec mul-result add-result returns returns-2)
