@@ -1,11 +1,11 @@
 -- Division of an integer by a positive number, rounded down, and its laws. Assumes nothing.
-use mathlib.Core.Path.{_≡_, refl, sym, ap, _∙_}
+use mathlib.Core.Path.{_≡_, refl, sym, ap, subst, _∙_}
 use Prim.Native.Nat.{ℕ, zero, suc, _+_, _*_, _-_, _/_, _%_, _≤_, _<_}
-use native.Mathlib.Nat.{div-add-mod', div-div-eq-div-mul, mul-add-div-right, div-eq-of-lt, mod-lt, suc-mul}
+use native.Mathlib.Nat.{div-add-mod', div-div-eq-div-mul, mul-add-div-right, div-eq-of-lt, mod-lt, suc-mul, le-of-lt}
 use native.Mathlib.Omega.{arith}
-use lib.IntN.{ℤ, pos, negsuc, negℤ, _+ℤ_, _-ℤ_, _*ℤ_, +ℤ-assoc, +ℤ-comm, +ℤ-idr, negℤ-+ℤ, -ℤ-+ℤ-cancel, pos-+ℤ-pos, negsuc-*ℤ-pos, pos-*ℤ-pos}
+use lib.IntN.{ℤ, pos, negsuc, negℤ, _+ℤ_, _-ℤ_, _*ℤ_, +ℤ-assoc, +ℤ-comm, +ℤ-idr, negℤ-+ℤ, -ℤ-+ℤ-cancel, +ℤ-negℤ-cancel, pos-+ℤ-pos, negsuc-*ℤ-pos, pos-*ℤ-pos}
 use lib.Signed.{shrZ}
-use Rattle.laws.specs.Integer.{+ℤ-*ℤ}
+use Rattle.laws.specs.Integer.{+ℤ-*ℤ, Low}
 
 -- z / m, rounded down
 unfoldable pub floorDivided : ℤ → ℕ → ℤ
@@ -97,3 +97,13 @@ floor-add h z m l =
 -- a multiple divides without rest
 pub floor-exact : (z : ℤ) (m : ℕ) → 0 < m → floorDivided (z *ℤ pos m) m ≡ z
 floor-exact z m l = ap (λ (y : ℤ). floorDivided y m) (sym (+ℤ-idr (z *ℤ pos m))) ∙ floor-unique z 0 m l
+
+-- what is left when the multiple is taken away
+pub floor-left : (z : ℤ) (m : ℕ) (l : 0 < m) → z -ℤ floorDivided z m *ℤ pos m ≡ pos (floor-rest z m l .rest)
+floor-left z m l =
+    let k = floor-rest z m l in
+    let q = floorDivided z m *ℤ pos m in
+    ap (λ (y : ℤ). y -ℤ q) (k .whole ∙ +ℤ-comm q (pos (k .rest))) ∙ +ℤ-negℤ-cancel (pos (k .rest)) q
+
+pub left-low : (z : ℤ) (m : ℕ) → 0 < m → Low m (z -ℤ floorDivided z m *ℤ pos m)
+left-low z m l = subst (λ (y : ℤ). Low m y) (sym (floor-left z m l)) (record { low = le-of-lt (floor-rest z m l .below) })

@@ -7,7 +7,7 @@ use native.Mathlib.Nat.{le-refl, eq-or-lt-of-le, le-of-suc-le-suc, not-suc-le-ze
 use native.Mathlib.Omega.{arith}
 use borrow.Author.Tests.{eq-eqb, ne-eqb}
 use lib.Dec.{T, eqb, ltb, ltb→lt}
-use lib.IntN.{ℤ, pos, negsuc, negℤ, _+ℤ_, _-ℤ_, _*ℤ_, +ℤ-assoc, +ℤ-comm, +ℤ-idl, +ℤ-idr, negℤ-+ℤ, negℤ-negℤ, *ℤ-comm, *ℤ-zero, *ℤ-negsuc}
+use lib.IntN.{ℤ, pos, negsuc, negℤ, _+ℤ_, _-ℤ_, _*ℤ_, +ℤ-assoc, +ℤ-comm, +ℤ-idl, +ℤ-idr, negℤ-+ℤ, negℤ-negℤ, *ℤ-comm, *ℤ-zero, zero-*ℤ, sucℤ-*ℤ, *ℤ-negsuc}
 use Rattle.laws.specs.Integer.{+ℤ-*ℤ}
 use Rattle.laws.specs.Sum.{sumZ, sum-ext}
 use Rattle.laws.specs.Choice.{both, both-left, both-right}
@@ -111,3 +111,12 @@ module _ (ρ : ℕ → ℤ) (n : ℕ) where
   -- an expression whose coefficients are those of a is the sum over a
   pub linear : (e : Lin) (a : ℕ → ℤ) → T (inside n e) → T (allB n (λ j. eqZ (coef e j) (a j))) → eval ρ e ≡ sumZ n (λ j. ρ j *ℤ a j)
   linear e a t s = sound e t ∙ sum-ext n _ _ (λ j l. ap (λ (z : ℤ). ρ j *ℤ z) (eqZ-yes (coef e j) (a j) (all-at n (λ j. eqZ (coef e j) (a j)) s j l)))
+
+-- a natural factor goes past another
+pub mul-past : (a b : ℤ) (k : ℕ) → a *ℤ b *ℤ pos k ≡ a *ℤ pos k *ℤ b
+mul-past a b zero = *ℤ-zero (a *ℤ b) ∙ sym (ap (λ (z : ℤ). z *ℤ b) (*ℤ-zero a) ∙ zero-*ℤ b)
+mul-past a b (suc k) =
+    next (a *ℤ b) k ∙ ap (λ (z : ℤ). z +ℤ a *ℤ b) (mul-past a b k) ∙ sym (+ℤ-*ℤ (a *ℤ pos k) a b) ∙ ap (λ (z : ℤ). z *ℤ b) (sym (next a k))
+  where
+    next : (z : ℤ) (k : ℕ) → z *ℤ pos (suc k) ≡ z *ℤ pos k +ℤ z
+    next z k = *ℤ-comm z (pos (suc k)) ∙ sucℤ-*ℤ (pos k) z ∙ ap (λ (y : ℤ). y +ℤ z) (*ℤ-comm (pos k) z)

@@ -1,3 +1,6 @@
 mod Placing
 mod Lines
 mod Rows
+mod Halves
+mod Bounds
+mod Split

@@ -1,6 +1,6 @@
 -- Blocks that are filled line by line. Assumes nothing.
 use mathlib.Core.Path.{_≡_, refl, sym, ap, subst, _∙_}
-use mathlib.Core.Logic.{⊎-elim}
+use mathlib.Core.Logic.{_≢_, _⊎_, inl, inr, ⊎-elim}
 use mathlib.Core.List.{List, []}
 use Prim.Native.Nat.{ℕ, zero, suc, _+_, _*_, _^_, _≤_, _<_, zero-le}
 use native.Mathlib.Nat.{eq-or-lt-of-le, le-of-suc-le-suc, not-suc-le-zero, lt-of-lt-of-le}
@@ -10,13 +10,13 @@ use lib.IntN.{ℤ, pos}
 use lib.ListN.{length, getD, set, length-set, List·getD-eq-default}
 use lib.Seq.{getD-set-same, getD-set-other}
 use lib.Signed.{mag}
-use mir.Syntax.{w32}
+use mir.Syntax.{w16, w32}
 use mir.Val.{toZ, ofZ}
 use mir.Facts.{toZ-ofZ}
 use borrow.Author.Needs.{sfits-of}
 use borrow.Author.Count.{below-more}
 use Rattle.laws.specs.Integer.{Low}
-use Rattle.laws.specs.Block.{Is, lt-or-ge}
+use Rattle.laws.specs.Block.{Is, Shape, cell, put, put-shape, cell-same, cell-other, lt-or-ge}
 use Rattle.transform.specs.Inverse.{SmallRow}
 use Rattle.transform.specs.Passes.{Line, entry}
 
@@ -38,6 +38,9 @@ eight P a b c d e f g h (suc (suc (suc (suc (suc (suc (suc (suc n)))))))) l = ab
 -- what a call gives back is read back from its bits
 pub back32 : (z : ℤ) → mag z < 2 ^ 31 → toZ w32 (ofZ w32 z) ≡ z
 back32 z p = toZ-ofZ {w = w32} (sfits-of p)
+
+pub back16 : (z : ℤ) → mag z < 2 ^ 15 → toZ w16 (ofZ w16 z) ≡ z
+back16 z p = toZ-ofZ {w = w16} (sfits-of p)
 
 -- the first n lines are what g says
 pub record Lines (g : ℕ → ℕ → ℤ) (n : ℕ) (t : List (List ℤ)) : Type 0 where
@@ -82,3 +85,46 @@ line-low {g} {r} {m} h b i = ⊎-elim inside beyond (lt-or-ge i 8)
 
     beyond : 8 ≤ i → Low m (entry r i)
     beyond l = subst (λ (z : ℤ). Low m z) (sym (List·getD-eq-default r (pos 0) (far (h .size) l))) (record { low = zero-le })
+
+-- the entries of the first n places, column by column, are what g says
+pub record Columns (g : ℕ → ℕ → ℤ) (n : ℕ) (t : List (List ℤ)) : Type 0 where
+  pub shape : Shape t
+  pub done : (i j : ℕ) → i < 8 → j < 8 → j * 8 + i < n → cell (pos 0) t i j ≡ g i j
+
+module _ (g : ℕ → ℕ → ℤ) where
+  pub columns-none : {t : List (List ℤ)} → Shape t → Columns g 0 t
+  columns-none s = record { shape = s; done = λ i j p q l. absurd (not-suc-le-zero l) }
+
+  pub columns-more : {t : List (List ℤ)} (y x : ℕ) (a : ℤ) → Columns g (x * 8 + y) t → y < 8 → x < 8 → a ≡ g y x → Columns g (x * 8 + (y + 1)) (put (pos 0) t y x a)
+  columns-more {t} y x a h p q e =
+      record { shape = put-shape (pos 0) (h .shape) p q a; done = λ i j k l m. go i j k l (eq-or-lt-of-le (at-most i j m)) }
+    where
+      at-most : (i j : ℕ) → j * 8 + i < x * 8 + (y + 1) → j * 8 + i ≤ x * 8 + y
+      at-most i j m = omega arith
+
+      same-i : (i j : ℕ) → i < 8 → j * 8 + i ≡ x * 8 + y → i ≡ y
+      same-i i j l f = omega arith
+
+      same-j : (i j : ℕ) → i < 8 → j * 8 + i ≡ x * 8 + y → j ≡ x
+      same-j i j l f = omega arith
+
+      apart : (i j : ℕ) → j * 8 + i < x * 8 + y → i ≡ y → j ≢ x
+      apart i j l f r = omega arith
+
+      go : (i j : ℕ) → i < 8 → j < 8 → (j * 8 + i ≡ x * 8 + y) ⊎ (j * 8 + i < x * 8 + y) → cell (pos 0) (put (pos 0) t y x a) i j ≡ g i j
+      go i j k l (inl f) =
+          (λ u. cell (pos 0) (put (pos 0) t y x a) (same-i i j k f u) (same-j i j k f u))
+          ∙ cell-same (pos 0) (h .shape) p q a ∙ e ∙ (λ u. g (sym (same-i i j k f) u) (sym (same-j i j k f) u))
+      go i j k l (inr m) = cell-other (pos 0) (h .shape) p q a i j (apart i j m) ∙ h .done i j k l m
+
+  pub columns-next : {t : List (List ℤ)} (y x : ℕ) → Columns g (x * 8 + y) t → 8 ≤ y → Columns g ((x + 1) * 8 + 0) t
+  columns-next y x h r = record { shape = h .shape; done = λ i j p q l. h .done i j p q (same (j * 8 + i) l) }
+    where
+      same : (n : ℕ) → n < (x + 1) * 8 + 0 → n < x * 8 + y
+      same n l = omega arith
+
+  pub columns-all : {t : List (List ℤ)} (x : ℕ) → Columns g (x * 8 + 0) t → 8 ≤ x → Is (pos 0) g t
+  columns-all x h r = record { shape = h .shape; cells = λ i j p q. h .done i j p q (all i j p q) }
+    where
+      all : (i j : ℕ) → i < 8 → j < 8 → j * 8 + i < x * 8 + 0
+      all i j p q = omega arith

@@ -2,15 +2,15 @@
 use mathlib.Core.Path.{_≡_, refl, sym, ap, subst, _∙_}
 use mathlib.Core.Bool.{Bool, true, false}
 use mathlib.Core.List.{List, []}
-use Prim.Native.Nat.{ℕ, _+_, _*_, _-_, _≤_, _<_}
+use Prim.Native.Nat.{ℕ, _+_, _*_, _-_, _/_, _≤_, _<_, zero-le}
 use native.Mathlib.Decide.{ℕ-discrete}
 use native.Mathlib.Omega.{arith}
 use borrow.Author.Tests.{ne-eqb}
 use lib.Dec.{T, eqb, lit≤}
-use lib.IntN.{ℤ, pos, _+ℤ_, _*ℤ_}
+use lib.IntN.{ℤ, pos, _+ℤ_, _*ℤ_, pos-*ℤ-pos}
 use Rattle.laws.specs.Choice.{pick, either, T-true}
-use Rattle.transform.specs.Sample.{Sample}
-use Rattle.laws.specs.Block.{cell}
+use Rattle.transform.specs.Sample.{UpTo, Sample, byte-sample}
+use Rattle.laws.specs.Block.{cell, Is, is-each}
 use Rattle.laws.specs.Integer.{Low, low-up, low-mul, low-add}
 use Rattle.laws.specs.Floor.{floorDivided}
 
@@ -85,3 +85,37 @@ weighted-same g h e =
     (λ k p q.
     weighted-inside g k p q ∙ (λ i. e (k - 1) (omega arith) i +ℤ pos 2 *ℤ e k (omega arith) i +ℤ e (k + 1) (omega arith) i)
     ∙ sym (weighted-inside h k p q))
+
+-- ---- samples stay samples
+pub weighted-up-to : (g : ℕ → ℤ) {m : ℕ} → ((k : ℕ) → UpTo m (g k)) → (k : ℕ) → UpTo (4 * m) (weighted g k)
+unfolding weighted
+weighted-up-to g {m} u k = go (either (eqb k 0) (eqb k 7))
+  where
+    four : {n : ℕ} → n ≤ m → 4 * n ≤ 4 * m
+    four l = omega arith
+
+    three : {a b c : ℕ} → a ≤ m → b ≤ m → c ≤ m → a + 2 * b + c ≤ 4 * m
+    three p q r = omega arith
+
+    go : (b : Bool) → UpTo (4 * m) (pick b (pos 4 *ℤ g k) (g (k - 1) +ℤ pos 2 *ℤ g k +ℤ g (k + 1)))
+    go true =
+        record { value = 4 * u k .value; is = ap (λ (z : ℤ). pos 4 *ℤ z) (u k .is) ∙ pos-*ℤ-pos 4 (u k .value); most = four (u k .most) }
+    go false =
+        record {
+          value = u (k - 1) .value + 2 * u k .value + u (k + 1) .value;
+          is = (λ i. u (k - 1) .is i +ℤ pos 2 *ℤ u k .is i +ℤ u (k + 1) .is i);
+          most = three (u (k - 1) .most) (u k .most) (u (k + 1) .most);
+        }
+
+pub filter-sample : (block : List (List ℤ)) → Samples block → (row column : ℕ) → Sample (filterAt block row column)
+unfolding filterAt roundedSixteenth floorDivided
+filter-sample block s row column = rounded (weighted-up-to _ (λ x. weighted-up-to _ (λ y. s y x) row) column)
+  where
+    less : {n : ℕ} → n ≤ 4080 → (n + 8) / 16 ≤ 255
+    less l = omega arith
+
+    rounded : {z : ℤ} → UpTo 4080 z → Sample (floorDivided (z +ℤ pos 8) 16)
+    rounded u = record { value = (u .value + 8) / 16; is = ap (λ (z : ℤ). floorDivided (z +ℤ pos 8) 16) (u .is); most = less (u .most) }
+
+pub filter-samples : (block : List (List ℤ)) {result : List (List ℤ)} → Samples block → Is (pos 0) (filterAt block) result → Samples result
+filter-samples block s h = is-each Sample h (byte-sample 0 zero-le) (filter-sample block s)

@@ -4,3 +4,4 @@ pub mod Inverse
 pub mod Passes
 pub mod Sample
 pub mod Filter
+pub mod Examples

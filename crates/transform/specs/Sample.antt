@@ -14,11 +14,14 @@ use Rattle.transform.specs.Cut.{atLeast, atMost, cut, pick-true, pick-fa
 unfoldable pub sampleOf : ℤ → ℤ → ℕ
 sampleOf prediction difference = natAbs (cut (pos 0) (pos 255) (prediction +ℤ difference))
 
--- z is one of 0..255
-pub record Sample (z : ℤ) : Type 0 where
+-- z is one of 0..m
+pub record UpTo (m : ℕ) (z : ℤ) : Type 0 where
   pub value : ℕ
   pub is : z ≡ pos value
-  pub most : value ≤ 255
+  pub most : value ≤ m
+
+abbrev pub Sample : ℤ → Type 0
+Sample z = UpTo 255 z
 
 pub cut-sample : (z : ℤ) → Sample (cut (pos 0) (pos 255) z)
 unfolding cut atLeast atMost
@@ -44,3 +47,7 @@ sample-low s = record { low = sample-size s }
 pub sample-most : (prediction difference : ℤ) → sampleOf prediction difference ≤ 255
 unfolding sampleOf
 sample-most prediction difference = sample-size (cut-sample (prediction +ℤ difference))
+
+-- A byte is a sample.
+pub byte-sample : (n : ℕ) → n ≤ 255 → Sample (pos n)
+byte-sample n l = record { value = n; is = refl; most = l }
