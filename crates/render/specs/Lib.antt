@@ -6,3 +6,4 @@ pub mod Rendered
 pub mod Component
 pub mod Bounds
 pub mod Picture
+pub mod Reference

@@ -1,6 +1,7 @@
 -- A macroblock of a description, sent or kept, is what the definition says; the quantiser that the loop carries is the one that stands. Assumes nothing.
 use mathlib.Core.Path.{_≡_, refl, sym, ap, subst, _∙_}
 use mathlib.Core.Bool.{Bool, true, false}
+use mathlib.Core.Logic.{⊎-elim}
 use mathlib.Core.List.{List}
 use Prim.Native.Nat.{ℕ, zero, suc, _+_, _-_, _*_, _/_, _%_, _≤_, _<_, zero-le}
 use native.Mathlib.Decide.{ℕ-discrete}
@@ -9,9 +10,11 @@ use borrow.Author.Tests.{eq-eqb, ne-eqb}
 use lib.Dec.{T, eqb}
 use lib.IntN.{ℤ}
 use lib.ListN.{length, getD}
+use Rattle.laws.specs.Rows.{lt-or-ge}
 use Rattle.laws.specs.Choice.{pick, both, opposite, both-right}
 use Rattle.words.specs.Words.{isIntra, isMC, isFiltered, hasMQUANT}
 use Rattle.format.specs.declared.Format.{Format}
+use Rattle.format.specs.declared.Format.the-variants.{Qcif, Cif}
 use Rattle.format.specs.Place.{macroblocksAcross, macroblocksDown, wide, high, own, blockOf, cellOf}
 use Rattle.format.specs.Order.{macroblockCount, groupOf, addressOf, rowOf, columnOf, macroblockAt}
 use Rattle.format.specs.Grid.{of-number, of-row, of-column}
@@ -33,11 +36,11 @@ use Rattle.render.specs.Turn.{intraOf, vectorFrom, keptOf, sentOf}
 number-is : (f : Format) (n p y x : ℕ) → own p y ≡ rowOf f n → own p x ≡ columnOf f n → n ≡ macroblockAt f (own p y) (own p x)
 number-is f n p y x e h = sym ((λ i. macroblockAt f (e i) (h i)) ∙ of-number f n)
 
-there : {f : Format} {r c n : ℕ} {g : Values} {t u : List ℕ} → r ≡ rowOf f n → c ≡ columnOf f n → Macroblock f r c g t u → Macroblock f (rowOf f n) (columnOf f n) g t u
-there {f} {r} {c} {n} {g} {t} {u} er ec h = subst (λ (m : ℕ). Macroblock f m (columnOf f n) g t u) er (subst (λ (m : ℕ). Macroblock f r m g t u) ec h)
+there : {f : Format} {r c : ℕ} (n : ℕ) {g : Values} {t u : List ℕ} → r ≡ rowOf f n → c ≡ columnOf f n → Macroblock f r c g t u → Macroblock f (rowOf f n) (columnOf f n) g t u
+there {f} {r} {c} n {g} {t} {u} er ec h = subst (λ (m : ℕ). Macroblock f m (columnOf f n) g t u) er (subst (λ (m : ℕ). Macroblock f r m g t u) ec h)
 
 -- ---- not sent
-kept-value : (f : Format) (d : Flat) (s : List ℕ) (n p y x i j : ℕ) → typeOf d n ≡ 0 → cellOf f s p y x i j ≡ valueOf f s (contentOf d n) p y x i j
+pub kept-value : (f : Format) (d : Flat) (s : List ℕ) (n p y x i j : ℕ) → typeOf d n ≡ 0 → cellOf f s p y x i j ≡ valueOf f s (contentOf d n) p y x i j
 unfolding valueOf contentOf
 kept-value f d s n p y x i j e = simp (eq-eqb (typeOf d n) 0 e)
 
@@ -45,7 +48,7 @@ pub kept-all : {f : Format} {r c : ℕ} {t u : List ℕ} (n : ℕ) (d : Flat) (s
     → Macroblock f r c (keptOf f s) t u → Macroblock f (rowOf f n) (columnOf f n) (valueAt f d s) t u
 unfolding valueAt
 kept-all {f} n d s er ec e h =
-    part-as (λ p y x a b i j l m. kept-value f d s n p y x i j e ∙ ap (λ (k : ℕ). valueOf f s (contentOf d k) p y x i j) (number-is f n p y x a b)) (there {n = n} er ec h)
+    part-as (λ p y x a b i j l m. kept-value f d s n p y x i j e ∙ ap (λ (k : ℕ). valueOf f s (contentOf d k) p y x i j) (number-is f n p y x a b)) (there n er ec h)
 
 -- ---- sent
 pub intra-is : (type : ℕ) → intraOf (predictionOf type) ≡ isIntra type
@@ -71,7 +74,7 @@ sent-all {f} n d s er ec e ek ev eq h =
     (λ p y x a b i j l m.
     (λ z. sampleOf (predicted (ek z) (source f s (ev z) p y x) i j) (differenceOf (bytesFrom (d .levels) (n * 384 + blockOf p y x * 64)) ((ap intraOf ek ∙ intra-is (typeOf d n)) z) (eq z) i j))
     ∙ sent-value f d s n p y x i j e ∙ ap (λ (o : ℕ). valueOf f s (contentOf d o) p y x i j) (number-is f n p y x a b))
-    (there {n = n} er ec h)
+    (there n er ec h)
 
 -- the vector of a valid description points into the picture
 pub sent-points : (f : Format) (d : Flat) → T (valid f d) → (n : ℕ) → n < macroblockCount f → Points f (rowOf f n) (columnOf f n) (vectorFrom (horizontalOf d n) (verticalOf d n))
@@ -92,8 +95,8 @@ sent-points f d t n l = go (isMC (typeOf d n)) refl
         (both-right (both (inRange (numberOf (horizontalOf d n))) (inRange (numberOf (verticalOf d n)))) (inPicture f (groupOf f n) (addressOf n) (pointed d n)) (fine .moving e))
     go false e = subst (λ (v : Vector). Points f (rowOf f n) (columnOf f n) v) (λ i. vectorFrom (sym (fine .still e .0) i) (sym (fine .still e .1) i)) still
 
-pub points-at : {f : Format} {r c n : ℕ} {v : Vector} → r ≡ rowOf f n → c ≡ columnOf f n → Points f (rowOf f n) (columnOf f n) v → Points f r c v
-points-at {f} {r} {c} {n} {v} er ec h = subst (λ (m : ℕ). Points f m c v) (sym er) (subst (λ (m : ℕ). Points f (rowOf f n) m v) (sym ec) h)
+pub points-at : {f : Format} {r c : ℕ} {v : Vector} (n : ℕ) → r ≡ rowOf f n → c ≡ columnOf f n → Points f (rowOf f n) (columnOf f n) v → Points f r c v
+points-at {f} {r} {c} {v} n er ec h = subst (λ (m : ℕ). Points f m c v) (sym er) (subst (λ (m : ℕ). Points f (rowOf f n) m v) (sym ec) h)
 
 -- the kinds of a type that is sent
 pub kind-intra : (k : ℕ) → 1 ≤ k → k < 3 → Intra ≡ predictionOf k
@@ -139,3 +142,11 @@ pub stands-is : (d : Flat) (n q b r : ℕ) → ((n % 33 ≡ 0 → ⊥) → q ≡
     → r ≡ pick (hasMQUANT (typeOf d n)) (mquantOf d n) b → r ≡ quantiserOf d n
 unfolding quantiserOf
 stands-is d n q b r h eb er = er ∙ ap (λ (o : ℕ). pick (hasMQUANT (typeOf d n)) (mquantOf d n) o) (eb ∙ stood-is d n q h)
+
+-- macroblock n is not the last of its group, if the next one is not the first
+pub not-last : (n : ℕ) → ((n + 1) % 33 ≡ 0 → ⊥) → n % 33 < 32
+not-last n h = ⊎-elim (λ l. l) (λ l. absurd (h (omega arith))) (lt-or-ge (n % 33) 32)
+
+pub count-small : (f : Format) → macroblockCount f ≤ 396
+count-small Qcif = omega arith
+count-small Cif = omega arith

@@ -56,6 +56,9 @@ pub record Plane (f : Format) (p b w : ℕ) : Type 0 where
   pub start : b ≡ base f p
   pub stride : w ≡ wide f p
 
+pub plane : (f : Format) (p : ℕ) {b w : ℕ} → b ≡ base f p → w ≡ wide f p → Plane f p b w
+plane f p eb ew = record { start = eb; stride = ew }
+
 -- the reference's rows at a place of the grid, and at a place that the vector points to
 pub rows-cell : {f : Format} {p b w : ℕ} → Plane f p b w → (s : List ℕ) (y x i j : ℕ) → rowsOf s (b + y * 8 * w + x * 8) w i j ≡ cellOf f s p y x i j
 rows-cell {f} {p} e s y x i j =
@@ -106,7 +109,7 @@ pub copied : {k : Prediction} (s : List ℕ) (from : ℕ) (bytes : ℕ → ℕ) 
     → Put 8 8 to w (λ i j. sampleOf (predicted k (blockFrom s from w) i j) (differenceOf bytes (intraOf k) q i j)) t u
 copied s from bytes q {to} {w} {t} {u} e h n r =
     subst (λ (k : Prediction). Put 8 8 to w (λ i j. sampleOf (predicted k (blockFrom s from w) i j) (differenceOf bytes (intraOf k) q i j)) t u) (sym e)
-    (put-as (λ i j l m. sample-whole (rowsOf s from w i j) (h (from + i * w + j)) ∙ ap (sampleOf (blockFrom s from w i j)) (sym (difference-zero bytes q i j n l m))) r)
+    (put-as (λ i j l m. sample-whole (rowsOf s from w i j) (h (from + i * w + j)) ∙ ap (sampleOf (blockFrom s from w i j)) (sym (difference-zero bytes q i j n))) r)
 
 -- both rooms: of the block that the vector points to, and of the block itself
 pub room-from : {f : Format} {p b w : ℕ} → Plane f p b w → (v : Vector) (y x : ℕ) {my mx n : ℕ} → my ≡ moved p (y * 8) (v .vertical) → mx ≡ moved p (x * 8) (v .horizontal)
@@ -130,10 +133,10 @@ room-four {f} {b} {w} {n} e r c hr hc en =
     less m l = omega arith
 
 -- the block, by its place
-pub block-drawn : {f : Format} {p b w : ℕ} → Plane f p b w → (k : Prediction) (s : List ℕ) (v : Vector) (y x : ℕ) {my mx : ℕ} {e : ℕ → ℕ → ℤ} {t u : List ℕ} → my ≡ moved p (y * 8) (v .vertical) → mx ≡ moved p (x * 8) (v .horizontal)
+pub block-drawn : {f : Format} {p b w : ℕ} → Plane f p b w → (k : Prediction) (s : List ℕ) (v : Vector) (y x : ℕ) (e : ℕ → ℕ → ℤ) {my mx : ℕ} {t u : List ℕ} → my ≡ moved p (y * 8) (v .vertical) → mx ≡ moved p (x * 8) (v .horizontal)
     → On f p y x → Put 8 8 (b + y * 8 * w + x * 8) w (λ i j. sampleOf (predicted k (blockFrom s (b + my * w + mx) w) i j) (e i j)) t u
     → Wrote f p y x (λ i j. sampleOf (predicted k (source f s v p y x) i j) (e i j)) t u
-block-drawn m k s v y x {e = e} ey ex o r =
+block-drawn m k s v y x e ey ex o r =
     wrote-as (λ i j l n z. sampleOf (predicted k (rows-source m s v y x ey ex z) i j) (e i j)) (wrote (m .start) (m .stride) o r)
 
 -- places are small numbers

@@ -1,21 +1,17 @@
 -- A block whose levels are all zero adds nothing, by the general rule. Assumes nothing.
-use mathlib.Core.Path.{_≡_, refl, sym, ap, _∙_}
+use mathlib.Core.Path.{_≡_, sym, ap, _∙_}
 use mathlib.Core.Bool.{Bool, true, false}
 use mathlib.Core.List.{List, []}
-use Prim.Native.Nat.{ℕ, zero, suc, _+_, _*_, _<_}
-use native.Mathlib.Omega.{arith}
+use Prim.Native.Nat.{ℕ, _<_}
 use lib.Dec.{T, ltb, ltb→lt, eqb, eqb→eq}
-use Rattle.laws.specs.Choice.{true-T}
-use lib.IntN.{ℤ, pos, negsuc, _+ℤ_, _*ℤ_, zero-*ℤ, +ℤ-idl, +ℤ-idr}
+use lib.IntN.{ℤ, pos}
 use lib.ListN.{getD}
+use Rattle.laws.specs.Choice.{true-T}
 use Rattle.laws.specs.Table.{allB, all-at}
-use Rattle.laws.specs.Sum.{sumZ, sum-ext}
-use Rattle.laws.specs.Floor.{floorDivided}
 use Rattle.laws.specs.Block.{cell}
 use Rattle.laws.specs.Tabulate.{line, made, line-at}
-use Rattle.transform.specs.Cut.{cut, atLeast, atMost}
-use Rattle.transform.specs.Level.{levelOf, coefficient, valueAt, positionAt, coefficientAt}
-use Rattle.transform.specs.Inverse.{A, S, output, inverseAt}
+use Rattle.transform.specs.Level.{levelOf, coefficient, valueAt, positionAt, coefficientAt, level-none}
+use Rattle.transform.specs.Inverse.{none-inverse}
 use Rattle.render.specs.Sample.{differenceOf}
 
 -- a place of a block stands at one of its 64 positions
@@ -24,31 +20,18 @@ unfolding positionAt
 position-less i j l m =
     ltb→lt (positionAt i j) 64 (all-at 8 (λ j. ltb (positionAt i j) 64) (all-at 8 (λ i. allB 8 (λ j. ltb (positionAt i j) 64)) tt i l) j m)
 
-value-zero : (q : ℕ) → coefficient q (levelOf 0) ≡ pos 0
-unfolding coefficient levelOf
-value-zero q = refl
-
 coefficient-zero : (bytes : ℕ → ℕ) (q v u : ℕ) → ((k : ℕ) → k < 64 → bytes k ≡ 0) → v < 8 → u < 8 → coefficientAt bytes false q v u ≡ pos 0
 unfolding coefficientAt valueAt
-coefficient-zero bytes q v u h lv lu = ap (λ (b : ℕ). coefficient q (levelOf b)) (h (positionAt v u) (position-less v u lv lu)) ∙ value-zero q
+coefficient-zero bytes q v u h lv lu = ap (λ (b : ℕ). coefficient q (levelOf b)) (h (positionAt v u) (position-less v u lv lu)) ∙ level-none q
 
 made-at : {A : Type 0} (d : A) (g : ℕ → ℕ → A) (i j : ℕ) → i < 8 → j < 8 → cell d (made g) i j ≡ g i j
 unfolding made
 made-at d g i j l m = ap (λ r. getD r j d) (line-at [] 8 (λ i. line 8 (g i)) i l) ∙ line-at d 8 (g i) j m
 
-sum-none : (n : ℕ) → sumZ n (λ i. pos 0) ≡ pos 0
-unfolding sumZ
-sum-none zero = refl
-sum-none (suc n) = ap (λ (z : ℤ). z +ℤ pos 0) (sum-none n)
-
-pub difference-zero : (bytes : ℕ → ℕ) (q i j : ℕ) → ((k : ℕ) → k < 64 → bytes k ≡ 0) → i < 8 → j < 8 → differenceOf bytes false q i j ≡ pos 0
-unfolding differenceOf inverseAt S output cut atLeast atMost floorDivided
-difference-zero bytes q i j h l m = ap output sums
-  where
-    sums : S (made (coefficientAt bytes false q)) j i ≡ pos 0
-    sums =
-        sum-ext 8 _ _ (λ v lv. sum-ext 8 _ _ (λ u lu. ap (λ (z : ℤ). z *ℤ A u j *ℤ A v i) (made-at (pos 0) (coefficientAt bytes false q) v u lv lu ∙ coefficient-zero bytes q v u h lv lu) ∙ ap (λ (z : ℤ). z *ℤ A v i) (zero-*ℤ (A u j)) ∙ zero-*ℤ (A v i)) ∙ sum-none 8)
-        ∙ sum-none 8
+pub difference-zero : (bytes : ℕ → ℕ) (q i j : ℕ) → ((k : ℕ) → k < 64 → bytes k ≡ 0) → differenceOf bytes false q i j ≡ pos 0
+unfolding differenceOf
+difference-zero bytes q i j h =
+    none-inverse (made (coefficientAt bytes false q)) (λ v u l m. made-at (pos 0) (coefficientAt bytes false q) v u l m ∙ coefficient-zero bytes q v u h l m) i j
 
 -- what a test of all 64 says
 pub empty-zero : (bytes : ℕ → ℕ) {b : Bool} → b ≡ allB 64 (λ k. eqb (bytes k) 0) → b ≡ true → (k : ℕ) → k < 64 → bytes k ≡ 0

@@ -18,8 +18,8 @@ ghost use Rattle.transform.specs.Filter.{filterAt, Samples};
 ghost use Rattle.render.specs.Sample.{predicted, differenceOf, source};
 ghost use Rattle.render.specs.Turn.{blockFrom, intraOf, vectorFrom};
 ghost use Rattle.render.specs.Wrote.{Wrote};
-use crate::parts;
 use crate::Prediction;
+use crate::parts;
 use format::Format;
 
 // How far a component goes on, and how far back, in a plane: halved towards zero in CB and CR.
@@ -27,7 +27,11 @@ fn forth(plane: usize, component: u8) -> usize
     ensures { λ r. ⌜ r ≡ halved plane (ahead (numberOf component)) ⌝ }
 {
     if component < 128 {
-        if plane == 0 { component as usize } else { (component as usize) / 2 }
+        if plane == 0 {
+            component as usize
+        } else {
+            (component as usize) / 2
+        }
     } else {
         0
     }
@@ -39,7 +43,11 @@ fn behind(plane: usize, component: u8) -> usize
     if component < 128 {
         0
     } else {
-        if plane == 0 { 256 - (component as usize) } else { (256 - (component as usize)) / 2 }
+        if plane == 0 {
+            256 - (component as usize)
+        } else {
+            (256 - (component as usize)) / 2
+        }
     }
 }
 
@@ -83,7 +91,17 @@ fn difference(levels: &[u8], at: usize, quantiser: u8) -> [[i32; 8]; 8]
 }
 
 // The block at one place of the store, predicted from another of the reference. Where nothing is added and nothing filtered, it is copied.
-fn draw(reference: &[u8], from: usize, store: &mut [u8], to: usize, stride: usize, prediction: Prediction, quantiser: u8, levels: &[u8], at: usize)
+fn draw(
+    reference: &[u8],
+    from: usize,
+    store: &mut [u8],
+    to: usize,
+    stride: usize,
+    prediction: Prediction,
+    quantiser: u8,
+    levels: &[u8],
+    at: usize,
+)
     requires { ⌜ (8 ≤ stride) × Room 8 8 from stride (length (now reference)) × Room 8 8 to stride (length (now store)) × (at + 64 ≤ length (now levels)) × (1 ≤ quantiser) × (quantiser ≤ 31) ⌝ }
     ensures { λ _. ⌜ Put 8 8 to stride (λ i j. sampleOf (predicted prediction (blockFrom (now (reference .entry)) from stride) i j) (differenceOf (bytesFrom (now (levels .entry)) at) (intraOf prediction) quantiser i j)) (now (store .entry)) (now (store .exit)) ⌝ }
 {
@@ -112,7 +130,20 @@ fn draw(reference: &[u8], from: usize, store: &mut [u8], to: usize, stride: usiz
 }
 
 // Block row y, block column x of a plane.
-pub fn block(format: Format, reference: &[u8], store: &mut [u8], plane: usize, y: usize, x: usize, prediction: Prediction, horizontal: u8, vertical: u8, quantiser: u8, levels: &[u8], at: usize)
+pub fn block(
+    format: Format,
+    reference: &[u8],
+    store: &mut [u8],
+    plane: usize,
+    y: usize,
+    x: usize,
+    prediction: Prediction,
+    horizontal: u8,
+    vertical: u8,
+    quantiser: u8,
+    levels: &[u8],
+    at: usize,
+)
     requires { ⌜ (length (now reference) ≡ storeLength format) × (length (now store) ≡ storeLength format) × On format plane y x × Aims format plane y x (vectorFrom horizontal vertical) × (at + 64 ≤ length (now levels)) × (1 ≤ quantiser) × (quantiser ≤ 31) ⌝ }
     ensures { λ _. ⌜ Wrote format plane y x (λ i j. sampleOf (predicted prediction (source format (now (reference .entry)) (vectorFrom horizontal vertical) plane y x) i j) (differenceOf (bytesFrom (now (levels .entry)) at) (intraOf prediction) quantiser i j)) (now (store .entry)) (now (store .exit)) ⌝ }
 {
@@ -120,5 +151,15 @@ pub fn block(format: Format, reference: &[u8], store: &mut [u8], plane: usize, y
     let start = format::place::start(format, plane);
     let down = moved(plane, y * 8, vertical);
     let along = moved(plane, x * 8, horizontal);
-    draw(reference, start + down * stride + along, store, start + y * 8 * stride + x * 8, stride, prediction, quantiser, levels, at);
+    draw(
+        reference,
+        start + down * stride + along,
+        store,
+        start + y * 8 * stride + x * 8,
+        stride,
+        prediction,
+        quantiser,
+        levels,
+        at,
+    );
 }

@@ -24,7 +24,7 @@ pub enum Prediction {
     Filtered,
 }
 
-fn prediction(kind: u8) -> Prediction
+fn prediction_of(kind: u8) -> Prediction
     requires { ⌜ (1 ≤ kind) × (kind ≤ 10) ⌝ }
     ensures { λ r. ⌜ r ≡ predictionOf kind ⌝ }
 {
@@ -42,7 +42,11 @@ fn stood(head: &[u8], macroblock: usize, last: u8) -> u8
     requires { ⌜ 3 + macroblock / 33 < length (now head) ⌝ }
     ensures { λ r. ⌜ r ≡ pick (eqb (macroblock % 33) 0) (getD (now (head .entry)) (3 + macroblock / 33) 0) last ⌝ }
 {
-    if macroblock % 33 == 0 { head[3 + macroblock / 33] } else { last }
+    if macroblock % 33 == 0 {
+        head[3 + macroblock / 33]
+    } else {
+        last
+    }
 }
 
 // The quantiser that stands at a macroblock.
@@ -65,7 +69,16 @@ fn stands(kind: u8, mquant: u8, before: u8) -> u8
 }
 
 // One macroblock of the description, in sending order: its quantiser, which then stands.
-fn turn(format: Format, head: &[u8], macroblocks: &[u8], levels: &[u8], reference: &[u8], store: &mut [u8], n: usize, last: u8) -> u8
+fn turn(
+    format: Format,
+    head: &[u8],
+    macroblocks: &[u8],
+    levels: &[u8],
+    reference: &[u8],
+    store: &mut [u8],
+    n: usize,
+    last: u8,
+) -> u8
     requires { ⌜ T (valid format (flat (now head) (now macroblocks) (now levels))) × (length (now reference) ≡ storeLength format) × (length (now store) ≡ storeLength format) × (n < macroblockCount format) × ((n % 33 ≡ 0 → ⊥) → last ≡ quantiserBefore (flat (now head) (now macroblocks) (now levels)) (n / 33) (n % 33)) ⌝ }
     ensures quantiser { λ r. ⌜ r ≡ quantiserOf (flat (now (head .entry)) (now (macroblocks .entry)) (now (levels .entry))) n ⌝ }
     ensures drawn { λ _. ⌜ Macroblock format (rowOf format n) (columnOf format n) (valueAt format (flat (now (head .entry)) (now (macroblocks .entry)) (now (levels .entry))) (now (reference .entry))) (now (store .entry)) (now (store .exit)) ⌝ }
@@ -79,19 +92,47 @@ fn turn(format: Format, head: &[u8], macroblocks: &[u8], levels: &[u8], referenc
         macroblock::kept(format, reference, store, row, column);
         return quantiser;
     }
-    let predicted = prediction(kind);
-    macroblock::sent(format, reference, store, row, column, predicted, macroblocks[n * 4 + 2], macroblocks[n * 4 + 3], quantiser, levels, n * 384);
+    let predicted = prediction_of(kind);
+    macroblock::sent(
+        format,
+        reference,
+        store,
+        row,
+        column,
+        predicted,
+        macroblocks[n * 4 + 2],
+        macroblocks[n * 4 + 3],
+        quantiser,
+        levels,
+        n * 384,
+    );
     quantiser
 }
 
 // Every sample of the store is the one that the valid description gives over the reference.
-pub fn render(format: Format, head: &[u8], macroblocks: &[u8], levels: &[u8], reference: &[u8], store: &mut [u8])
+pub fn render(
+    format: Format,
+    head: &[u8],
+    macroblocks: &[u8],
+    levels: &[u8],
+    reference: &[u8],
+    store: &mut [u8],
+)
     requires { ⌜ T (valid format (flat (now head) (now macroblocks) (now levels))) × (length (now reference) ≡ storeLength format) × (length (now store) ≡ storeLength format) ⌝ }
     ensures { λ _. ⌜ now (store .exit) ≡ rendered format (flat (now (head .entry)) (now (macroblocks .entry)) (now (levels .entry))) (now (reference .entry)) ⌝ }
 {
     let count = format::order::macroblock_count(format);
     let mut quantiser: u8 = 0;
     for n in 0..count {
-        quantiser = turn(format, head, macroblocks, levels, reference, store, n, quantiser);
+        quantiser = turn(
+            format,
+            head,
+            macroblocks,
+            levels,
+            reference,
+            store,
+            n,
+            quantiser,
+        );
     }
 }

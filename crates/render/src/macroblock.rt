@@ -9,9 +9,9 @@ ghost use Rattle.transform.specs.Level.{bytesFrom};
 ghost use Rattle.render.specs.Sample.{differenceOf};
 ghost use Rattle.render.specs.Turn.{intraOf, vectorFrom, sentOf, keptOf};
 ghost use Rattle.render.specs.Wrote.{Macroblock};
+use crate::Prediction;
 use crate::block;
 use crate::parts;
-use crate::Prediction;
 use format::Format;
 
 // The plane of a block, and its block row or column in it.
@@ -29,7 +29,19 @@ fn grid(plane: usize, place: usize, half: usize) -> usize
 }
 
 // The levels of its six blocks stand at `at`.
-pub fn sent(format: Format, reference: &[u8], store: &mut [u8], row: usize, column: usize, prediction: Prediction, horizontal: u8, vertical: u8, quantiser: u8, levels: &[u8], at: usize)
+pub fn sent(
+    format: Format,
+    reference: &[u8],
+    store: &mut [u8],
+    row: usize,
+    column: usize,
+    prediction: Prediction,
+    horizontal: u8,
+    vertical: u8,
+    quantiser: u8,
+    levels: &[u8],
+    at: usize,
+)
     requires { ⌜ (length (now reference) ≡ storeLength format) × (length (now store) ≡ storeLength format) × (row < macroblocksDown format) × (column < macroblocksAcross format) × Points format row column (vectorFrom horizontal vertical) × (at + 384 ≤ length (now levels)) × (1 ≤ quantiser) × (quantiser ≤ 31) ⌝ }
     ensures { λ _. ⌜ Macroblock format row column (sentOf format (now (reference .entry)) prediction (vectorFrom horizontal vertical) (λ b. differenceOf (bytesFrom (now (levels .entry)) (at + b * 64)) (intraOf prediction) quantiser)) (now (store .entry)) (now (store .exit)) ⌝ }
 {
@@ -37,7 +49,20 @@ pub fn sent(format: Format, reference: &[u8], store: &mut [u8], row: usize, colu
         let plane = plane_of(b);
         let y = grid(plane, row, b / 2 % 2);
         let x = grid(plane, column, b % 2);
-        block::block(format, reference, store, plane, y, x, prediction, horizontal, vertical, quantiser, levels, at + b * 64);
+        block::block(
+            format,
+            reference,
+            store,
+            plane,
+            y,
+            x,
+            prediction,
+            horizontal,
+            vertical,
+            quantiser,
+            levels,
+            at + b * 64,
+        );
     }
 }
 

@@ -103,7 +103,13 @@ fn sums(prediction: &[[i32; 8]; 8], difference: &[[i32; 8]; 8], i: usize) -> [u8
     row
 }
 
-pub fn put(store: &mut [u8], to: usize, stride: usize, prediction: &[[i32; 8]; 8], difference: &[[i32; 8]; 8])
+pub fn put(
+    store: &mut [u8],
+    to: usize,
+    stride: usize,
+    prediction: &[[i32; 8]; 8],
+    difference: &[[i32; 8]; 8],
+)
     requires { ⌜ (8 ≤ stride) × Room 8 8 to stride (length (now store)) × Samples (now prediction) × Small 256 (now difference) ⌝ }
     ensures { λ _. ⌜ Put 8 8 to stride (λ i j. sampleOf (cell (pos 0) (now (prediction .entry)) i j) (cell (pos 0) (now (difference .entry)) i j)) (now (store .entry)) (now (store .exit)) ⌝ }
 {

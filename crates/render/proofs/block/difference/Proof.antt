@@ -16,7 +16,7 @@ empty-requires : tie.Need-empty-requires
 empty-requires c κs = search needs
 
 returns : tie.Need-returns
-returns c = (zeros-are _ (λ i j l m. difference-zero (bytesFrom (‹args› .levels .now) (‹args› .at)) (‹args› .quantiser) i j (empty-zero (bytesFrom (‹args› .levels .now) (‹args› .at)) (‹empty› .ensures) (‹if1› .taken)) l m), zeros-small)
+returns c = (zeros-are _ (λ i j. difference-zero (bytesFrom (c .before .before .before .args .levels .now) (c .before .before .before .args .at)) (c .before .before .before .args .quantiser) i j (empty-zero (bytesFrom (c .before .before .before .args .levels .now) (c .before .before .before .args .at)) (c .before .empty .ensures) (c .if1 .taken))), zeros-small)
 
 output-requires : tie.Need-output-requires
 output-requires c κs = search needs

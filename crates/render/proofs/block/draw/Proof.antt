@@ -7,7 +7,8 @@ use Rattle.transform.specs.Level.{bytesFrom}
 use Rattle.render.specs.declared.Prediction.the-variants.{Intra, Inter, Filtered}
 use Rattle.render.specs.Turn.{blockFrom, drawn, copied}
 use Rattle.render.specs.Zero.{empty-zero}
-use Rattle.render.specs.Bounds.{samples-of, byte-sample, zeros-are, zeros-samples}
+use Rattle.transform.specs.Sample.{byte-sample}
+use Rattle.render.specs.Bounds.{samples-of, zeros-are, zeros-samples}
 use Rattle.render.proofs.block.draw.Statement.{statement}
 use Rattle.render.proofs.block.draw.Tie as tie
 use Rattle.render.proofs.block.draw.Reads as reads
@@ -27,7 +28,7 @@ output-requires : tie.Need-output-requires
 output-requires c κs = search needs
 
 put-requires : tie.Need-put-requires
-put-requires c κs = (‹pre› .0, ‹pre› .2, zeros-samples, ‹output› .ensures .1)
+put-requires c κs = (c .before .before .before .before .before .before .before .before .before .pre .0, c .before .before .before .before .before .before .before .before .before .pre .2, zeros-samples, c .before .before .before .output .ensures .1)
 
 enum-told-2 : tie.Need-enum-told-2
 enum-told-2 c = search needs
@@ -45,7 +46,7 @@ output-requires-2 : tie.Need-output-requires-2
 output-requires-2 c κs = search needs
 
 put-requires-2 : tie.Need-put-requires-2
-put-requires-2 c κs = (‹pre› .0, ‹pre› .2, samples-of (‹fetch› .ensures) (λ i j. byte-sample _ (omega (arith, ‹shared-slice-known› .given (‹args› .from + i * ‹args› .stride + j)))), ‹output2› .ensures .1)
+put-requires-2 c κs = (c .before .before .before .before .before .before .before .before .before .before .before .before .pre .0, c .before .before .before .before .before .before .before .before .before .before .before .before .pre .2, samples-of (c .before .before .before .before .fetch .ensures) (λ i j. byte-sample _ (omega (arith, c .before .before .before .before .before .before .before .before .before .before .before .shared-slice-known .given (c .before .before .before .before .before .before .before .before .before .before .before .before .args .from + i * c .before .before .before .before .before .before .before .before .before .before .before .before .args .stride + j)))), c .before .before .before .output2 .ensures .1)
 
 enum-told-3 : tie.Need-enum-told-3
 enum-told-3 c = search needs
@@ -57,31 +58,31 @@ difference-requires : tie.Need-difference-requires
 difference-requires c κs = search needs
 
 put-requires-3 : tie.Need-put-requires-3
-put-requires-3 c κs = (‹pre› .0, ‹pre› .2, ‹filtered› .ensures .1, ‹difference› .ensures .1)
+put-requires-3 c κs = (c .before .before .before .before .before .before .before .before .before .before .pre .0, c .before .before .before .before .before .before .before .before .before .before .pre .2, c .before .before .before .before .filtered .ensures .1, c .before .before .before .difference .ensures .1)
 
 same-length : tie.Need-same-length
 same-length c = search needs
 
 returns : tie.Need-returns
-returns c = drawn Intra (‹args› .reference .now) (‹args› .from) (bytesFrom (‹args› .levels .now) (‹args› .at)) (‹args› .quantiser) (‹enum-told› .given .1) (zeros-are _ (λ i j l m. refl)) (‹output› .ensures .0) (‹put› .ensures)
+returns c = drawn Intra (c .before .before .before .before .before .before .before .before .before .before .before .before .args .reference .now) (c .before .before .before .before .before .before .before .before .before .before .before .before .args .from) (bytesFrom (c .before .before .before .before .before .before .before .before .before .before .before .before .args .levels .now) (c .before .before .before .before .before .before .before .before .before .before .before .before .args .at)) (c .before .before .before .before .before .before .before .before .before .before .before .before .args .quantiser) (c .before .before .before .before .before .before .before .enum-told .given .1) (zeros-are _ (λ i j. refl)) (c .before .before .before .before .before .before .output .ensures .0) (c .before .before .put .ensures)
 
 same-length-2 : tie.Need-same-length-2
 same-length-2 c = search needs
 
 returns-2 : tie.Need-returns-2
-returns-2 c = copied (‹args› .reference .now) (‹args› .from) (bytesFrom (‹args› .levels .now) (‹args› .at)) (‹args› .quantiser) (‹enum-told2› .given .1) (λ n. omega (arith, ‹shared-slice-known› .given n)) (empty-zero (bytesFrom (‹args› .levels .now) (‹args› .at)) (‹empty› .ensures) (‹if1› .taken)) (‹copy-eight› .ensures)
+returns-2 c = copied (c .before .before .before .before .before .before .before .before .before .before .before .args .reference .now) (c .before .before .before .before .before .before .before .before .before .before .before .args .from) (bytesFrom (c .before .before .before .before .before .before .before .before .before .before .before .args .levels .now) (c .before .before .before .before .before .before .before .before .before .before .before .args .at)) (c .before .before .before .before .before .before .before .before .before .before .before .args .quantiser) (c .before .before .before .before .before .before .enum-told2 .given .1) (λ n. omega (arith, c .before .before .before .before .before .before .before .before .before .before .shared-slice-known .given n)) (empty-zero (bytesFrom (c .before .before .before .before .before .before .before .before .before .before .before .args .levels .now) (c .before .before .before .before .before .before .before .before .before .before .before .args .at)) (c .before .before .before .before .before .empty .ensures) (c .before .before .before .before .if1 .taken)) (c .before .before .copy-eight .ensures)
 
 same-length-3 : tie.Need-same-length-3
 same-length-3 c = search needs
 
 returns-3 : tie.Need-returns-3
-returns-3 c = drawn Inter (‹args› .reference .now) (‹args› .from) (bytesFrom (‹args› .levels .now) (‹args› .at)) (‹args› .quantiser) (‹enum-told2› .given .1) (‹fetch› .ensures) (‹output2› .ensures .0) (‹put2› .ensures)
+returns-3 c = drawn Inter (c .before .before .before .before .before .before .before .before .before .before .before .before .before .before .before .args .reference .now) (c .before .before .before .before .before .before .before .before .before .before .before .before .before .before .before .args .from) (bytesFrom (c .before .before .before .before .before .before .before .before .before .before .before .before .before .before .before .args .levels .now) (c .before .before .before .before .before .before .before .before .before .before .before .before .before .before .before .args .at)) (c .before .before .before .before .before .before .before .before .before .before .before .before .before .before .before .args .quantiser) (c .before .before .before .before .before .before .before .before .before .before .enum-told2 .given .1) (c .before .before .before .before .before .before .before .fetch .ensures) (c .before .before .before .before .before .before .output2 .ensures .0) (c .before .before .put2 .ensures)
 
 same-length-4 : tie.Need-same-length-4
 same-length-4 c = search needs
 
 returns-4 : tie.Need-returns-4
-returns-4 c = drawn Filtered (‹args› .reference .now) (‹args› .from) (bytesFrom (‹args› .levels .now) (‹args› .at)) (‹args› .quantiser) (‹enum-told3› .given .1) (‹filtered› .ensures .0) (‹difference› .ensures .0) (‹put3› .ensures)
+returns-4 c = drawn Filtered (c .before .before .before .before .before .before .before .before .before .before .before .before .before .args .reference .now) (c .before .before .before .before .before .before .before .before .before .before .before .before .before .args .from) (bytesFrom (c .before .before .before .before .before .before .before .before .before .before .before .before .before .args .levels .now) (c .before .before .before .before .before .before .before .before .before .before .before .before .before .args .at)) (c .before .before .before .before .before .before .before .before .before .before .before .before .before .args .quantiser) (c .before .before .before .before .before .before .before .before .enum-told3 .given .1) (c .before .before .before .before .before .before .before .filtered .ensures .0) (c .before .before .before .before .before .before .difference .ensures .0) (c .before .before .put3 .ensures)
 
 pub draw-spec : {M : Type 1} → statement M
 draw-spec =

@@ -9,23 +9,22 @@ use Rattle.laws.specs.Tabulate.{made, is-made}
 use Rattle.transform.specs.Level.{dequantised-small}
 use Rattle.transform.specs.Inverse.{inverseAt}
 use Rattle.render.specs.Sample.{differenceOf}
-use Rattle.render.specs.Bounds.{small-of}
+use Rattle.transform.specs.Inverse.{inverse-small}
 use Rattle.render.proofs.block.output.Statement.{statement}
 use Rattle.render.proofs.block.output.Tie as tie
 use Rattle.render.proofs.block.output.Reads as reads
 use Rattle.render.proofs.block.output.Lts as lts
-use Rattle.render.proofs.stand.inverse.Reads as inverse-reads
 use Rattle.transform.proofs.dequantise.dequantise.Reads as dequantise-reads
 
 dequantise-requires : tie.Need-dequantise-requires
 dequantise-requires c κs = search needs
 
 inverse-requires : tie.Need-inverse-requires
-inverse-requires c κs = dequantised-small _ _ _ (λ position. omega (arith, ‹shared-slice-known› .given (‹args› .at + position))) (‹dequantise› .ensures)
+inverse-requires c κs = dequantised-small _ _ _ (λ position. omega (arith, c .before .shared-slice-known .given (c .before .before .args .at + position))) (c .dequantise .ensures)
 
 returns : tie.Need-returns
 unfolding differenceOf
-returns c = (subst (λ (b : List (List ℤ)). Is (pos 0) (inverseAt b) (‹inverse› .result)) (is-made (‹dequantise› .ensures)) (‹inverse› .ensures), small-of _ (‹inverse› .ensures))
+returns c = (subst (λ (b : List (List ℤ)). Is (pos 0) (inverseAt b) (c .inverse .result)) (is-made (c .before .dequantise .ensures)) (c .inverse .ensures), inverse-small _ (c .inverse .ensures))
 
 pub output-spec : {M : Type 1} → statement M
 output-spec = tie.close (tie.spec dequantise-requires inverse-requires returns)

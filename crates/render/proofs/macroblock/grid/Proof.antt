@@ -16,10 +16,10 @@ add-result : tie.Need-add-result
 add-result c = search needs
 
 returns : tie.Need-returns
-returns c = sym (ap (λ (q : ℕ). gridOf q (‹args› .place) (‹args› .half)) (‹if1› .taken))
+returns c = sym (ap (λ (q : ℕ). gridOf q (c .before .args .place) (c .before .args .half)) (c .if1 .taken))
 
 returns-2 : tie.Need-returns-2
-returns-2 c = ap (λ (q : ℕ). gridOf q (‹args› .place) (‹args› .half)) (other-plane _ (‹if1› .left))
+returns-2 c = ap (λ (q : ℕ). gridOf q (c .before .args .place) (c .before .args .half)) (other-plane _ (c .if1 .left))
 
 pub grid-spec : {M : Type 1} → statement M
 grid-spec = tie.close (tie.spec mul-result add-result returns returns-2)

@@ -18,12 +18,10 @@ use Rattle.render.proofs.macroblock.grid.Reads as grid-reads
 use Rattle.render.proofs.macroblock.plane_of.Reads as plane-of-reads
 
 abbrev Inv-loop : tie.InvT-loop
-Inv-loop format reference store₀ row column prediction horizontal vertical quantiser levels at b₀ store b =
-    ?
+Inv-loop format reference store₀ row column prediction horizontal vertical quantiser levels at b₀ store b = (b ≤ 6) × Part format row column b (sentOf format reference prediction (vectorFrom horizontal vertical) (λ b. differenceOf (bytesFrom levels (at + b * 64)) (intraOf prediction) quantiser)) store₀ store
 
 abbrev μ-loop : tie.MeasureT-loop
-μ-loop format reference store₀ row column prediction horizontal vertical quantiser levels at b₀ store b =
-    ?
+μ-loop format reference store₀ row column prediction horizontal vertical quantiser levels at b₀ store b = 6 - b
 
 loop-holds : tie.Need-loop-holds Inv-loop μ-loop
 loop-holds c = (search needs, part-none)
@@ -32,10 +30,10 @@ plane-of-requires : tie.Need-plane-of-requires Inv-loop μ-loop
 plane-of-requires c κs = search needs
 
 grid-requires : tie.Need-grid-requires Inv-loop μ-loop
-grid-requires c κs = omega (arith, ‹pre› .2, size-small (‹args› .format))
+grid-requires c κs = omega (arith, c .before .before .before .before .before .before .pre .2, size-small (c .before .before .before .before .before .before .args .format))
 
 grid-requires-2 : tie.Need-grid-requires-2 Inv-loop μ-loop
-grid-requires-2 c κs = omega (arith, ‹pre› .3, size-small (‹args› .format))
+grid-requires-2 c κs = omega (arith, c .before .before .before .before .before .before .before .pre .3, size-small (c .before .before .before .before .before .before .before .args .format))
 
 mul-block : tie.Need-mul-block Inv-loop μ-loop
 mul-block c = search needs
@@ -43,11 +41,11 @@ mul-block c = search needs
 add-block : tie.Need-add-block Inv-loop μ-loop
 add-block c = search needs
 
-place : (c : tie.After-block-arg Inv-loop μ-loop) → Placed (‹args› .format) (‹args› .row) (‹args› .column) (‹loop› .b) (‹plane-of› .result) (‹grid› .result) (‹grid2› .result)
-place c = placed (‹args› .format) (‹args› .row) (‹args› .column) (‹loop› .b) (‹plane-of› .result) (‹grid› .result) (‹grid2› .result) (‹pre› .2) (‹pre› .3) (search needs) (‹plane-of› .ensures) (‹grid› .ensures) (‹grid2› .ensures)
+place : (c : tie.After-block-arg Inv-loop μ-loop) → Placed (c .before .before .before .before .before .before .before .before .before .args .format) (c .before .before .before .before .before .before .before .before .before .args .row) (c .before .before .before .before .before .before .before .before .before .args .column) (c .before .before .before .before .before .loop .b) (c .before .before .before .plane-of .result) (c .before .before .grid .result) (c .before .grid2 .result)
+place c = placed (c .before .before .before .before .before .before .before .before .before .args .format) (c .before .before .before .before .before .before .before .before .before .args .row) (c .before .before .before .before .before .before .before .before .before .args .column) (c .before .before .before .before .before .loop .b) (c .before .before .before .plane-of .result) (c .before .before .grid .result) (c .before .grid2 .result) (c .before .before .before .before .before .before .before .before .before .pre .2) (c .before .before .before .before .before .before .before .before .before .pre .3) (search needs) (c .before .before .before .plane-of .ensures) (c .before .before .grid .ensures) (c .before .grid2 .ensures)
 
 block-requires : tie.Need-block-requires Inv-loop μ-loop
-block-requires c κs = (‹pre› .0, ‹loop› .inv .1 .size ∙ ‹pre› .1, place c .on, aims (place c .row) (place c .column) (‹pre› .4), search needs, ‹pre› .6, ‹pre› .7)
+block-requires c κs = (c .before .before .before .before .before .before .before .before .before .pre .0, c .before .before .before .before .before .loop .inv .1 .size ∙ c .before .before .before .before .before .before .before .before .before .pre .1, place c .on, aims (place c .row) (place c .column) (c .before .before .before .before .before .before .before .before .before .pre .4), search needs, c .before .before .before .before .before .before .before .before .before .pre .6, c .before .before .before .before .before .before .before .before .before .pre .7)
 
 add-b : tie.Need-add-b Inv-loop μ-loop
 add-b c = search needs
@@ -56,13 +54,13 @@ loop-less : tie.Need-loop-less Inv-loop μ-loop
 loop-less c = search needs
 
 loop-again : tie.Need-loop-again Inv-loop μ-loop
-loop-again c = (search needs, sent-more (‹args› .reference .now) (‹args› .prediction) (vectorFrom (‹args› .horizontal) (‹args› .vertical)) (λ b. differenceOf (bytesFrom (‹args› .levels .now) (‹args› .at + b * 64)) (intraOf (‹args› .prediction)) (‹args› .quantiser)) (placed (‹args› .format) (‹args› .row) (‹args› .column) (‹loop› .b) (‹plane-of› .result) (‹grid› .result) (‹grid2› .result) (‹pre› .2) (‹pre› .3) (search needs) (‹plane-of› .ensures) (‹grid› .ensures) (‹grid2› .ensures)) (‹loop› .inv .1) (‹block› .ensures))
+loop-again c = (search needs, sent-more (c .before .before .before .before .before .before .before .before .before .before .before .before .args .reference .now) (c .before .before .before .before .before .before .before .before .before .before .before .before .args .prediction) (vectorFrom (c .before .before .before .before .before .before .before .before .before .before .before .before .args .horizontal) (c .before .before .before .before .before .before .before .before .before .before .before .before .args .vertical)) (λ b. differenceOf (bytesFrom (c .before .before .before .before .before .before .before .before .before .before .before .before .args .levels .now) (c .before .before .before .before .before .before .before .before .before .before .before .before .args .at + b * 64)) (intraOf (c .before .before .before .before .before .before .before .before .before .before .before .before .args .prediction)) (c .before .before .before .before .before .before .before .before .before .before .before .before .args .quantiser)) (placed (c .before .before .before .before .before .before .before .before .before .before .before .before .args .format) (c .before .before .before .before .before .before .before .before .before .before .before .before .args .row) (c .before .before .before .before .before .before .before .before .before .before .before .before .args .column) (c .before .before .before .before .before .before .before .before .loop .b) (c .before .before .before .before .before .before .plane-of .result) (c .before .before .before .before .before .grid .result) (c .before .before .before .before .grid2 .result) (c .before .before .before .before .before .before .before .before .before .before .before .before .pre .2) (c .before .before .before .before .before .before .before .before .before .before .before .before .pre .3) (search needs) (c .before .before .before .before .before .before .plane-of .ensures) (c .before .before .before .before .before .grid .ensures) (c .before .before .before .before .grid2 .ensures)) (c .before .before .before .before .before .before .before .before .loop .inv .1) (c .before .before .block .ensures))
 
 same-length : tie.Need-same-length Inv-loop μ-loop
-same-length c = ‹loop› .inv .1 .size
+same-length c = c .before .loop .inv .1 .size
 
 returns : tie.Need-returns Inv-loop μ-loop
-returns c = part-end (‹loop› .inv .1) (search needs) (search needs)
+returns c = part-end (c .before .loop .inv .1) (search needs) (search needs)
 
 pub sent-spec : {M : Type 1} → statement M
 sent-spec =
