@@ -1,11 +1,10 @@
 -- Where a vector points, in each plane; a vector that obeys the rule points into the picture, and its halves into CB and CR. Assumes nothing.
-use mathlib.Core.Path.{_≡_, refl, sym, ap, subst, _∙_}
-use mathlib.Core.Bool.{Bool, true, false}
+use mathlib.Core.Path.{_≡_, subst}
 use Prim.Native.Nat.{ℕ, zero, suc, _+_, _-_, _*_, _/_, _≤_, _<_}
 use native.Mathlib.Omega.{arith}
 use lib.Dec.{T, leb, leb→le}
-use lib.IntN.{ℤ, pos, negsuc}
-use Rattle.laws.specs.Choice.{both, both-left, both-right}
+use lib.IntN.{ℤ}
+use Rattle.laws.specs.Choice.{both-left, both-right}
 use Rattle.format.specs.declared.Format.{Format}
 use Rattle.format.specs.Format.{width, height, row, column}
 use Rattle.format.specs.Place.{macroblocksAcross, macroblocksDown, side, wide, high, own}

@@ -2,23 +2,22 @@
 use mathlib.Core.Path.{_≡_, refl, sym, ap, subst, _∙_}
 use mathlib.Core.Bool.{Bool, true, false}
 use mathlib.Core.List.{List, [], _∷_}
-use Prim.Native.Nat.{ℕ, zero, suc, _+_, _-_, _*_, _/_, _%_, _≤_, _<_, zero-le}
+use Prim.Native.Nat.{ℕ, zero, suc, _+_, _*_, _/_, _%_, _≤_, _<_}
 use native.Mathlib.Nat.{le-of-suc-le-suc, not-suc-le-zero}
 use native.Mathlib.Omega.{arith}
 use lib.Dec.{T, leb, leb→le, eqb, eqb→eq}
 use lib.ListN.{getD, length, take, drop, length-drop}
 use lib.Seq.{getD-take, getD-drop, drop-drop, length-take-le}
-use Rattle.laws.specs.Choice.{pick, both, opposite, both-left, both-right}
-use Rattle.laws.specs.Table.{all-at}
-use Rattle.words.specs.Words.{isIntra, isMC, hasMQUANT, hasCBP}
+use Rattle.laws.specs.Choice.{pick, both, both-left, both-right, opposite}
+use Rattle.words.specs.Words.{isMC, hasMQUANT, isIntra, hasCBP}
 use Rattle.format.specs.declared.Format.{Format}
 use Rattle.format.specs.declared.Format.the-variants.{Qcif, Cif}
 use Rattle.format.specs.Format.{groupNumbers, groupCount, formatBit, headLength, macroblocksLength, levelsLength}
 use Rattle.format.specs.Order.{macroblockCount, groupOf, addressOf}
 use Rattle.description.specs.Vector.{Vector, zeroVector, inRange, inPicture}
 use Rattle.description.specs.Flat.{Flat, numberOf}
-use Rattle.description.specs.Valid.{all, within, isZero, isQuantiser, isLevel, codesFirst, validVector, validLevels, validMacroblock, validMacroblocks, validGroups, lengthsOf, validHead, valid}
-use Rattle.description.specs.Fields.{fieldsAt, levelsAt, typeOf, mquantOf, horizontalOf, verticalOf, levelOf, gquantOf, vectorOf, quantiserNext, quantiserBefore, quantiserOf, refresh}
+use Rattle.description.specs.Valid.{all, isZero, isQuantiser, validVector, validLevels, validMacroblock, validMacroblocks, validGroups, lengthsOf, validHead, valid, codesFirst, isLevel}
+use Rattle.description.specs.Fields.{fieldsAt, levelsAt, typeOf, mquantOf, horizontalOf, verticalOf, gquantOf, vectorOf, quantiserNext, quantiserBefore, quantiserOf, levelOf}
 
 -- ---- lists
 pub each : (good : ℕ → Bool) (xs : List ℕ) → T (all good xs) → (k : ℕ) → k < length xs → T (good (getD xs k 0))
@@ -286,3 +285,62 @@ quantiser-kept d n l =
 
     number : n / 33 * 33 + n % 33 ≡ n
     number = omega arith
+
+-- ---- the levels
+code-at : (k : ℕ) (levels : List ℕ) → T (codesFirst k levels) → (b : ℕ) → b < k → T (opposite (isZero (getD levels (b * 64) 0)))
+unfolding codesFirst
+code-at zero levels t b l = absurd (not-suc-le-zero l)
+code-at (suc k) levels t zero l = both-left (opposite (isZero (getD levels 0 0))) (codesFirst k (drop 64 levels)) t
+code-at (suc k) levels t (suc b) l =
+    subst (λ (n : ℕ). T (opposite (isZero n))) (getD-drop 64 levels (b * 64) 0 ∙ ap (λ (n : ℕ). getD levels n 0) next)
+    (code-at k (drop 64 levels) (both-right (opposite (isZero (getD levels 0 0))) (codesFirst k (drop 64 levels)) t) b (le-of-suc-le-suc l))
+  where
+    next : 64 + b * 64 ≡ suc b * 64
+    next = omega arith
+
+zero-level : (x : ℕ) → T (isZero x) → T (isLevel x)
+zero-level x t = subst (λ (n : ℕ). T (isLevel n)) (sym (eqb→eq x 0 t)) tt
+
+-- each is a level, whatever the type
+level-in : (type : ℕ) (levels : List ℕ) → T (validLevels type levels) → (k : ℕ) → k < length levels → T (isLevel (getD levels k 0))
+level-in type levels t k l = go (isIntra type) (hasCBP type) t
+  where
+    go : (a b : Bool) → T (pick a (both (all isLevel levels) (codesFirst 6 levels)) (pick b (both (all isLevel levels) (opposite (all isZero levels))) (all isZero levels))) → T (isLevel (getD levels k 0))
+    go true b u = each isLevel levels (both-left (all isLevel levels) (codesFirst 6 levels) u) k l
+    go false true u = each isLevel levels (both-left (all isLevel levels) (opposite (all isZero levels)) u) k l
+    go false false u = zero-level (getD levels k 0) (each isZero levels u k l)
+
+module _ (f : Format) (d : Flat) (t : T (valid f d)) (n : ℕ) (l : n < macroblockCount f) where
+  levels-are : length (levelsAt d n) ≡ 384
+  levels-are = length-take-le 384 (drop (n * 384) (d .levels)) (omega (arith, length-drop (n * 384) (d .levels), levels-length f d t))
+
+  level-of : (k : ℕ) → k < 384 → getD (levelsAt d n) k 0 ≡ levelOf d n k
+  level-of k m = getD-take 384 (drop (n * 384) (d .levels)) k 0 m ∙ getD-drop (n * 384) (d .levels) k 0
+
+  pub level-at : (k : ℕ) → k < 384 → T (isLevel (levelOf d n k))
+  level-at k m = subst (λ (x : ℕ). T (isLevel x)) (level-of k m) (level-in (typeOf d n) (levelsAt d n) (fine-at f d t n l .blocks) k (omega (arith, levels-are)))
+
+  -- an INTRA block begins with a code that isn't 0
+  pub intra-at : isIntra (typeOf d n) ≡ true → (b : ℕ) → b < 6 → T (opposite (isZero (levelOf d n (b * 64))))
+  intra-at e b m =
+      subst (λ (x : ℕ). T (opposite (isZero x))) (level-of (b * 64) (omega arith))
+      (code-at 6 (levelsAt d n)
+      (both-right (all isLevel (levelsAt d n)) (codesFirst 6 (levelsAt d n))
+      (pick-true (both (all isLevel (levelsAt d n)) (codesFirst 6 (levelsAt d n))) (pick (hasCBP (typeOf d n)) (both (all isLevel (levelsAt d n)) (opposite (all isZero (levelsAt d n)))) (all isZero (levelsAt d n))) e (fine-at f d t n l .blocks))) b m)
+
+  rest-of : isIntra (typeOf d n) ≡ false → T (pick (hasCBP (typeOf d n)) (both (all isLevel (levelsAt d n)) (opposite (all isZero (levelsAt d n)))) (all isZero (levelsAt d n)))
+  rest-of e =
+      pick-false (both (all isLevel (levelsAt d n)) (codesFirst 6 (levelsAt d n))) (pick (hasCBP (typeOf d n)) (both (all isLevel (levelsAt d n)) (opposite (all isZero (levelsAt d n)))) (all isZero (levelsAt d n))) e (fine-at f d t n l .blocks)
+
+  -- a type with CBP has a level that isn't 0
+  pub coded-at : isIntra (typeOf d n) ≡ false → hasCBP (typeOf d n) ≡ true → T (opposite (all isZero (levelsAt d n)))
+  coded-at e c =
+      both-right (all isLevel (levelsAt d n)) (opposite (all isZero (levelsAt d n)))
+      (pick-true (both (all isLevel (levelsAt d n)) (opposite (all isZero (levelsAt d n)))) (all isZero (levelsAt d n)) c (rest-of e))
+
+  -- one with neither has none
+  pub bare-at : isIntra (typeOf d n) ≡ false → hasCBP (typeOf d n) ≡ false → (k : ℕ) → k < 384 → levelOf d n k ≡ 0
+  bare-at e c k m =
+      sym (level-of k m)
+      ∙ eqb→eq (getD (levelsAt d n) k 0) 0
+      (each isZero (levelsAt d n) (pick-false (both (all isLevel (levelsAt d n)) (opposite (all isZero (levelsAt d n)))) (all isZero (levelsAt d n)) c (rest-of e)) k (omega (arith, levels-are)))

@@ -1,20 +1,20 @@
 -- Where the six blocks of a macroblock lie: every index of a store belongs to exactly one row and column of one block of one macroblock. Assumes nothing.
 use mathlib.Core.Path.{_≡_, refl, sym, ap, subst, _∙_}
-use mathlib.Core.Bool.{Bool, true, false}
+use mathlib.Core.Bool.{Bool}
 use Prim.Native.Nat.{ℕ, zero, suc, _+_, _*_, _/_, _%_, _-_, _≤_, _<_}
 use native.Mathlib.Nat.{add-mul, div-add-mod'}
 use native.Mathlib.Omega.{arith}
-use lib.Dec.{T, eqb}
+use lib.Dec.{eqb}
 use lib.ListN.{getD}
 use mir.Facts.{eqb-yes}
 use Rattle.laws.specs.Rows.{Room}
-use Rattle.laws.specs.Table.{allB, all-at}
+use Rattle.laws.specs.Table.{all-at}
 use Rattle.format.specs.declared.Format.{Format}
 use Rattle.format.specs.declared.Format.the-variants.{Qcif, Cif}
 use Rattle.format.specs.Format.{groupNumbers, groupCount, row, column, storeLength}
 use Rattle.format.specs.Place.{macroblocksAcross, macroblocksDown, side, blocksAcross, blocksDown, wide, high, base, index, own, blockOf, gridOf}
 use Rattle.format.specs.Order.{groupsAcross, macroblockCount, groupOf, addressOf, rowOf, columnOf, macroblockAt}
-use Rattle.format.specs.Grid.{count-is, index-size, Same, index-same, number-row, number-column, of-number, of-row, of-column, Spot, spot}
+use Rattle.format.specs.Grid.{index-size, Same, index-same, number-row, number-column, of-number, of-row, of-column, Spot, spot}
 
 -- block (y, x) is one of plane p
 pub record On (f : Format) (p y x : ℕ) : Type 0 where

@@ -1,7 +1,7 @@
 -- Rows of elements in a list: where they lie, and what a write of one row, or of rows a stride apart, leaves of the list: every element is fixed. Assumes nothing.
 use mathlib.Core.Path.{_≡_, refl, sym, ap, subst, _∙_}
 use mathlib.Core.Logic.{_≢_, _⊎_, inl, inr, ⊎-elim}
-use mathlib.Core.List.{List, []}
+use mathlib.Core.List.{List}
 use Prim.Native.Nat.{ℕ, zero, suc, _+_, _*_, _-_, _≤_, _<_, zero-le, suc-le-suc}
 use native.Mathlib.Nat.{suc-mul, mul-le-mul-right, eq-or-lt-of-le, le-antisymm}
 use native.Mathlib.Omega.{arith}

@@ -1,7 +1,7 @@
 -- Blocks of samples, and blocks of zeros. Assumes nothing.
 use mathlib.Core.Path.{_≡_, refl, sym, ap, _∙_}
 use mathlib.Core.List.{List, []}
-use Prim.Native.Nat.{ℕ, _<_, zero-le}
+use Prim.Native.Nat.{ℕ, zero-le}
 use lib.IntN.{ℤ, pos}
 use lib.ListN.{getD, replicate, getD-replicate}
 use Rattle.laws.specs.Integer.{Low}

@@ -8,21 +8,19 @@ use native.Mathlib.Decide.{ℕ-discrete}
 use native.Mathlib.Omega.{arith}
 use borrow.Author.Tests.{eq-eqb, ne-eqb}
 use lib.Dec.{T, eqb}
-use lib.IntN.{ℤ}
-use lib.ListN.{length, getD}
 use Rattle.laws.specs.Rows.{lt-or-ge}
-use Rattle.laws.specs.Choice.{pick, both, opposite, both-right}
+use Rattle.laws.specs.Choice.{pick, both, both-right}
 use Rattle.words.specs.Words.{isIntra, isMC, isFiltered, hasMQUANT}
 use Rattle.format.specs.declared.Format.{Format}
 use Rattle.format.specs.declared.Format.the-variants.{Qcif, Cif}
-use Rattle.format.specs.Place.{macroblocksAcross, macroblocksDown, wide, high, own, blockOf, cellOf}
+use Rattle.format.specs.Place.{macroblocksAcross, macroblocksDown, own, blockOf, cellOf}
 use Rattle.format.specs.Order.{macroblockCount, groupOf, addressOf, rowOf, columnOf, macroblockAt}
 use Rattle.format.specs.Grid.{of-number, of-row, of-column}
 use Rattle.description.specs.Vector.{Vector, inRange, inPicture}
 use Rattle.description.specs.Flat.{Flat, numberOf}
 use Rattle.description.specs.Valid.{valid}
-use Rattle.description.specs.Fields.{typeOf, mquantOf, horizontalOf, verticalOf, gquantOf, vectorOf, quantiserNext, quantiserBefore, quantiserOf}
-use Rattle.description.specs.ValidAt.{Fine, fine-at, vector-at, pointed}
+use Rattle.description.specs.Fields.{typeOf, mquantOf, horizontalOf, verticalOf, gquantOf, vectorOf, quantiserBefore, quantiserOf}
+use Rattle.description.specs.ValidAt.{Fine, fine-at, pointed}
 use Rattle.description.specs.Moved.{Points, points-in}
 use Rattle.transform.specs.Level.{bytesFrom}
 use Rattle.transform.specs.Sample.{sampleOf}

@@ -1,16 +1,15 @@
 -- What a rendered store owes to the reference: a refresh nothing, a picture with no macroblock sent everything. Assumes nothing.
 use mathlib.Core.Path.{_≡_, refl, sym, ap, _∙_}
-use mathlib.Core.Bool.{Bool, true, false}
 use mathlib.Core.Logic.{_⊎_, inl, inr, ⊎-elim}
 use mathlib.Core.List.{List}
-use Prim.Native.Nat.{ℕ, _+_, _*_, _/_, _%_, _<_}
+use Prim.Native.Nat.{ℕ, _/_, _%_, _<_}
 use native.Mathlib.Nat.{div-add-mod'}
 use native.Mathlib.Decide.{ℕ-discrete}
 use borrow.Author.Tests.{ne-eqb}
 use lib.Dec.{T, eqb, eqb→eq}
 use lib.IntN.{ℤ}
 use lib.ListN.{length, getD}
-use Rattle.laws.specs.Choice.{pick, either, opposite}
+use Rattle.laws.specs.Choice.{pick, opposite}
 use Rattle.laws.specs.Table.{all-at}
 use Rattle.words.specs.Words.{isIntra}
 use Rattle.format.specs.declared.Format.{Format}
@@ -22,7 +21,7 @@ use Rattle.description.specs.Vector.{Vector}
 use Rattle.description.specs.Flat.{Flat}
 use Rattle.description.specs.Fields.{typeOf, refresh, nothingSent}
 use Rattle.transform.specs.Sample.{sampleOf}
-use Rattle.render.specs.Sample.{source, predicted, predictionOf, valueOf, contentOf, valueAt, sampleAt, rendered}
+use Rattle.render.specs.Sample.{source, predicted, predictionOf, valueOf, contentOf, valueAt, rendered}
 use Rattle.render.specs.Rendered.{rendered-length, rendered-at, is-rendered}
 use Rattle.render.specs.Picture.{kept-value}
 

@@ -1,7 +1,7 @@
 -- The rendered store by its places: it has its length and each place its sample, and so has no other list. Assumes nothing.
 use mathlib.Core.Path.{_≡_, refl, sym, ap, subst, _∙_}
-use mathlib.Core.List.{List, [], _∷_, _++_}
-use Prim.Native.Nat.{ℕ, zero, suc, _+_, _*_, _/_, _%_, _-_, _≤_, _<_}
+use mathlib.Core.List.{List, _++_}
+use Prim.Native.Nat.{ℕ, zero, suc, _+_, _*_, _/_, _%_, _≤_, _<_}
 use native.Mathlib.Nat.{div-add-mod', lt-of-lt-of-le}
 use native.Mathlib.Omega.{arith}
 use lib.ListN.{length, getD, length-append, List·getD-append}
@@ -9,10 +9,9 @@ use lib.Seq.{getD-append-add, ext-getD}
 use Rattle.laws.specs.Rows.{rows-in}
 use Rattle.laws.specs.Tabulate.{rows, rows-length, rows-at}
 use Rattle.format.specs.declared.Format.{Format}
-use Rattle.format.specs.declared.Format.the-variants.{Qcif, Cif}
 use Rattle.format.specs.Format.{storeLength}
-use Rattle.format.specs.Place.{macroblocksAcross, macroblocksDown, wide, high, base, index, own}
-use Rattle.format.specs.Order.{macroblockCount, macroblockAt}
+use Rattle.format.specs.Place.{wide, high, base, index, own}
+use Rattle.format.specs.Order.{macroblockCount}
 use Rattle.format.specs.Grid.{store-is, Spot, spot}
 use Rattle.format.specs.Blocks.{On, on-at, own-across, own-down, number-less}
 use Rattle.description.specs.Flat.{Flat}

@@ -1,5 +1,5 @@
 -- The sample at each place of a picture, from what is sent of its macroblock and from the reference ("From levels to samples"). Assumes nothing.
-use mathlib.Core.Bool.{Bool, true, false}
+use mathlib.Core.Bool.{Bool}
 use mathlib.Core.List.{List, _++_}
 use Prim.Native.Nat.{ℕ, _+_, _*_, _/_, _%_}
 use lib.Dec.{eqb}

@@ -1,12 +1,12 @@
 -- What each turn of the rendering loops adds: a block that is sent, a macroblock that is kept. Assumes nothing.
-use mathlib.Core.Path.{_≡_, refl, sym, ap, subst, _∙_}
+use mathlib.Core.Path.{_≡_, sym, ap, subst, _∙_}
 use mathlib.Core.Bool.{Bool, true, false}
 use mathlib.Core.List.{List}
 use Prim.Native.Nat.{ℕ, zero, suc, _+_, _*_, _/_, _%_, _≤_, _<_, zero-le}
 use native.Mathlib.Omega.{arith}
 use borrow.Author.Tests.{le-ltb}
-use lib.IntN.{ℤ, pos, negsuc, natAbs, _+ℤ_, +ℤ-idr}
-use lib.ListN.{length, getD}
+use lib.IntN.{ℤ, pos, natAbs, +ℤ-idr}
+use lib.ListN.{getD}
 use Rattle.laws.specs.Rows.{Put, put-as, Room}
 use Rattle.laws.specs.Block.{Is, cell}
 use Rattle.format.specs.declared.Format.{Format}

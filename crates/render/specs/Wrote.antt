@@ -9,7 +9,7 @@ use lib.ListN.{length, getD}
 use Rattle.laws.specs.Rows.{Put}
 use Rattle.format.specs.declared.Format.{Format}
 use Rattle.format.specs.Format.{storeLength}
-use Rattle.format.specs.Place.{macroblocksAcross, macroblocksDown, blocksAcross, blocksDown, wide, high, base, index, own, blockOf, cellOf}
+use Rattle.format.specs.Place.{macroblocksAcross, macroblocksDown, blocksAcross, blocksDown, wide, base, index, own, blockOf, cellOf}
 use Rattle.format.specs.Order.{rowOf, columnOf, macroblockAt}
 use Rattle.format.specs.Grid.{Same, index-same, number-row, number-column, of-number}
 use Rattle.format.specs.Blocks.{On, own-across, block-six, block-same, Placed, index-cell}

@@ -1,10 +1,10 @@
 -- A block whose levels are all zero adds nothing, by the general rule. Assumes nothing.
 use mathlib.Core.Path.{_≡_, sym, ap, _∙_}
 use mathlib.Core.Bool.{Bool, true, false}
-use mathlib.Core.List.{List, []}
+use mathlib.Core.List.{[]}
 use Prim.Native.Nat.{ℕ, _<_}
-use lib.Dec.{T, ltb, ltb→lt, eqb, eqb→eq}
-use lib.IntN.{ℤ, pos}
+use lib.Dec.{ltb, ltb→lt, eqb, eqb→eq}
+use lib.IntN.{pos}
 use lib.ListN.{getD}
 use Rattle.laws.specs.Choice.{true-T}
 use Rattle.laws.specs.Table.{allB, all-at}

@@ -14,7 +14,7 @@ ghost use Rattle.render.specs.Wrote.{Macroblock};
 use format::Format;
 
 mod block;
-pub mod macroblock;
+mod macroblock;
 mod parts;
 
 // What a macroblock that is sent is predicted from: nothing, the reference, or the reference filtered.

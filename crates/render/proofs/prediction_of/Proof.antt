@@ -1,12 +1,7 @@
-use mathlib.Core.Path.{_≡_, refl, sym, ap, subst, _∙_}
-use Prim.Native.Nat.{ℕ, zero, suc, _+_, _*_, _-_, _/_, _%_, _≤_, _<_}
-use native.Mathlib.Omega.{arith}
 use borrow.Author.Needs.{needs}
 use Rattle.render.specs.Picture.{kind-intra, kind-inter, kind-filtered}
 use Rattle.render.proofs.prediction_of.Statement.{statement}
 use Rattle.render.proofs.prediction_of.Tie as tie
-use Rattle.render.proofs.prediction_of.Reads as reads
-use Rattle.render.proofs.prediction_of.Lts as lts
 
 returns : tie.Need-returns
 returns c = kind-intra (c .before .args .kind) (search needs) (c .if1 .taken)

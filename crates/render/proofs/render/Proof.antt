@@ -1,8 +1,7 @@
-use mathlib.Core.Path.{_≡_, refl, sym, ap, subst, _∙_}
-use Prim.Native.Nat.{ℕ, zero, suc, _+_, _*_, _-_, _/_, _%_, _≤_, _<_}
+use mathlib.Core.Path.{_≡_, refl, sym, _∙_}
+use Prim.Native.Nat.{_-_, _/_, _%_, _≤_}
 use native.Mathlib.Omega.{arith}
 use borrow.Author.Needs.{needs}
-use lib.ListN.{length}
 use Rattle.description.specs.Fields.{flat, quantiserBefore}
 use Rattle.description.specs.ValidAt.{quantiser-kept}
 use Rattle.render.specs.Sample.{valueAt}
@@ -11,10 +10,6 @@ use Rattle.render.specs.Rendered.{drawn-all}
 use Rattle.render.specs.Picture.{not-last}
 use Rattle.render.proofs.render.Statement.{statement}
 use Rattle.render.proofs.render.Tie as tie
-use Rattle.render.proofs.render.Reads as reads
-use Rattle.render.proofs.render.Lts as lts
-use Rattle.format.proofs.order.macroblock_count.Reads as macroblock-count-reads
-use Rattle.render.proofs.turn.Reads as turn-reads
 
 abbrev Inv-loop : tie.InvT-loop
 Inv-loop format head macroblocks levels reference store₀ count quantiser₀ n₀ store quantiser n = (n ≤ count) × ((n % 33 ≡ 0 → ⊥) → quantiser ≡ quantiserBefore (flat head macroblocks levels) (n / 33) (n % 33)) × Drawn format n (valueAt format (flat head macroblocks levels) reference) store
@@ -29,7 +24,7 @@ loop-holds : tie.Need-loop-holds Inv-loop μ-loop
 loop-holds c = (search needs, λ e. absurd (e refl), drawn-none (c .before .before .before .before .before .before .pre .2))
 
 turn-requires : tie.Need-turn-requires Inv-loop μ-loop
-turn-requires c κs = (c .before .before .before .before .before .before .before .before .before .pre .0, c .before .before .before .before .before .before .before .before .before .pre .1, c .before .before .loop .inv .2 .size, omega (arith, c .before .before .before .macroblock-count .ensures), c .before .before .loop .inv .1)
+turn-requires c κs = let s = c .before .before .before .before .before .before .before .before .before in (s .pre .0, s .pre .1, c .before .before .loop .inv .2 .size, omega (arith, c .before .before .before .macroblock-count .ensures), c .before .before .loop .inv .1)
 
 add-n : tie.Need-add-n Inv-loop μ-loop
 add-n c = search needs
@@ -38,13 +33,13 @@ loop-less : tie.Need-loop-less Inv-loop μ-loop
 loop-less c = search needs
 
 loop-again : tie.Need-loop-again Inv-loop μ-loop
-loop-again c = (search needs, λ e. c .before .before .turn .ensures .0 ∙ sym (quantiser-kept (flat (c .before .before .before .before .before .before .before .before .before .before .before .before .args .head .now) (c .before .before .before .before .before .before .before .before .before .before .before .before .args .macroblocks .now) (c .before .before .before .before .before .before .before .before .before .before .before .before .args .levels .now)) (c .before .before .before .before .before .loop .n) (not-last (c .before .before .before .before .before .loop .n) e)), drawn-more (c .before .before .before .before .before .loop .inv .2) (c .before .before .turn .ensures .1))
+loop-again c = let s = c .before .before .before .before .before .before .before .before .before .before .before .before in let l = c .before .before .before .before .before .loop in (search needs, λ e. c .before .before .turn .ensures .0 ∙ sym (quantiser-kept (flat (s .args .head .now) (s .args .macroblocks .now) (s .args .levels .now)) (l .n) (not-last (l .n) e)), drawn-more (l .inv .2) (c .before .before .turn .ensures .1))
 
 same-length : tie.Need-same-length Inv-loop μ-loop
 same-length c = c .before .loop .inv .2 .size ∙ sym (c .before .before .before .before .before .before .before .before .pre .2)
 
 returns : tie.Need-returns Inv-loop μ-loop
-returns c = drawn-all (c .before .before .before .before .before .before .before .before .args .format) (flat (c .before .before .before .before .before .before .before .before .args .head .now) (c .before .before .before .before .before .before .before .before .args .macroblocks .now) (c .before .before .before .before .before .before .before .before .args .levels .now)) (c .before .before .before .before .before .before .before .before .args .reference .now) (c .before .loop .store) (c .before .loop .n) (omega (arith, c .before .before .macroblock-count .ensures)) (c .before .loop .inv .2)
+returns c = let s = c .before .before .before .before .before .before .before .before in let l = c .before .loop in drawn-all (s .args .format) (flat (s .args .head .now) (s .args .macroblocks .now) (s .args .levels .now)) (s .args .reference .now) (l .store) (l .n) (omega (arith, c .before .before .macroblock-count .ensures)) (l .inv .2)
 
 pub render-spec : {M : Type 1} → statement M
 render-spec =

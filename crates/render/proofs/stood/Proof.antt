@@ -1,12 +1,7 @@
-use mathlib.Core.Path.{_≡_, refl, sym, ap, subst, _∙_}
-use Prim.Native.Nat.{ℕ, zero, suc, _+_, _*_, _-_, _/_, _%_, _≤_, _<_}
-use native.Mathlib.Omega.{arith}
 use borrow.Author.Needs.{needs}
 use borrow.Author.Tests.{eq-eqb, ne-eqb}
 use Rattle.render.proofs.stood.Statement.{statement}
 use Rattle.render.proofs.stood.Tie as tie
-use Rattle.render.proofs.stood.Reads as reads
-use Rattle.render.proofs.stood.Lts as lts
 
 add-result : tie.Need-add-result
 add-result c = search needs

@@ -1,22 +1,15 @@
-use mathlib.Core.Path.{_≡_, refl, sym, ap, subst, _∙_}
-use Prim.Native.Nat.{ℕ, zero, suc, _+_, _*_, _-_, _/_, _%_, _≤_, _<_}
-use native.Mathlib.Omega.{arith}
 use borrow.Author.Needs.{needs}
 use Rattle.transform.specs.Level.{bytesFrom}
 use Rattle.render.specs.Zero.{difference-zero, empty-zero}
 use Rattle.render.specs.Bounds.{zeros-are, zeros-small}
 use Rattle.render.proofs.block.difference.Statement.{statement}
 use Rattle.render.proofs.block.difference.Tie as tie
-use Rattle.render.proofs.block.difference.Reads as reads
-use Rattle.render.proofs.block.difference.Lts as lts
-use Rattle.render.proofs.block.output.Reads as output-reads
-use Rattle.render.proofs.parts.empty.Reads as empty-reads
 
 empty-requires : tie.Need-empty-requires
 empty-requires c κs = search needs
 
 returns : tie.Need-returns
-returns c = (zeros-are _ (λ i j. difference-zero (bytesFrom (c .before .before .before .args .levels .now) (c .before .before .before .args .at)) (c .before .before .before .args .quantiser) i j (empty-zero (bytesFrom (c .before .before .before .args .levels .now) (c .before .before .before .args .at)) (c .before .empty .ensures) (c .if1 .taken))), zeros-small)
+returns c = let s = c .before .before .before in (zeros-are _ (λ i j. difference-zero (bytesFrom (s .args .levels .now) (s .args .at)) (s .args .quantiser) i j (empty-zero (bytesFrom (s .args .levels .now) (s .args .at)) (c .before .empty .ensures) (c .if1 .taken))), zeros-small)
 
 output-requires : tie.Need-output-requires
 output-requires c κs = search needs

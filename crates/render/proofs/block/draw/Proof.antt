@@ -1,25 +1,15 @@
-use mathlib.Core.Path.{_≡_, refl, sym, ap, subst, _∙_}
-use Prim.Native.Nat.{ℕ, zero, suc, _+_, _*_, _-_, _/_, _%_, _≤_, _<_}
+use mathlib.Core.Path.{refl}
+use Prim.Native.Nat.{_+_, _*_}
 use native.Mathlib.Omega.{arith}
 use borrow.Author.Needs.{needs}
-use lib.ListN.{getD}
 use Rattle.transform.specs.Level.{bytesFrom}
 use Rattle.render.specs.declared.Prediction.the-variants.{Intra, Inter, Filtered}
-use Rattle.render.specs.Turn.{blockFrom, drawn, copied}
+use Rattle.render.specs.Turn.{drawn, copied}
 use Rattle.render.specs.Zero.{empty-zero}
 use Rattle.transform.specs.Sample.{byte-sample}
 use Rattle.render.specs.Bounds.{samples-of, zeros-are, zeros-samples}
 use Rattle.render.proofs.block.draw.Statement.{statement}
 use Rattle.render.proofs.block.draw.Tie as tie
-use Rattle.render.proofs.block.draw.Reads as reads
-use Rattle.render.proofs.block.draw.Lts as lts
-use Rattle.render.proofs.block.difference.Reads as difference-reads
-use Rattle.render.proofs.block.filtered.Reads as filtered-reads
-use Rattle.render.proofs.block.output.Reads as output-reads
-use Rattle.render.proofs.parts.copy_eight.Reads as copy-eight-reads
-use Rattle.render.proofs.parts.empty.Reads as empty-reads
-use Rattle.render.proofs.parts.fetch.Reads as fetch-reads
-use Rattle.render.proofs.parts.put.Reads as put-reads
 
 enum-told : tie.Need-enum-told
 enum-told c = search needs
@@ -28,7 +18,7 @@ output-requires : tie.Need-output-requires
 output-requires c κs = search needs
 
 put-requires : tie.Need-put-requires
-put-requires c κs = (c .before .before .before .before .before .before .before .before .before .pre .0, c .before .before .before .before .before .before .before .before .before .pre .2, zeros-samples, c .before .before .before .output .ensures .1)
+put-requires c κs = let s = c .before .before .before .before .before .before .before .before .before in (s .pre .0, s .pre .2, zeros-samples, c .before .before .before .output .ensures .1)
 
 enum-told-2 : tie.Need-enum-told-2
 enum-told-2 c = search needs
@@ -46,7 +36,7 @@ output-requires-2 : tie.Need-output-requires-2
 output-requires-2 c κs = search needs
 
 put-requires-2 : tie.Need-put-requires-2
-put-requires-2 c κs = (c .before .before .before .before .before .before .before .before .before .before .before .before .pre .0, c .before .before .before .before .before .before .before .before .before .before .before .before .pre .2, samples-of (c .before .before .before .before .fetch .ensures) (λ i j. byte-sample _ (omega (arith, c .before .before .before .before .before .before .before .before .before .before .before .shared-slice-known .given (c .before .before .before .before .before .before .before .before .before .before .before .before .args .from + i * c .before .before .before .before .before .before .before .before .before .before .before .before .args .stride + j)))), c .before .before .before .output2 .ensures .1)
+put-requires-2 c κs = let s = c .before .before .before .before .before .before .before .before .before .before .before .before in (s .pre .0, s .pre .2, samples-of (c .before .before .before .before .fetch .ensures) (λ i j. byte-sample _ (omega (arith, c .before .before .before .before .before .before .before .before .before .before .before .shared-slice-known .given (s .args .from + i * s .args .stride + j)))), c .before .before .before .output2 .ensures .1)
 
 enum-told-3 : tie.Need-enum-told-3
 enum-told-3 c = search needs
@@ -58,31 +48,31 @@ difference-requires : tie.Need-difference-requires
 difference-requires c κs = search needs
 
 put-requires-3 : tie.Need-put-requires-3
-put-requires-3 c κs = (c .before .before .before .before .before .before .before .before .before .before .pre .0, c .before .before .before .before .before .before .before .before .before .before .pre .2, c .before .before .before .before .filtered .ensures .1, c .before .before .before .difference .ensures .1)
+put-requires-3 c κs = let s = c .before .before .before .before .before .before .before .before .before .before in (s .pre .0, s .pre .2, c .before .before .before .before .filtered .ensures .1, c .before .before .before .difference .ensures .1)
 
 same-length : tie.Need-same-length
 same-length c = search needs
 
 returns : tie.Need-returns
-returns c = drawn Intra (c .before .before .before .before .before .before .before .before .before .before .before .before .args .reference .now) (c .before .before .before .before .before .before .before .before .before .before .before .before .args .from) (bytesFrom (c .before .before .before .before .before .before .before .before .before .before .before .before .args .levels .now) (c .before .before .before .before .before .before .before .before .before .before .before .before .args .at)) (c .before .before .before .before .before .before .before .before .before .before .before .before .args .quantiser) (c .before .before .before .before .before .before .before .enum-told .given .1) (zeros-are _ (λ i j. refl)) (c .before .before .before .before .before .before .output .ensures .0) (c .before .before .put .ensures)
+returns c = let s = c .before .before .before .before .before .before .before .before .before .before .before .before in drawn Intra (s .args .reference .now) (s .args .from) (bytesFrom (s .args .levels .now) (s .args .at)) (s .args .quantiser) (c .before .before .before .before .before .before .before .enum-told .given .1) (zeros-are _ (λ i j. refl)) (c .before .before .before .before .before .before .output .ensures .0) (c .before .before .put .ensures)
 
 same-length-2 : tie.Need-same-length-2
 same-length-2 c = search needs
 
 returns-2 : tie.Need-returns-2
-returns-2 c = copied (c .before .before .before .before .before .before .before .before .before .before .before .args .reference .now) (c .before .before .before .before .before .before .before .before .before .before .before .args .from) (bytesFrom (c .before .before .before .before .before .before .before .before .before .before .before .args .levels .now) (c .before .before .before .before .before .before .before .before .before .before .before .args .at)) (c .before .before .before .before .before .before .before .before .before .before .before .args .quantiser) (c .before .before .before .before .before .before .enum-told2 .given .1) (λ n. omega (arith, c .before .before .before .before .before .before .before .before .before .before .shared-slice-known .given n)) (empty-zero (bytesFrom (c .before .before .before .before .before .before .before .before .before .before .before .args .levels .now) (c .before .before .before .before .before .before .before .before .before .before .before .args .at)) (c .before .before .before .before .before .empty .ensures) (c .before .before .before .before .if1 .taken)) (c .before .before .copy-eight .ensures)
+returns-2 c = let s = c .before .before .before .before .before .before .before .before .before .before .before in copied (s .args .reference .now) (s .args .from) (bytesFrom (s .args .levels .now) (s .args .at)) (s .args .quantiser) (c .before .before .before .before .before .before .enum-told2 .given .1) (λ n. omega (arith, c .before .before .before .before .before .before .before .before .before .before .shared-slice-known .given n)) (empty-zero (bytesFrom (s .args .levels .now) (s .args .at)) (c .before .before .before .before .before .empty .ensures) (c .before .before .before .before .if1 .taken)) (c .before .before .copy-eight .ensures)
 
 same-length-3 : tie.Need-same-length-3
 same-length-3 c = search needs
 
 returns-3 : tie.Need-returns-3
-returns-3 c = drawn Inter (c .before .before .before .before .before .before .before .before .before .before .before .before .before .before .before .args .reference .now) (c .before .before .before .before .before .before .before .before .before .before .before .before .before .before .before .args .from) (bytesFrom (c .before .before .before .before .before .before .before .before .before .before .before .before .before .before .before .args .levels .now) (c .before .before .before .before .before .before .before .before .before .before .before .before .before .before .before .args .at)) (c .before .before .before .before .before .before .before .before .before .before .before .before .before .before .before .args .quantiser) (c .before .before .before .before .before .before .before .before .before .before .enum-told2 .given .1) (c .before .before .before .before .before .before .before .fetch .ensures) (c .before .before .before .before .before .before .output2 .ensures .0) (c .before .before .put2 .ensures)
+returns-3 c = let s = c .before .before .before .before .before .before .before .before .before .before .before .before .before .before .before in drawn Inter (s .args .reference .now) (s .args .from) (bytesFrom (s .args .levels .now) (s .args .at)) (s .args .quantiser) (c .before .before .before .before .before .before .before .before .before .before .enum-told2 .given .1) (c .before .before .before .before .before .before .before .fetch .ensures) (c .before .before .before .before .before .before .output2 .ensures .0) (c .before .before .put2 .ensures)
 
 same-length-4 : tie.Need-same-length-4
 same-length-4 c = search needs
 
 returns-4 : tie.Need-returns-4
-returns-4 c = drawn Filtered (c .before .before .before .before .before .before .before .before .before .before .before .before .before .args .reference .now) (c .before .before .before .before .before .before .before .before .before .before .before .before .before .args .from) (bytesFrom (c .before .before .before .before .before .before .before .before .before .before .before .before .before .args .levels .now) (c .before .before .before .before .before .before .before .before .before .before .before .before .before .args .at)) (c .before .before .before .before .before .before .before .before .before .before .before .before .before .args .quantiser) (c .before .before .before .before .before .before .before .before .enum-told3 .given .1) (c .before .before .before .before .before .before .before .filtered .ensures .0) (c .before .before .before .before .before .before .difference .ensures .0) (c .before .before .put3 .ensures)
+returns-4 c = let s = c .before .before .before .before .before .before .before .before .before .before .before .before .before in drawn Filtered (s .args .reference .now) (s .args .from) (bytesFrom (s .args .levels .now) (s .args .at)) (s .args .quantiser) (c .before .before .before .before .before .before .before .before .enum-told3 .given .1) (c .before .before .before .before .before .before .before .filtered .ensures .0) (c .before .before .before .before .before .before .difference .ensures .0) (c .before .before .put3 .ensures)
 
 pub draw-spec : {M : Type 1} → statement M
 draw-spec =

@@ -1,17 +1,10 @@
-use mathlib.Core.Path.{_≡_, refl, sym, ap, subst, _∙_}
-use Prim.Native.Nat.{ℕ, zero, suc, _+_, _*_, _-_, _/_, _%_, _≤_, _<_}
+use Prim.Native.Nat.{_+_, _-_}
 use native.Mathlib.Omega.{arith}
 use borrow.Author.Needs.{needs}
-use Rattle.render.specs.Component.{ahead-low, ahead-high, back-low, back-high, halved-whole, halved-half, halved-none, ahead-most}
-use Rattle.description.specs.Moved.{halved, moved}
-use Rattle.description.specs.Vector.{ahead, back}
-use Rattle.description.specs.Flat.{numberOf}
+use Rattle.render.specs.Component.{ahead-most}
+use Rattle.description.specs.Moved.{moved}
 use Rattle.render.proofs.block.moved.Statement.{statement}
 use Rattle.render.proofs.block.moved.Tie as tie
-use Rattle.render.proofs.block.moved.Reads as reads
-use Rattle.render.proofs.block.moved.Lts as lts
-use Rattle.render.proofs.block.behind.Reads as behind-reads
-use Rattle.render.proofs.block.forth.Reads as forth-reads
 
 forth-requires : tie.Need-forth-requires
 forth-requires c κs = search needs

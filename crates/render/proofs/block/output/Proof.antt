@@ -1,20 +1,17 @@
-use mathlib.Core.Path.{_≡_, refl, sym, ap, subst, _∙_}
-use Prim.Native.Nat.{ℕ, zero, suc, _+_, _*_, _-_, _/_, _%_, _≤_, _<_}
+use mathlib.Core.Path.{subst}
+use Prim.Native.Nat.{_+_}
 use native.Mathlib.Omega.{arith}
 use borrow.Author.Needs.{needs}
 use mathlib.Core.List.{List}
 use lib.IntN.{ℤ, pos}
 use Rattle.laws.specs.Block.{Is}
-use Rattle.laws.specs.Tabulate.{made, is-made}
+use Rattle.laws.specs.Tabulate.{is-made}
 use Rattle.transform.specs.Level.{dequantised-small}
 use Rattle.transform.specs.Inverse.{inverseAt}
 use Rattle.render.specs.Sample.{differenceOf}
 use Rattle.transform.specs.Inverse.{inverse-small}
 use Rattle.render.proofs.block.output.Statement.{statement}
 use Rattle.render.proofs.block.output.Tie as tie
-use Rattle.render.proofs.block.output.Reads as reads
-use Rattle.render.proofs.block.output.Lts as lts
-use Rattle.transform.proofs.dequantise.dequantise.Reads as dequantise-reads
 
 dequantise-requires : tie.Need-dequantise-requires
 dequantise-requires c κs = search needs

@@ -1,13 +1,10 @@
-use mathlib.Core.Path.{_≡_, refl, sym, ap, subst, _∙_}
-use Prim.Native.Nat.{ℕ, zero, suc, _+_, _*_, _-_, _/_, _%_, _≤_, _<_}
-use native.Mathlib.Omega.{arith}
+use mathlib.Core.Path.{sym, ap}
+use Prim.Native.Nat.{ℕ}
 use borrow.Author.Needs.{needs}
 use Rattle.format.specs.Place.{gridOf}
 use Rattle.format.specs.Grid.{other-plane}
 use Rattle.render.proofs.macroblock.grid.Statement.{statement}
 use Rattle.render.proofs.macroblock.grid.Tie as tie
-use Rattle.render.proofs.macroblock.grid.Reads as reads
-use Rattle.render.proofs.macroblock.grid.Lts as lts
 
 mul-result : tie.Need-mul-result
 mul-result c = search needs

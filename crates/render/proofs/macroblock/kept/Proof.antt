@@ -1,30 +1,22 @@
-use mathlib.Core.Path.{_≡_, refl, sym, ap, subst, _∙_}
-use Prim.Native.Nat.{ℕ, zero, suc, _+_, _*_, _-_, _/_, _%_, _≤_, _<_}
+use mathlib.Core.Path.{_≡_, refl, _∙_}
+use Prim.Native.Nat.{ℕ, _+_, _*_}
 use native.Mathlib.Omega.{arith}
 use borrow.Author.Needs.{needs}
-use lib.ListN.{getD, length}
 use Rattle.laws.specs.Rows.{Room}
 use Rattle.format.specs.Format.{storeLength}
 use Rattle.format.specs.Blocks.{placed}
-use Rattle.render.specs.Wrote.{part-end}
 use Rattle.render.specs.Turn.{plane, room-to, room-four, kept-four, kept-more, size-small, wide-least, wide-luminance}
 use Rattle.render.proofs.macroblock.kept.Statement.{statement}
 use Rattle.render.proofs.macroblock.kept.Tie as tie
-use Rattle.render.proofs.macroblock.kept.Reads as reads
-use Rattle.render.proofs.macroblock.kept.Lts as lts
-use Rattle.format.proofs.place.start.Reads as start-reads
-use Rattle.format.proofs.place.stride.Reads as stride-reads
-use Rattle.render.proofs.parts.copy_eight.Reads as copy-eight-reads
-use Rattle.render.proofs.parts.copy_sixteen.Reads as copy-sixteen-reads
 
 four-room : (c : tie.After-start) {n : ℕ} → n ≡ storeLength (c .before .before .before .before .args .format) → Room 16 16 (c .start .result + c .before .before .before .before .args .row * 16 * c .before .stride .result + c .before .before .before .before .args .column * 16) (c .before .stride .result) n
-four-room c e = room-four (plane (c .before .before .before .before .args .format) 0 (c .start .ensures) (c .before .stride .ensures)) (c .before .before .before .before .args .row) (c .before .before .before .before .args .column) (c .before .before .before .before .pre .2) (c .before .before .before .before .pre .3) e
+four-room c e = let s = c .before .before .before .before in room-four (plane (s .args .format) 0 (c .start .ensures) (c .before .stride .ensures)) (s .args .row) (s .args .column) (s .pre .2) (s .pre .3) e
 
 cb-room : (c : tie.After-start2) {n : ℕ} → n ≡ storeLength (c .before .before .before .before .before .before .before .before .before .before .args .format) → Room 8 8 (c .start2 .result + c .before .before .before .before .before .before .before .before .before .before .args .row * 8 * c .before .stride2 .result + c .before .before .before .before .before .before .before .before .before .before .args .column * 8) (c .before .stride2 .result) n
-cb-room c e = room-to (plane (c .before .before .before .before .before .before .before .before .before .before .args .format) 1 (c .start2 .ensures) (c .before .stride2 .ensures)) ((placed (c .before .before .before .before .before .before .before .before .before .before .args .format) (c .before .before .before .before .before .before .before .before .before .before .args .row) (c .before .before .before .before .before .before .before .before .before .before .args .column) 4 1 (c .before .before .before .before .before .before .before .before .before .before .args .row) (c .before .before .before .before .before .before .before .before .before .before .args .column) (c .before .before .before .before .before .before .before .before .before .before .pre .2) (c .before .before .before .before .before .before .before .before .before .before .pre .3) (omega arith) refl refl refl) .on) e
+cb-room c e = let s = c .before .before .before .before .before .before .before .before .before .before in room-to (plane (s .args .format) 1 (c .start2 .ensures) (c .before .stride2 .ensures)) ((placed (s .args .format) (s .args .row) (s .args .column) 4 1 (s .args .row) (s .args .column) (s .pre .2) (s .pre .3) (omega arith) refl refl refl) .on) e
 
 cr-room : (c : tie.After-start3) {n : ℕ} → n ≡ storeLength (c .before .before .before .before .before .before .before .before .before .before .before .before .before .before .before .args .format) → Room 8 8 (c .start3 .result + c .before .before .before .before .before .before .before .before .before .before .before .before .before .before .before .args .row * 8 * c .before .before .before .before .before .before .stride2 .result + c .before .before .before .before .before .before .before .before .before .before .before .before .before .before .before .args .column * 8) (c .before .before .before .before .before .before .stride2 .result) n
-cr-room c e = room-to (plane (c .before .before .before .before .before .before .before .before .before .before .before .before .before .before .before .args .format) 2 (c .start3 .ensures) (c .before .before .before .before .before .before .stride2 .ensures)) ((placed (c .before .before .before .before .before .before .before .before .before .before .before .before .before .before .before .args .format) (c .before .before .before .before .before .before .before .before .before .before .before .before .before .before .before .args .row) (c .before .before .before .before .before .before .before .before .before .before .before .before .before .before .before .args .column) 5 2 (c .before .before .before .before .before .before .before .before .before .before .before .before .before .before .before .args .row) (c .before .before .before .before .before .before .before .before .before .before .before .before .before .before .before .args .column) (c .before .before .before .before .before .before .before .before .before .before .before .before .before .before .before .pre .2) (c .before .before .before .before .before .before .before .before .before .before .before .before .before .before .before .pre .3) (omega arith) refl refl refl) .on) e
+cr-room c e = let s = c .before .before .before .before .before .before .before .before .before .before .before .before .before .before .before in room-to (plane (s .args .format) 2 (c .start3 .ensures) (c .before .before .before .before .before .before .stride2 .ensures)) ((placed (s .args .format) (s .args .row) (s .args .column) 5 2 (s .args .row) (s .args .column) (s .pre .2) (s .pre .3) (omega arith) refl refl refl) .on) e
 
 stride-requires : tie.Need-stride-requires
 stride-requires c κs = search needs
@@ -33,7 +25,7 @@ start-requires : tie.Need-start-requires
 start-requires c κs = search needs
 
 mul-at : tie.Need-mul-at
-mul-at c = omega (arith, c .before .before .before .before .pre .2, c .before .before .before .before .pre .3, size-small (c .before .before .before .before .args .format))
+mul-at c = let s = c .before .before .before .before in omega (arith, s .pre .2, s .pre .3, size-small (s .args .format))
 
 mul-at-2 : tie.Need-mul-at-2
 mul-at-2 c = omega (arith, four-room c (c .before .before .before .before .pre .0) 0 (omega arith))
@@ -42,13 +34,13 @@ add-at : tie.Need-add-at
 add-at c = omega (arith, four-room c (c .before .before .before .before .pre .0) 0 (omega arith))
 
 mul-at-3 : tie.Need-mul-at-3
-mul-at-3 c = omega (arith, c .before .before .before .before .pre .2, c .before .before .before .before .pre .3, size-small (c .before .before .before .before .args .format))
+mul-at-3 c = let s = c .before .before .before .before in omega (arith, s .pre .2, s .pre .3, size-small (s .args .format))
 
 add-at-2 : tie.Need-add-at-2
 add-at-2 c = omega (arith, four-room c (c .before .before .before .before .pre .0) 0 (omega arith))
 
 copy-sixteen-requires : tie.Need-copy-sixteen-requires
-copy-sixteen-requires c κs = (omega (arith, c .before .before .stride .ensures, wide-luminance (c .before .before .before .before .before .args .format)), four-room (c .before) (c .before .before .before .before .before .pre .0), four-room (c .before) (c .before .before .before .before .before .pre .1))
+copy-sixteen-requires c κs = let s = c .before .before .before .before .before in (omega (arith, c .before .before .stride .ensures, wide-luminance (s .args .format)), four-room (c .before) (s .pre .0), four-room (c .before) (s .pre .1))
 
 stride-requires-2 : tie.Need-stride-requires-2
 stride-requires-2 c κs = search needs
@@ -57,7 +49,7 @@ start-requires-2 : tie.Need-start-requires-2
 start-requires-2 c κs = search needs
 
 mul-cb : tie.Need-mul-cb
-mul-cb c = omega (arith, c .before .before .before .before .before .before .before .before .before .before .pre .2, c .before .before .before .before .before .before .before .before .before .before .pre .3, size-small (c .before .before .before .before .before .before .before .before .before .before .args .format))
+mul-cb c = let s = c .before .before .before .before .before .before .before .before .before .before in omega (arith, s .pre .2, s .pre .3, size-small (s .args .format))
 
 mul-cb-2 : tie.Need-mul-cb-2
 mul-cb-2 c = omega (arith, cb-room c (c .before .before .before .before .before .before .before .before .before .before .pre .0) 0 (omega arith))
@@ -66,19 +58,19 @@ add-cb : tie.Need-add-cb
 add-cb c = omega (arith, cb-room c (c .before .before .before .before .before .before .before .before .before .before .pre .0) 0 (omega arith))
 
 mul-cb-3 : tie.Need-mul-cb-3
-mul-cb-3 c = omega (arith, c .before .before .before .before .before .before .before .before .before .before .pre .2, c .before .before .before .before .before .before .before .before .before .before .pre .3, size-small (c .before .before .before .before .before .before .before .before .before .before .args .format))
+mul-cb-3 c = let s = c .before .before .before .before .before .before .before .before .before .before in omega (arith, s .pre .2, s .pre .3, size-small (s .args .format))
 
 add-cb-2 : tie.Need-add-cb-2
 add-cb-2 c = omega (arith, cb-room c (c .before .before .before .before .before .before .before .before .before .before .pre .0) 0 (omega arith))
 
 copy-eight-requires : tie.Need-copy-eight-requires
-copy-eight-requires c κs = (omega (arith, c .before .before .stride2 .ensures, wide-least (c .before .before .before .before .before .before .before .before .before .before .before .args .format) 1), cb-room (c .before) (c .before .before .before .before .before .before .before .before .before .before .before .pre .0), cb-room (c .before) (c .before .before .before .before .before .copy-sixteen .ensures .size ∙ c .before .before .before .before .before .before .before .before .before .before .before .pre .1))
+copy-eight-requires c κs = let s = c .before .before .before .before .before .before .before .before .before .before .before in (omega (arith, c .before .before .stride2 .ensures, wide-least (s .args .format) 1), cb-room (c .before) (s .pre .0), cb-room (c .before) (c .before .before .before .before .before .copy-sixteen .ensures .size ∙ s .pre .1))
 
 start-requires-3 : tie.Need-start-requires-3
 start-requires-3 c κs = search needs
 
 mul-cr : tie.Need-mul-cr
-mul-cr c = omega (arith, c .before .before .before .before .before .before .before .before .before .before .before .before .before .before .before .pre .2, c .before .before .before .before .before .before .before .before .before .before .before .before .before .before .before .pre .3, size-small (c .before .before .before .before .before .before .before .before .before .before .before .before .before .before .before .args .format))
+mul-cr c = let s = c .before .before .before .before .before .before .before .before .before .before .before .before .before .before .before in omega (arith, s .pre .2, s .pre .3, size-small (s .args .format))
 
 mul-cr-2 : tie.Need-mul-cr-2
 mul-cr-2 c = omega (arith, cr-room c (c .before .before .before .before .before .before .before .before .before .before .before .before .before .before .before .pre .0) 0 (omega arith))
@@ -87,19 +79,19 @@ add-cr : tie.Need-add-cr
 add-cr c = omega (arith, cr-room c (c .before .before .before .before .before .before .before .before .before .before .before .before .before .before .before .pre .0) 0 (omega arith))
 
 mul-cr-3 : tie.Need-mul-cr-3
-mul-cr-3 c = omega (arith, c .before .before .before .before .before .before .before .before .before .before .before .before .before .before .before .pre .2, c .before .before .before .before .before .before .before .before .before .before .before .before .before .before .before .pre .3, size-small (c .before .before .before .before .before .before .before .before .before .before .before .before .before .before .before .args .format))
+mul-cr-3 c = let s = c .before .before .before .before .before .before .before .before .before .before .before .before .before .before .before in omega (arith, s .pre .2, s .pre .3, size-small (s .args .format))
 
 add-cr-2 : tie.Need-add-cr-2
 add-cr-2 c = omega (arith, cr-room c (c .before .before .before .before .before .before .before .before .before .before .before .before .before .before .before .pre .0) 0 (omega arith))
 
 copy-eight-requires-2 : tie.Need-copy-eight-requires-2
-copy-eight-requires-2 c κs = (omega (arith, c .before .before .before .before .before .before .before .stride2 .ensures, wide-least (c .before .before .before .before .before .before .before .before .before .before .before .before .before .before .before .before .args .format) 1), cr-room (c .before) (c .before .before .before .before .before .before .before .before .before .before .before .before .before .before .before .before .pre .0), cr-room (c .before) (c .before .before .before .before .copy-eight .ensures .size ∙ c .before .before .before .before .before .before .before .before .before .before .copy-sixteen .ensures .size ∙ c .before .before .before .before .before .before .before .before .before .before .before .before .before .before .before .before .pre .1))
+copy-eight-requires-2 c κs = let s = c .before .before .before .before .before .before .before .before .before .before .before .before .before .before .before .before in (omega (arith, c .before .before .before .before .before .before .before .stride2 .ensures, wide-least (s .args .format) 1), cr-room (c .before) (s .pre .0), cr-room (c .before) (c .before .before .before .before .copy-eight .ensures .size ∙ c .before .before .before .before .before .before .before .before .before .before .copy-sixteen .ensures .size ∙ s .pre .1))
 
 same-length : tie.Need-same-length
 same-length c = search needs
 
 returns : tie.Need-returns
-returns c = kept-more (c .before .before .before .before .before .before .before .before .before .before .before .before .before .before .before .before .before .before .before .args .reference .now) (plane (c .before .before .before .before .before .before .before .before .before .before .before .before .before .before .before .before .before .before .before .args .format) 2 (c .before .before .before .before .start3 .ensures) (c .before .before .before .before .before .before .before .before .before .before .stride2 .ensures)) (placed (c .before .before .before .before .before .before .before .before .before .before .before .before .before .before .before .before .before .before .before .args .format) (c .before .before .before .before .before .before .before .before .before .before .before .before .before .before .before .before .before .before .before .args .row) (c .before .before .before .before .before .before .before .before .before .before .before .before .before .before .before .before .before .before .before .args .column) 5 2 (c .before .before .before .before .before .before .before .before .before .before .before .before .before .before .before .before .before .before .before .args .row) (c .before .before .before .before .before .before .before .before .before .before .before .before .before .before .before .before .before .before .before .args .column) (c .before .before .before .before .before .before .before .before .before .before .before .before .before .before .before .before .before .before .before .pre .2) (c .before .before .before .before .before .before .before .before .before .before .before .before .before .before .before .before .before .before .before .pre .3) (omega arith) refl refl refl) (kept-more (c .before .before .before .before .before .before .before .before .before .before .before .before .before .before .before .before .before .before .before .args .reference .now) (plane (c .before .before .before .before .before .before .before .before .before .before .before .before .before .before .before .before .before .before .before .args .format) 1 (c .before .before .before .before .before .before .before .before .before .start2 .ensures) (c .before .before .before .before .before .before .before .before .before .before .stride2 .ensures)) (placed (c .before .before .before .before .before .before .before .before .before .before .before .before .before .before .before .before .before .before .before .args .format) (c .before .before .before .before .before .before .before .before .before .before .before .before .before .before .before .before .before .before .before .args .row) (c .before .before .before .before .before .before .before .before .before .before .before .before .before .before .before .before .before .before .before .args .column) 4 1 (c .before .before .before .before .before .before .before .before .before .before .before .before .before .before .before .before .before .before .before .args .row) (c .before .before .before .before .before .before .before .before .before .before .before .before .before .before .before .before .before .before .before .args .column) (c .before .before .before .before .before .before .before .before .before .before .before .before .before .before .before .before .before .before .before .pre .2) (c .before .before .before .before .before .before .before .before .before .before .before .before .before .before .before .before .before .before .before .pre .3) (omega arith) refl refl refl) (kept-four (c .before .before .before .before .before .before .before .before .before .before .before .before .before .before .before .before .before .before .before .args .reference .now) (c .before .before .before .before .before .before .before .before .before .before .before .before .before .before .before .before .before .before .before .args .row) (c .before .before .before .before .before .before .before .before .before .before .before .before .before .before .before .before .before .before .before .args .column) (plane (c .before .before .before .before .before .before .before .before .before .before .before .before .before .before .before .before .before .before .before .args .format) 0 (c .before .before .before .before .before .before .before .before .before .before .before .before .before .before .before .start .ensures) (c .before .before .before .before .before .before .before .before .before .before .before .before .before .before .before .before .stride .ensures)) (c .before .before .before .before .before .before .before .before .before .before .before .before .before .before .before .before .before .before .before .pre .2) (c .before .before .before .before .before .before .before .before .before .before .before .before .before .before .before .before .before .before .before .pre .3) (c .before .before .before .before .before .before .before .before .before .before .before .before .before .copy-sixteen .ensures)) (c .before .before .before .before .before .before .before .copy-eight .ensures)) (c .before .before .copy-eight2 .ensures)
+returns c = let s = c .before .before .before .before .before .before .before .before .before .before .before .before .before .before .before .before .before .before .before in kept-more (s .args .reference .now) (plane (s .args .format) 2 (c .before .before .before .before .start3 .ensures) (c .before .before .before .before .before .before .before .before .before .before .stride2 .ensures)) (placed (s .args .format) (s .args .row) (s .args .column) 5 2 (s .args .row) (s .args .column) (s .pre .2) (s .pre .3) (omega arith) refl refl refl) (kept-more (s .args .reference .now) (plane (s .args .format) 1 (c .before .before .before .before .before .before .before .before .before .start2 .ensures) (c .before .before .before .before .before .before .before .before .before .before .stride2 .ensures)) (placed (s .args .format) (s .args .row) (s .args .column) 4 1 (s .args .row) (s .args .column) (s .pre .2) (s .pre .3) (omega arith) refl refl refl) (kept-four (s .args .reference .now) (s .args .row) (s .args .column) (plane (s .args .format) 0 (c .before .before .before .before .before .before .before .before .before .before .before .before .before .before .before .start .ensures) (c .before .before .before .before .before .before .before .before .before .before .before .before .before .before .before .before .stride .ensures)) (s .pre .2) (s .pre .3) (c .before .before .before .before .before .before .before .before .before .before .before .before .before .copy-sixteen .ensures)) (c .before .before .before .before .before .before .before .copy-eight .ensures)) (c .before .before .copy-eight2 .ensures)
 
 pub kept-spec : {M : Type 1} → statement M
 kept-spec =

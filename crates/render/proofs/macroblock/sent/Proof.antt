@@ -1,8 +1,7 @@
-use mathlib.Core.Path.{_≡_, refl, sym, ap, subst, _∙_}
-use Prim.Native.Nat.{ℕ, zero, suc, _+_, _*_, _-_, _/_, _%_, _≤_, _<_}
+use mathlib.Core.Path.{_∙_}
+use Prim.Native.Nat.{_+_, _*_, _-_, _≤_}
 use native.Mathlib.Omega.{arith}
 use borrow.Author.Needs.{needs}
-use lib.ListN.{getD, length}
 use Rattle.format.specs.Blocks.{Placed, placed}
 use Rattle.description.specs.Moved.{aims}
 use Rattle.transform.specs.Level.{bytesFrom}
@@ -11,11 +10,6 @@ use Rattle.render.specs.Wrote.{Part, part-none, part-end}
 use Rattle.render.specs.Turn.{intraOf, vectorFrom, sentOf, sent-more, size-small}
 use Rattle.render.proofs.macroblock.sent.Statement.{statement}
 use Rattle.render.proofs.macroblock.sent.Tie as tie
-use Rattle.render.proofs.macroblock.sent.Reads as reads
-use Rattle.render.proofs.macroblock.sent.Lts as lts
-use Rattle.render.proofs.block.block.Reads as block-reads
-use Rattle.render.proofs.macroblock.grid.Reads as grid-reads
-use Rattle.render.proofs.macroblock.plane_of.Reads as plane-of-reads
 
 abbrev Inv-loop : tie.InvT-loop
 Inv-loop format reference store₀ row column prediction horizontal vertical quantiser levels at b₀ store b = (b ≤ 6) × Part format row column b (sentOf format reference prediction (vectorFrom horizontal vertical) (λ b. differenceOf (bytesFrom levels (at + b * 64)) (intraOf prediction) quantiser)) store₀ store
@@ -30,10 +24,10 @@ plane-of-requires : tie.Need-plane-of-requires Inv-loop μ-loop
 plane-of-requires c κs = search needs
 
 grid-requires : tie.Need-grid-requires Inv-loop μ-loop
-grid-requires c κs = omega (arith, c .before .before .before .before .before .before .pre .2, size-small (c .before .before .before .before .before .before .args .format))
+grid-requires c κs = let s = c .before .before .before .before .before .before in omega (arith, s .pre .2, size-small (s .args .format))
 
 grid-requires-2 : tie.Need-grid-requires-2 Inv-loop μ-loop
-grid-requires-2 c κs = omega (arith, c .before .before .before .before .before .before .before .pre .3, size-small (c .before .before .before .before .before .before .before .args .format))
+grid-requires-2 c κs = let s = c .before .before .before .before .before .before .before in omega (arith, s .pre .3, size-small (s .args .format))
 
 mul-block : tie.Need-mul-block Inv-loop μ-loop
 mul-block c = search needs
@@ -42,10 +36,10 @@ add-block : tie.Need-add-block Inv-loop μ-loop
 add-block c = search needs
 
 place : (c : tie.After-block-arg Inv-loop μ-loop) → Placed (c .before .before .before .before .before .before .before .before .before .args .format) (c .before .before .before .before .before .before .before .before .before .args .row) (c .before .before .before .before .before .before .before .before .before .args .column) (c .before .before .before .before .before .loop .b) (c .before .before .before .plane-of .result) (c .before .before .grid .result) (c .before .grid2 .result)
-place c = placed (c .before .before .before .before .before .before .before .before .before .args .format) (c .before .before .before .before .before .before .before .before .before .args .row) (c .before .before .before .before .before .before .before .before .before .args .column) (c .before .before .before .before .before .loop .b) (c .before .before .before .plane-of .result) (c .before .before .grid .result) (c .before .grid2 .result) (c .before .before .before .before .before .before .before .before .before .pre .2) (c .before .before .before .before .before .before .before .before .before .pre .3) (search needs) (c .before .before .before .plane-of .ensures) (c .before .before .grid .ensures) (c .before .grid2 .ensures)
+place c = let s = c .before .before .before .before .before .before .before .before .before in placed (s .args .format) (s .args .row) (s .args .column) (c .before .before .before .before .before .loop .b) (c .before .before .before .plane-of .result) (c .before .before .grid .result) (c .before .grid2 .result) (s .pre .2) (s .pre .3) (search needs) (c .before .before .before .plane-of .ensures) (c .before .before .grid .ensures) (c .before .grid2 .ensures)
 
 block-requires : tie.Need-block-requires Inv-loop μ-loop
-block-requires c κs = (c .before .before .before .before .before .before .before .before .before .pre .0, c .before .before .before .before .before .loop .inv .1 .size ∙ c .before .before .before .before .before .before .before .before .before .pre .1, place c .on, aims (place c .row) (place c .column) (c .before .before .before .before .before .before .before .before .before .pre .4), search needs, c .before .before .before .before .before .before .before .before .before .pre .6, c .before .before .before .before .before .before .before .before .before .pre .7)
+block-requires c κs = let s = c .before .before .before .before .before .before .before .before .before in (s .pre .0, c .before .before .before .before .before .loop .inv .1 .size ∙ s .pre .1, place c .on, aims (place c .row) (place c .column) (s .pre .4), search needs, s .pre .6, s .pre .7)
 
 add-b : tie.Need-add-b Inv-loop μ-loop
 add-b c = search needs
@@ -54,7 +48,7 @@ loop-less : tie.Need-loop-less Inv-loop μ-loop
 loop-less c = search needs
 
 loop-again : tie.Need-loop-again Inv-loop μ-loop
-loop-again c = (search needs, sent-more (c .before .before .before .before .before .before .before .before .before .before .before .before .args .reference .now) (c .before .before .before .before .before .before .before .before .before .before .before .before .args .prediction) (vectorFrom (c .before .before .before .before .before .before .before .before .before .before .before .before .args .horizontal) (c .before .before .before .before .before .before .before .before .before .before .before .before .args .vertical)) (λ b. differenceOf (bytesFrom (c .before .before .before .before .before .before .before .before .before .before .before .before .args .levels .now) (c .before .before .before .before .before .before .before .before .before .before .before .before .args .at + b * 64)) (intraOf (c .before .before .before .before .before .before .before .before .before .before .before .before .args .prediction)) (c .before .before .before .before .before .before .before .before .before .before .before .before .args .quantiser)) (placed (c .before .before .before .before .before .before .before .before .before .before .before .before .args .format) (c .before .before .before .before .before .before .before .before .before .before .before .before .args .row) (c .before .before .before .before .before .before .before .before .before .before .before .before .args .column) (c .before .before .before .before .before .before .before .before .loop .b) (c .before .before .before .before .before .before .plane-of .result) (c .before .before .before .before .before .grid .result) (c .before .before .before .before .grid2 .result) (c .before .before .before .before .before .before .before .before .before .before .before .before .pre .2) (c .before .before .before .before .before .before .before .before .before .before .before .before .pre .3) (search needs) (c .before .before .before .before .before .before .plane-of .ensures) (c .before .before .before .before .before .grid .ensures) (c .before .before .before .before .grid2 .ensures)) (c .before .before .before .before .before .before .before .before .loop .inv .1) (c .before .before .block .ensures))
+loop-again c = let s = c .before .before .before .before .before .before .before .before .before .before .before .before in (search needs, sent-more (s .args .reference .now) (s .args .prediction) (vectorFrom (s .args .horizontal) (s .args .vertical)) (λ b. differenceOf (bytesFrom (s .args .levels .now) (s .args .at + b * 64)) (intraOf (s .args .prediction)) (s .args .quantiser)) (placed (s .args .format) (s .args .row) (s .args .column) (c .before .before .before .before .before .before .before .before .loop .b) (c .before .before .before .before .before .before .plane-of .result) (c .before .before .before .before .before .grid .result) (c .before .before .before .before .grid2 .result) (s .pre .2) (s .pre .3) (search needs) (c .before .before .before .before .before .before .plane-of .ensures) (c .before .before .before .before .before .grid .ensures) (c .before .before .before .before .grid2 .ensures)) (c .before .before .before .before .before .before .before .before .loop .inv .1) (c .before .before .block .ensures))
 
 same-length : tie.Need-same-length Inv-loop μ-loop
 same-length c = c .before .loop .inv .1 .size

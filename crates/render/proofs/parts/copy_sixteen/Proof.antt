@@ -1,16 +1,10 @@
-use mathlib.Core.Path.{_≡_, refl, sym, ap, subst, _∙_}
-use Prim.Native.Nat.{ℕ, zero, suc, _+_, _*_, _-_, _/_, _%_, _≤_, _<_}
+use Prim.Native.Nat.{_-_, _≤_}
 use native.Mathlib.Omega.{arith}
 use borrow.Author.Needs.{needs}
-use lib.ListN.{getD, length}
 use Rattle.laws.specs.Rows.{Put, put-none, put-more, put-end, row-as}
 use Rattle.render.specs.Turn.{rowsOf}
 use Rattle.render.proofs.parts.copy_sixteen.Statement.{statement}
 use Rattle.render.proofs.parts.copy_sixteen.Tie as tie
-use Rattle.render.proofs.parts.copy_sixteen.Reads as reads
-use Rattle.render.proofs.parts.copy_sixteen.Lts as lts
-use Rattle.render.proofs.parts.put_sixteen.Reads as put-sixteen-reads
-use Rattle.render.proofs.parts.sixteen.Reads as sixteen-reads
 
 abbrev Inv-loop : tie.InvT-loop
 Inv-loop reference from store₀ to stride i₀ store i = (i ≤ 16) × Put i 16 to stride (rowsOf reference from stride) store₀ store

@@ -1,13 +1,10 @@
-use mathlib.Core.Path.{_≡_, refl, sym, ap, subst, _∙_}
-use Prim.Native.Nat.{ℕ, zero, suc, _+_, _*_, _-_, _/_, _%_, _≤_, _<_}
-use native.Mathlib.Omega.{arith}
+use mathlib.Core.Path.{refl}
+use Prim.Native.Nat.{_+_, _-_, _≤_}
 use borrow.Author.Needs.{needs}
 use lib.ListN.{getD}
 use Rattle.laws.specs.Rows.{Begins, begins-none, begins-more, begins-end}
 use Rattle.render.proofs.parts.eight.Statement.{statement}
 use Rattle.render.proofs.parts.eight.Tie as tie
-use Rattle.render.proofs.parts.eight.Reads as reads
-use Rattle.render.proofs.parts.eight.Lts as lts
 
 abbrev Inv-loop : tie.InvT-loop
 Inv-loop samples from row₀ j₀ row j = (j ≤ 8) × Begins 8 j (λ k. getD samples (from + k) 0) row

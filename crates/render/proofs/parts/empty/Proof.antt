@@ -1,8 +1,8 @@
-use mathlib.Core.Path.{_≡_, refl, sym, ap, subst, _∙_}
-use Prim.Native.Nat.{ℕ, zero, suc, _+_, _*_, _-_, _/_, _%_, _≤_, _<_}
+use mathlib.Core.Path.{_≡_, refl, sym, ap, _∙_}
+use Prim.Native.Nat.{ℕ, _+_, _*_, _-_, _≤_}
 use native.Mathlib.Omega.{arith}
 use borrow.Author.Needs.{needs}
-use mathlib.Core.Bool.{Bool, true, false}
+use mathlib.Core.Bool.{Bool}
 use native.Mathlib.Decide.{ℕ-discrete}
 use native.Mathlib.Numerals.{add-one}
 use borrow.Author.Tests.{eq-eqb, ne-eqb}
@@ -13,8 +13,6 @@ use Rattle.laws.specs.Table.{allB}
 use Rattle.transform.specs.Level.{bytesFrom}
 use Rattle.render.proofs.parts.empty.Statement.{statement}
 use Rattle.render.proofs.parts.empty.Tie as tie
-use Rattle.render.proofs.parts.empty.Reads as reads
-use Rattle.render.proofs.parts.empty.Lts as lts
 
 sum-zero : (s b : ℕ) → eqb (s + b) 0 ≡ both (eqb b 0) (eqb s 0)
 sum-zero s b = go (ℕ-discrete b 0) (ℕ-discrete s 0)
@@ -61,10 +59,10 @@ loop-less : tie.Need-loop-less Inv-loop μ-loop
 loop-less c = search needs
 
 loop-again : tie.Need-loop-again Inv-loop μ-loop
-loop-again c = (search needs, omega (arith, c .shared-slice-known .given (c .before .before .before .args .at + c .before .before .loop .k)), more (c .before .before .loop .sum) (getD (c .before .before .before .args .levels .now) (c .before .before .before .args .at + c .before .before .loop .k) 0) (c .before .before .loop .k) (λ j. eqb (bytesFrom (c .before .before .before .args .levels .now) (c .before .before .before .args .at) j) 0) (c .before .before .loop .inv .2) refl)
+loop-again c = let s = c .before .before .before in let l = c .before .before .loop in (search needs, omega (arith, c .shared-slice-known .given (s .args .at + l .k)), more (l .sum) (getD (s .args .levels .now) (s .args .at + l .k) 0) (l .k) (λ j. eqb (bytesFrom (s .args .levels .now) (s .args .at) j) 0) (l .inv .2) refl)
 
 returns : tie.Need-returns Inv-loop μ-loop
-returns c = whole (c .before .loop .sum) (c .before .loop .k) _ (c .before .loop .inv .2) (search needs) (search needs)
+returns c = let l = c .before .loop in whole (l .sum) (l .k) _ (l .inv .2) (search needs) (search needs)
 
 pub empty-spec : {M : Type 1} → statement M
 empty-spec =

@@ -1,19 +1,15 @@
-use mathlib.Core.Path.{_≡_, refl, sym, ap, subst, _∙_}
-use Prim.Native.Nat.{ℕ, zero, suc, _+_, _*_, _-_, _/_, _%_, _≤_, _<_}
+use Prim.Native.Nat.{ℕ, _+_, _*_, _-_, _≤_}
 use native.Mathlib.Omega.{arith}
 use borrow.Author.Needs.{needs}
-use lib.IntN.{ℤ, pos}
-use lib.ListN.{getD}
+use lib.IntN.{pos}
 use mir.Syntax.{w32}
 use mir.Val.{SFits}
 use mir.Facts.{toZ-pos}
-use Rattle.laws.specs.Integer.{Low, low-fits}
+use Rattle.laws.specs.Integer.{low-fits}
 use Rattle.laws.specs.Block.{Done, shape-fill, done-none, done-more, done-row, done-all}
 use Rattle.render.specs.Turn.{blockFrom}
 use Rattle.render.proofs.parts.fetch.Statement.{statement}
 use Rattle.render.proofs.parts.fetch.Tie as tie
-use Rattle.render.proofs.parts.fetch.Reads as reads
-use Rattle.render.proofs.parts.fetch.Lts as lts
 
 byte-fits : (n : ℕ) → n ≤ 255 → SFits w32 (pos n)
 byte-fits n l = low-fits {m = 255} tt (record { low = l })
@@ -49,7 +45,7 @@ shared-slice-read-block : tie.Need-shared-slice-read-block Inv-loop2 μ-loop2 In
 shared-slice-read-block c = omega (arith, c .before .before .before .before .before .pre (c .before .before .before .before .loop .i) (search needs))
 
 cast-block : tie.Need-cast-block Inv-loop2 μ-loop2 Inv-loop μ-loop
-cast-block c = byte-fits _ (omega (arith, c .shared-slice-known .given (c .before .before .before .before .before .args .start + c .before .before .before .before .loop .i * c .before .before .before .before .before .args .stride + c .before .before .loop2 .j)))
+cast-block c = let s = c .before .before .before .before .before in byte-fits _ (omega (arith, c .shared-slice-known .given (s .args .start + c .before .before .before .before .loop .i * s .args .stride + c .before .before .loop2 .j)))
 
 mul-t16 : tie.Need-mul-t16 Inv-loop2 μ-loop2 Inv-loop μ-loop
 mul-t16 c = search needs
@@ -70,7 +66,7 @@ loop2-less : tie.Need-loop2-less Inv-loop2 μ-loop2 Inv-loop μ-loop
 loop2-less c = search needs
 
 loop2-again : tie.Need-loop2-again Inv-loop2 μ-loop2 Inv-loop μ-loop
-loop2-again c = (search needs, done-more (pos 0) _ _ _ _ (c .before .before .loop2 .inv .1) (search needs) (search needs) (toZ-pos w32 (omega (arith, c .shared-slice-known .given (c .before .before .before .before .before .args .start + c .before .before .before .before .loop .i * c .before .before .before .before .before .args .stride + c .before .before .loop2 .j)))))
+loop2-again c = let s = c .before .before .before .before .before in (search needs, done-more (pos 0) _ _ _ _ (c .before .before .loop2 .inv .1) (search needs) (search needs) (toZ-pos w32 (omega (arith, c .shared-slice-known .given (s .args .start + c .before .before .before .before .loop .i * s .args .stride + c .before .before .loop2 .j)))))
 
 add-i : tie.Need-add-i Inv-loop2 μ-loop2 Inv-loop μ-loop
 add-i c = search needs

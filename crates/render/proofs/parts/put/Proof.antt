@@ -1,18 +1,12 @@
-use mathlib.Core.Path.{_≡_, refl, sym, ap, subst, _∙_}
-use Prim.Native.Nat.{ℕ, zero, suc, _+_, _*_, _-_, _/_, _%_, _≤_, _<_}
+use Prim.Native.Nat.{_-_, _≤_}
 use native.Mathlib.Omega.{arith}
 use borrow.Author.Needs.{needs}
-use lib.IntN.{ℤ, pos}
-use lib.ListN.{getD, length}
+use lib.IntN.{pos}
 use Rattle.laws.specs.Rows.{Put, put-none, put-more, put-end, row-as}
 use Rattle.laws.specs.Block.{cell}
 use Rattle.transform.specs.Sample.{sampleOf}
 use Rattle.render.proofs.parts.put.Statement.{statement}
 use Rattle.render.proofs.parts.put.Tie as tie
-use Rattle.render.proofs.parts.put.Reads as reads
-use Rattle.render.proofs.parts.put.Lts as lts
-use Rattle.render.proofs.parts.put_eight.Reads as put-eight-reads
-use Rattle.render.proofs.parts.sums.Reads as sums-reads
 
 abbrev Inv-loop : tie.InvT-loop
 Inv-loop store₀ to stride prediction difference i₀ store i = (i ≤ 8) × Put i 8 to stride (λ k j. sampleOf (cell (pos 0) prediction k j) (cell (pos 0) difference k j)) store₀ store
@@ -24,7 +18,7 @@ loop-holds : tie.Need-loop-holds Inv-loop μ-loop
 loop-holds c = (search needs, put-none)
 
 sums-requires : tie.Need-sums-requires Inv-loop μ-loop
-sums-requires c κs = (c .before .before .before .pre .2, c .before .before .before .pre .3, search needs)
+sums-requires c κs = let s = c .before .before .before in (s .pre .2, s .pre .3, search needs)
 
 mul-put-eight : tie.Need-mul-put-eight Inv-loop μ-loop
 mul-put-eight c = omega (arith, c .before .before .before .before .before .pre .1 (c .before .before .before .loop .i) (search needs))

@@ -1,13 +1,10 @@
-use mathlib.Core.Path.{_≡_, refl, sym, ap, subst, _∙_}
-use Prim.Native.Nat.{ℕ, zero, suc, _+_, _*_, _-_, _/_, _%_, _≤_, _<_}
-use native.Mathlib.Omega.{arith}
+use mathlib.Core.Path.{refl}
+use Prim.Native.Nat.{_-_, _≤_}
 use borrow.Author.Needs.{needs}
 use lib.ListN.{getD}
 use Rattle.laws.specs.Rows.{Row, row-none, row-more, row-end}
 use Rattle.render.proofs.parts.put_eight.Statement.{statement}
 use Rattle.render.proofs.parts.put_eight.Tie as tie
-use Rattle.render.proofs.parts.put_eight.Reads as reads
-use Rattle.render.proofs.parts.put_eight.Lts as lts
 
 abbrev Inv-loop : tie.InvT-loop
 Inv-loop store₀ to row j₀ store j = (j ≤ 8) × Row to j (λ k. getD row k 0) store₀ store

@@ -1,9 +1,7 @@
-use mathlib.Core.Path.{_≡_, refl, sym, ap, subst, _∙_}
-use Prim.Native.Nat.{ℕ, zero, suc, _+_, _*_, _-_, _/_, _%_, _≤_, _<_}
-use native.Mathlib.Omega.{arith}
+use mathlib.Core.Path.{refl, _∙_}
+use Prim.Native.Nat.{_-_, _≤_}
 use borrow.Author.Needs.{needs}
-use lib.IntN.{ℤ, pos}
-use lib.ListN.{getD}
+use lib.IntN.{pos}
 use mir.Syntax.{w32}
 use Rattle.laws.specs.Integer.{back}
 use Rattle.laws.specs.Rows.{Begins, begins-none, begins-more, begins-end}
@@ -11,9 +9,6 @@ use Rattle.laws.specs.Block.{cell}
 use Rattle.transform.specs.Sample.{sampleOf, sample-low}
 use Rattle.render.proofs.parts.sums.Statement.{statement}
 use Rattle.render.proofs.parts.sums.Tie as tie
-use Rattle.render.proofs.parts.sums.Reads as reads
-use Rattle.render.proofs.parts.sums.Lts as lts
-use Rattle.transform.proofs.sample.sample.Reads as sample-reads
 
 abbrev Inv-loop : tie.InvT-loop
 Inv-loop prediction difference i row₀ j₀ row j = (j ≤ 8) × Begins 8 j (λ k. sampleOf (cell (pos 0) prediction i k) (cell (pos 0) difference i k)) row
@@ -49,7 +44,7 @@ index-2-sample-2 : tie.Need-index-2-sample-2 Inv-loop μ-loop
 index-2-sample-2 c = search needs
 
 sample-requires : tie.Need-sample-requires Inv-loop μ-loop
-sample-requires c κs = (rw (back w32 tt (sample-low (c .before .before .before .before .pre .0 (c .before .before .before .before .args .i) (c .before .before .before .loop .j)))) (c .before .before .before .before .pre .0 (c .before .before .before .before .args .i) (c .before .before .before .loop .j)), rw (back w32 tt (c .before .before .before .before .pre .1 (c .before .before .before .before .args .i) (c .before .before .before .loop .j))) (c .before .before .before .before .pre .1 (c .before .before .before .before .args .i) (c .before .before .before .loop .j)))
+sample-requires c κs = let s = c .before .before .before .before in let l = c .before .before .before .loop in (rw (back w32 tt (sample-low (s .pre .0 (s .args .i) (l .j)))) (s .pre .0 (s .args .i) (l .j)), rw (back w32 tt (s .pre .1 (s .args .i) (l .j))) (s .pre .1 (s .args .i) (l .j)))
 
 array-write-row : tie.Need-array-write-row Inv-loop μ-loop
 array-write-row c = search needs
@@ -61,7 +56,7 @@ loop-less : tie.Need-loop-less Inv-loop μ-loop
 loop-less c = search needs
 
 loop-again : tie.Need-loop-again Inv-loop μ-loop
-loop-again c = (search needs, begins-more (c .before .before .before .before .loop .inv .1) (search needs) (c .sample .ensures ∙ (λ z. sampleOf (back w32 tt (sample-low (c .before .before .before .before .before .pre .0 (c .before .before .before .before .before .args .i) (c .before .before .before .before .loop .j))) z) (back w32 tt (c .before .before .before .before .before .pre .1 (c .before .before .before .before .before .args .i) (c .before .before .before .before .loop .j)) z))))
+loop-again c = let s = c .before .before .before .before .before in let l = c .before .before .before .before .loop in (search needs, begins-more (l .inv .1) (search needs) (c .sample .ensures ∙ (λ z. sampleOf (back w32 tt (sample-low (s .pre .0 (s .args .i) (l .j))) z) (back w32 tt (s .pre .1 (s .args .i) (l .j)) z))))
 
 returns : tie.Need-returns Inv-loop μ-loop
 returns c = begins-end (c .before .loop .inv .1) (search needs)
