@@ -1,5 +1,5 @@
 -- What each turn of the rendering loops adds: a block that is sent, a macroblock that is kept. Assumes nothing.
-use mathlib.Core.Path.{_≡_, sym, ap, subst, _∙_}
+use mathlib.Core.Path.{_≡_, refl, sym, ap, subst, _∙_}
 use mathlib.Core.Bool.{Bool, true, false}
 use mathlib.Core.List.{List}
 use Prim.Native.Nat.{ℕ, zero, suc, _+_, _*_, _/_, _%_, _≤_, _<_, zero-le}
@@ -13,7 +13,7 @@ use Rattle.format.specs.declared.Format.{Format}
 use Rattle.format.specs.declared.Format.the-variants.{Qcif, Cif}
 use Rattle.format.specs.Format.{storeLength}
 use Rattle.format.specs.Place.{macroblocksAcross, macroblocksDown, blocksAcross, blocksDown, wide, high, base, index, blockOf, cellOf}
-use Rattle.format.specs.Blocks.{On, Placed, index-cell, room-at}
+use Rattle.format.specs.Blocks.{On, Placed, placed, index-cell, room-at}
 use Rattle.description.specs.Vector.{Vector}
 use Rattle.description.specs.Flat.{numberOf}
 use Rattle.description.specs.Moved.{moved, Aims}
@@ -70,7 +70,7 @@ rows-source {f} {p} e s v y x ey ex =
     λ z i j. pos (getD s (((λ r. e .start r + ey r * e .stride r + ex r + i * e .stride r + j) ∙ index-cell f p (moved p (y * 8) (v .vertical)) (moved p (x * 8) (v .horizontal)) i j) z) 0)
 
 -- ---- not sent
-pub kept-four : {f : Format} {b w : ℕ} (s : List ℕ) (r c : ℕ) {t u : List ℕ} → Plane f 0 b w → r < macroblocksDown f → c < macroblocksAcross f
+kept-four : {f : Format} {b w : ℕ} (s : List ℕ) (r c : ℕ) {t u : List ℕ} → Plane f 0 b w → r < macroblocksDown f → c < macroblocksAcross f
     → Put 16 16 (b + r * 16 * w + c * 16) w (rowsOf s (b + r * 16 * w + c * 16) w) t u → Part f r c 4 (keptOf f s) t u
 kept-four {f} s r c e hr hc h =
     part-four (e .start) (e .stride) hr hc
@@ -79,9 +79,23 @@ kept-four {f} s r c e hr hc h =
     split : (r y i : ℕ) → y / 2 ≡ r → r * 16 + (y % 2 * 8 + i) ≡ y * 8 + i
     split r y i e = omega arith
 
-pub kept-more : {f : Format} {r c b p o w : ℕ} (s : List ℕ) {t₀ t u : List ℕ} → Plane f p o w → Placed f r c b p r c
+kept-more : {f : Format} {r c b p o w : ℕ} (s : List ℕ) {t₀ t u : List ℕ} → Plane f p o w → Placed f r c b p r c
     → Part f r c b (keptOf f s) t₀ t → Put 8 8 (o + r * 8 * w + c * 8) w (rowsOf s (o + r * 8 * w + c * 8) w) t u → Part f r c (b + 1) (keptOf f s) t₀ u
 kept-more {r = r} {c = c} s e l q h = part-more l q (wrote-as (λ i j m n. rows-cell e s r c i j) (wrote (e .start) (e .stride) (l .on) h))
+
+-- where the blocks of CB and CR lie
+pub chroma : (f : Format) (p r c : ℕ) → 1 ≤ p → p < 3 → r < macroblocksDown f → c < macroblocksAcross f → Placed f r c (p + 3) p r c
+chroma f (suc p) r c l m hr hc = placed f r c (suc p + 3) (suc p) r c hr hc (omega arith) (omega arith) refl refl
+chroma f zero r c l m hr hc = absurd (omega arith)
+
+-- all six: luminance, CB, CR
+pub kept-six : (f : Format) (s : List ℕ) (r c : ℕ) {b w o h q : ℕ} {t₀ t₁ t₂ t₃ : List ℕ} → r < macroblocksDown f → c < macroblocksAcross f → Plane f 0 b w → Plane f 1 o h → Plane f 2 q h
+    → Put 16 16 (b + r * 16 * w + c * 16) w (rowsOf s (b + r * 16 * w + c * 16) w) t₀ t₁
+    → Put 8 8 (o + r * 8 * h + c * 8) h (rowsOf s (o + r * 8 * h + c * 8) h) t₁ t₂
+    → Put 8 8 (q + r * 8 * h + c * 8) h (rowsOf s (q + r * 8 * h + c * 8) h) t₂ t₃ → Part f r c 6 (keptOf f s) t₀ t₃
+kept-six f s r c hr hc e₀ e₁ e₂ h₀ h₁ h₂ =
+    kept-more s e₂ (chroma f 2 r c (omega arith) (omega arith) hr hc)
+    (kept-more s e₁ (chroma f 1 r c (omega arith) (omega arith) hr hc) (kept-four s r c e₀ hr hc h₀) h₁) h₂
 
 -- ---- sent
 cut-whole : (n : ℕ) → n ≤ 255 → cut (pos 0) (pos 255) (pos n) ≡ pos n

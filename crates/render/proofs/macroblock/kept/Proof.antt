@@ -1,11 +1,10 @@
-use mathlib.Core.Path.{_≡_, refl, _∙_}
+use mathlib.Core.Path.{_≡_, _∙_}
 use Prim.Native.Nat.{ℕ, _+_, _*_}
 use native.Mathlib.Omega.{arith}
 use borrow.Author.Needs.{needs}
 use Rattle.laws.specs.Rows.{Room}
 use Rattle.format.specs.Format.{storeLength}
-use Rattle.format.specs.Blocks.{placed}
-use Rattle.render.specs.Turn.{plane, room-to, room-four, kept-four, kept-more, size-small, wide-least, wide-luminance}
+use Rattle.render.specs.Turn.{plane, room-to, room-four, chroma, kept-six, size-small, wide-least, wide-luminance}
 use Rattle.render.proofs.macroblock.kept.Statement.{statement}
 use Rattle.render.proofs.macroblock.kept.Tie as tie
 
@@ -13,10 +12,10 @@ four-room : (c : tie.After-start) {n : ℕ} → n ≡ storeLength (c .before .be
 four-room c e = let s = c .before .before .before .before in room-four (plane (s .args .format) 0 (c .start .ensures) (c .before .stride .ensures)) (s .args .row) (s .args .column) (s .pre .2) (s .pre .3) e
 
 cb-room : (c : tie.After-start2) {n : ℕ} → n ≡ storeLength (c .before .before .before .before .before .before .before .before .before .before .args .format) → Room 8 8 (c .start2 .result + c .before .before .before .before .before .before .before .before .before .before .args .row * 8 * c .before .stride2 .result + c .before .before .before .before .before .before .before .before .before .before .args .column * 8) (c .before .stride2 .result) n
-cb-room c e = let s = c .before .before .before .before .before .before .before .before .before .before in room-to (plane (s .args .format) 1 (c .start2 .ensures) (c .before .stride2 .ensures)) ((placed (s .args .format) (s .args .row) (s .args .column) 4 1 (s .args .row) (s .args .column) (s .pre .2) (s .pre .3) (omega arith) refl refl refl) .on) e
+cb-room c e = let s = c .before .before .before .before .before .before .before .before .before .before in room-to (plane (s .args .format) 1 (c .start2 .ensures) (c .before .stride2 .ensures)) (chroma (s .args .format) 1 (s .args .row) (s .args .column) (omega arith) (omega arith) (s .pre .2) (s .pre .3) .on) e
 
 cr-room : (c : tie.After-start3) {n : ℕ} → n ≡ storeLength (c .before .before .before .before .before .before .before .before .before .before .before .before .before .before .before .args .format) → Room 8 8 (c .start3 .result + c .before .before .before .before .before .before .before .before .before .before .before .before .before .before .before .args .row * 8 * c .before .before .before .before .before .before .stride2 .result + c .before .before .before .before .before .before .before .before .before .before .before .before .before .before .before .args .column * 8) (c .before .before .before .before .before .before .stride2 .result) n
-cr-room c e = let s = c .before .before .before .before .before .before .before .before .before .before .before .before .before .before .before in room-to (plane (s .args .format) 2 (c .start3 .ensures) (c .before .before .before .before .before .before .stride2 .ensures)) ((placed (s .args .format) (s .args .row) (s .args .column) 5 2 (s .args .row) (s .args .column) (s .pre .2) (s .pre .3) (omega arith) refl refl refl) .on) e
+cr-room c e = let s = c .before .before .before .before .before .before .before .before .before .before .before .before .before .before .before in room-to (plane (s .args .format) 2 (c .start3 .ensures) (c .before .before .before .before .before .before .stride2 .ensures)) (chroma (s .args .format) 2 (s .args .row) (s .args .column) (omega arith) (omega arith) (s .pre .2) (s .pre .3) .on) e
 
 stride-requires : tie.Need-stride-requires
 stride-requires c κs = search needs
@@ -91,7 +90,7 @@ same-length : tie.Need-same-length
 same-length c = search needs
 
 returns : tie.Need-returns
-returns c = let s = c .before .before .before .before .before .before .before .before .before .before .before .before .before .before .before .before .before .before .before in kept-more (s .args .reference .now) (plane (s .args .format) 2 (c .before .before .before .before .start3 .ensures) (c .before .before .before .before .before .before .before .before .before .before .stride2 .ensures)) (placed (s .args .format) (s .args .row) (s .args .column) 5 2 (s .args .row) (s .args .column) (s .pre .2) (s .pre .3) (omega arith) refl refl refl) (kept-more (s .args .reference .now) (plane (s .args .format) 1 (c .before .before .before .before .before .before .before .before .before .start2 .ensures) (c .before .before .before .before .before .before .before .before .before .before .stride2 .ensures)) (placed (s .args .format) (s .args .row) (s .args .column) 4 1 (s .args .row) (s .args .column) (s .pre .2) (s .pre .3) (omega arith) refl refl refl) (kept-four (s .args .reference .now) (s .args .row) (s .args .column) (plane (s .args .format) 0 (c .before .before .before .before .before .before .before .before .before .before .before .before .before .before .before .start .ensures) (c .before .before .before .before .before .before .before .before .before .before .before .before .before .before .before .before .stride .ensures)) (s .pre .2) (s .pre .3) (c .before .before .before .before .before .before .before .before .before .before .before .before .before .copy-sixteen .ensures)) (c .before .before .before .before .before .before .before .copy-eight .ensures)) (c .before .before .copy-eight2 .ensures)
+returns c = let s = c .before .before .before .before .before .before .before .before .before .before .before .before .before .before .before .before .before .before .before in kept-six (s .args .format) (s .args .reference .now) (s .args .row) (s .args .column) (s .pre .2) (s .pre .3) (plane (s .args .format) 0 (c .before .before .before .before .before .before .before .before .before .before .before .before .before .before .before .start .ensures) (c .before .before .before .before .before .before .before .before .before .before .before .before .before .before .before .before .stride .ensures)) (plane (s .args .format) 1 (c .before .before .before .before .before .before .before .before .before .start2 .ensures) (c .before .before .before .before .before .before .before .before .before .before .stride2 .ensures)) (plane (s .args .format) 2 (c .before .before .before .before .start3 .ensures) (c .before .before .before .before .before .before .before .before .before .before .stride2 .ensures)) (c .before .before .before .before .before .before .before .before .before .before .before .before .before .copy-sixteen .ensures) (c .before .before .before .before .before .before .before .copy-eight .ensures) (c .before .before .copy-eight2 .ensures)
 
 pub kept-spec : {M : Type 1} → statement M
 kept-spec =

@@ -48,7 +48,7 @@ loop-less : tie.Need-loop-less Inv-loop μ-loop
 loop-less c = search needs
 
 loop-again : tie.Need-loop-again Inv-loop μ-loop
-loop-again c = let s = c .before .before .before .before .before .before .before .before .before .before .before .before in (search needs, sent-more (s .args .reference .now) (s .args .prediction) (vectorFrom (s .args .horizontal) (s .args .vertical)) (λ b. differenceOf (bytesFrom (s .args .levels .now) (s .args .at + b * 64)) (intraOf (s .args .prediction)) (s .args .quantiser)) (placed (s .args .format) (s .args .row) (s .args .column) (c .before .before .before .before .before .before .before .before .loop .b) (c .before .before .before .before .before .before .plane-of .result) (c .before .before .before .before .before .grid .result) (c .before .before .before .before .grid2 .result) (s .pre .2) (s .pre .3) (search needs) (c .before .before .before .before .before .before .plane-of .ensures) (c .before .before .before .before .before .grid .ensures) (c .before .before .before .before .grid2 .ensures)) (c .before .before .before .before .before .before .before .before .loop .inv .1) (c .before .before .block .ensures))
+loop-again c = let s = c .before .before .before .before .before .before .before .before .before .before .before .before in (search needs, sent-more (s .args .reference .now) (s .args .prediction) (vectorFrom (s .args .horizontal) (s .args .vertical)) (λ b. differenceOf (bytesFrom (s .args .levels .now) (s .args .at + b * 64)) (intraOf (s .args .prediction)) (s .args .quantiser)) (place (c .before .before .before)) (c .before .before .before .before .before .before .before .before .loop .inv .1) (c .before .before .block .ensures))
 
 same-length : tie.Need-same-length Inv-loop μ-loop
 same-length c = c .before .loop .inv .1 .size
