@@ -5,5 +5,6 @@ pub mod HeaderSteps
 pub mod CoefficientsTurn
 pub mod IntraSteps
 pub mod BlocksTurn
+pub mod VectorSteps
 pub mod MacroblocksTurn
 pub mod GroupsTurn

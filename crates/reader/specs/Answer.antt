@@ -66,12 +66,25 @@ leaving s n (Refused r) a = refused r
 abbrev pub componentOf : ℕ → ℤ
 componentOf x = pos x -ℤ pos 16
 
+-- kept so, a component in -15..15
+pub record Kept (x : ℕ) : Type 0 where
+  pub low : 1 ≤ x
+  pub high : x ≤ 31
+
 abbrev pub vectorOf : ℕ → ℕ → Vector
 vectorOf h v = record { horizontal = componentOf h; vertical = componentOf v }
 
 abbrev pub asComponent : List ℕ → ℕ → ComponentRead → Read ℤ
 asComponent s n (GotComponent x p) = got (componentOf x) (bitsLeft s n p) p
 asComponent s n (NoComponent r) = refused r
+
+abbrev pub componentRefusal : ComponentRead → Refusal
+componentRefusal (GotComponent x p) = refusal BitsEnd p
+componentRefusal (NoComponent r) = r
+
+abbrev pub vectorRefusal : VectorRead → Refusal
+vectorRefusal (GotVector h v p) = refusal BitsEnd p
+vectorRefusal (NoVector r) = r
 
 abbrev pub asVector : List ℕ → ℕ → VectorRead → Read Vector
 asVector s n (GotVector h v p) = got (vectorOf h v) (bitsLeft s n p) p

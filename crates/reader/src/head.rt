@@ -1,7 +1,7 @@
 // The headers of a picture and of a group: rows of fields under their rules.
 use crate::HeaderRead;
 use crate::PlaceRead;
-use bits::FieldRead;
+use bits::{FieldRead, WordRead};
 use format::Format;
 use refusals::Reason;
 use refusals::Refusal;
@@ -10,7 +10,7 @@ ghost use Prim.Native.Nat.{_≤_, _<_};
 ghost use Rattle.bits.specs.Bits.{bitsLeft};
 ghost use Rattle.bits.specs.Read.{judged, field};
 ghost use Rattle.bits.specs.Answer.{Within, asField};
-ghost use Rattle.reader.specs.Answer.{leaving, asHeader, fieldRefusal, placeRefusal};
+ghost use Rattle.reader.specs.Answer.{leaving, asHeader, fieldRefusal, wordRefusal, placeRefusal};
 ghost use Rattle.reader.specs.Grammar.{expect as expected, quantiser as quantiserRead, spares as sparesRead, ptypeOf, groupHead, header as headerRead};
 
 // The refusal of a field that was refused.
@@ -23,6 +23,19 @@ pub fn field_refusal(read: FieldRead) -> Refusal
             place: at,
         },
         FieldRead::Refused(refusal) => refusal,
+    }
+}
+
+// The refusal of a codeword that was refused.
+pub fn word_refusal(read: WordRead) -> Refusal
+    ensures { λ r. ⌜ r ≡ wordRefusal read ⌝ }
+{
+    match read {
+        WordRead::Got(_, at) => Refusal {
+            reason: Reason::BitsEnd,
+            place: at,
+        },
+        WordRead::Refused(refusal) => refusal,
     }
 }
 

@@ -3,6 +3,7 @@ use refusals::Refusal;
 
 mod block;
 mod head;
+mod vector;
 
 // Where a layer ended, or the refusal.
 pub enum PlaceRead {
