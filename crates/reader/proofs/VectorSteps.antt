@@ -1,12 +1,12 @@
 -- A vector from its pairs: of two differences that are the same modulo 32 the one that lands in -15..15, and the picture's edges. Assumes nothing.
 use mathlib.Core.Path.{_≡_, refl, sym, ap, subst, _∙_}
-use mathlib.Core.Bool.{Bool, true, false}
+use mathlib.Core.Bool.{Bool, true, false, cond}
 use mathlib.Core.List.{List}
 use Prim.Native.Nat.{ℕ, zero, suc, _+_, _-_, _*_, _%_, _≤_, _<_}
 use native.Mathlib.Omega.{arith}
-use borrow.Author.Tests.{eq-eqb, ne-eqb, le-leb, lt-leb, eqb-false}
-use lib.Dec.{T, eqb, leb, ltb, eqb→eq, ltb→lt}
-use lib.IntN.{ℤ, pos, _+ℤ_, _-ℤ_}
+use borrow.Author.Tests.{eq-eqb, ne-eqb, le-leb, lt-leb, ltb-true, ltb-false}
+use lib.Dec.{T, eqb, leb, ltb, eqb→eq, ltb→lt, leb→le}
+use lib.IntN.{ℤ, pos, negsuc, natAbs, _+ℤ_, _-ℤ_}
 use Rattle.laws.specs.Choice.{pick, both, opposite, both-left, both-right}
 use Rattle.laws.specs.Table.{allB, all-at, eqZ, eqZ-yes}
 use Rattle.refusals.specs.declared.Reason.the-variants.{VectorOut}
@@ -19,10 +19,11 @@ use Rattle.bits.specs.Logic.{Reads, reads-word}
 use Rattle.words.specs.Tables.{table3}
 use Rattle.format.specs.Format.{width, height, column, row}
 use Rattle.format.specs.declared.Format.{Format}
-use Rattle.description.specs.Vector.{Vector, inRange, ahead, back, inside, inPicture}
+use Rattle.description.specs.Vector.{Vector, inRange, ahead, back, inside, inPicture, restarts}
 use Rattle.reader.specs.Answer.{Kept, componentOf, vectorOf}
 use Rattle.reader.specs.Vector.{pairOf, landing, component, componentRead, componentsRead, pointing, vectorRead}
-use Rattle.reader.proofs.Read.{judged-refused, judged-fine, judged-against}
+use Rattle.reader.proofs.Read.{judged-refused, judged-fine, judged-against, onward}
+use Rattle.reader.specs.Layers.{component-reads}
 
 -- ---- where a pair lands: one test over all preceding components and all pairs
 abbrev lands : ℤ → ℤ → ℕ → Bool
@@ -73,6 +74,20 @@ module _ (p : ℕ) (h : Kept p) (bs : List Bit) (at : ℕ) where
     unfolding componentRead
     component-in z = sym (judged-fine (word table3) (λ n. component (componentOf p) (pairOf n)) bs at n cs q e (componentOf ((p + n + 16) % 32)) (landed p n h l ∙ rw (ne-eqb ((p + n + 16) % 32) 0 z)))
 
+-- what is in range is kept as 1 to 31
+pub kept-of : (x : ℕ) → T (inRange (componentOf x)) → Kept x
+kept-of x t = go (ltb x 16) refl t
+  where
+    go : (b : Bool) → ltb x 16 ≡ b → T (leb (natAbs (cond b (negsuc (16 - suc x)) (pos (x - 16)))) 15) → Kept x
+    go true e h = let l = ltb-true x 16 e in let m = leb→le (suc (16 - suc x)) 15 h in record { low = omega arith; high = omega arith }
+    go false e h = let l = ltb-false x 16 e in let m = leb→le (x - 16) 15 h in record { low = omega arith; high = omega arith }
+
+pub component-kept : (s : List ℕ) (n p : ℕ) (before : ℤ) (x q : ℕ) → p ≤ n → componentRead before (bitsLeft s n p) p ≡ got (componentOf x) (bitsLeft s n q) q → Kept x
+component-kept s n p before x q l e = kept-of x (onward s n p (componentOf x) q (component-reads before) l e .good)
+
+pub pair-below : (s : List ℕ) (n p m q : ℕ) → p ≤ n → word table3 (bitsLeft s n p) p ≡ got m (bitsLeft s n q) q → m < 32
+pair-below s n p m q l e = ltb→lt m 32 (onward s n p m q pair-reads l e .good)
+
 -- ---- the picture's edges, for components that are kept
 abbrev moves : ℕ → Bool
 moves h = both (eqb (ahead (componentOf h)) (h - 16)) (eqb (back (componentOf h)) (16 - h))
@@ -118,7 +133,6 @@ module _ (f : Format) (number address : ℕ) (before : Vector) (bs : List Bit) (
       judged-so true i = rw (e, d, i)
       judged-so false i = rw (e, d, i)
 
-
       pub vector-left : column number address + h < 16 → bad VectorOut at ≡ vectorRead f number address before bs at
       vector-left l = sym (judged-so false (rw (before-edge (width f) (column number address) h kh l)))
 
@@ -135,3 +149,23 @@ module _ (f : Format) (number address : ℕ) (before : Vector) (bs : List Bit) (
           → got (vectorOf h v) ds q ≡ vectorRead f number address before bs at
       vector-inside a b c w =
           sym (judged-so true (rw (between (width f) (column number address) h kh a b, between (height f) (row number address) v kv c w)))
+
+-- ---- where the preceding vector counts as zero
+module _ (address step : ℕ) where
+  pub restarts-first : address + step ≡ 1 → true ≡ restarts address step
+  restarts-first e = rw (eq-eqb (address + step) 1 e)
+
+  module _ (a : address + step ≡ 1 → ⊥) where
+    pub restarts-second : address + step ≡ 12 → true ≡ restarts address step
+    restarts-second e = rw (ne-eqb (address + step) 1 a, eq-eqb (address + step) 12 e)
+
+    module _ (b : address + step ≡ 12 → ⊥) where
+      pub restarts-third : address + step ≡ 23 → true ≡ restarts address step
+      restarts-third e = rw (ne-eqb (address + step) 1 a, ne-eqb (address + step) 12 b, eq-eqb (address + step) 23 e)
+
+      module _ (c : address + step ≡ 23 → ⊥) where
+        pub restarts-far : (step ≡ 1 → ⊥) → true ≡ restarts address step
+        restarts-far e = rw (ne-eqb (address + step) 1 a, ne-eqb (address + step) 12 b, ne-eqb (address + step) 23 c, ne-eqb step 1 e)
+
+        pub restarts-else : step ≡ 1 → eqb address 0 ≡ restarts address step
+        restarts-else e = rw (ne-eqb (address + step) 1 a, ne-eqb (address + step) 12 b, ne-eqb (address + step) 23 c, eq-eqb step 1 e)

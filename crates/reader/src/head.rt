@@ -1,7 +1,8 @@
 // The headers of a picture and of a group: rows of fields under their rules.
 use crate::HeaderRead;
 use crate::PlaceRead;
-use bits::{FieldRead, WordRead};
+use bits::FieldRead;
+use bits::WordRead;
 use format::Format;
 use refusals::Reason;
 use refusals::Refusal;

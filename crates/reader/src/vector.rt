@@ -1,9 +1,12 @@
 // MVD: a macroblock's vector from the preceding one. A component is kept as 16 more than it is, so that nothing is negative.
+use crate::Behind;
+use crate::ComponentRead;
+use crate::VectorRead;
 use crate::head::word_refusal;
-use crate::{Behind, ComponentRead, VectorRead};
 use bits::WordRead;
 use format::Format;
-use refusals::{Reason, Refusal};
+use refusals::Reason;
+use refusals::Refusal;
 ghost use mathlib.Core.Path.{_≡_};
 ghost use Prim.Native.Nat.{_+_, _-_, _*_, _/_, _%_, _≤_, _<_};
 ghost use Rattle.laws.specs.Choice.{either, opposite, oneOf, pick};
