@@ -6,5 +6,8 @@ pub mod CoefficientsTurn
 pub mod IntraSteps
 pub mod BlocksTurn
 pub mod VectorSteps
+pub mod TypeSays
+pub mod MacroblockSteps
+pub mod MacroblockWhole
 pub mod MacroblocksTurn
 pub mod GroupsTurn

@@ -91,8 +91,17 @@ asVector s n (GotVector h v p) = got (vectorOf h v) (bitsLeft s n p) p
 asVector s n (NoVector r) = refused r
 
 -- ---- macroblocks
+-- a type of document 01's table
+pub record Typed (type : ℕ) : Type 0 where
+  pub low : 1 ≤ type
+  pub high : type ≤ 10
+
 abbrev pub beforeOf : Behind → Before
 beforeOf b = record { address = b .address; vector = vectorOf (b .horizontal) (b .vertical) }
+
+pub record KeptBehind (b : Behind) : Type 0 where
+  pub horizontally : Kept (b .horizontal)
+  pub vertically : Kept (b .vertical)
 
 abbrev pub asMba : List ℕ → ℕ → MbaRead → Read Mba
 asMba s n (Step k p) = got (step k) (bitsLeft s n p) p
@@ -116,6 +125,10 @@ putSent g macroblocks levels m = record {
 abbrev pub asMacroblock : List ℕ → ℕ → MacroblockRead → List ℕ → List ℕ → Read Sent
 asMacroblock s n (GotMacroblock b p) macroblocks levels = got (record { macroblocks = macroblocks; levels = levels; before = beforeOf b }) (bitsLeft s n p) p
 asMacroblock s n (NoMacroblock r) macroblocks levels = refused r
+
+abbrev pub macroblockRefusal : MacroblockRead → Refusal
+macroblockRefusal (GotMacroblock b p) = refusal BitsEnd p
+macroblockRefusal (NoMacroblock r) = r
 
 -- ---- the picture
 abbrev pub asHeader : List ℕ → ℕ → HeaderRead → Read Header

@@ -3,6 +3,9 @@ use refusals::Refusal;
 
 mod block;
 mod head;
+mod kind;
+mod macroblock;
+mod picture;
 mod vector;
 
 // Where a layer ended, or the refusal.
