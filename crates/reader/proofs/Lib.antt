@@ -11,3 +11,4 @@ pub mod MacroblockSteps
 pub mod MacroblockWhole
 pub mod MacroblocksTurn
 pub mod GroupsTurn
+pub mod PictureTurn

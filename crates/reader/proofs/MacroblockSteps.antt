@@ -54,13 +54,16 @@ module _ (s : List ℕ) (n address at : ℕ) where
   unfolding mba
   mba-end l = rw (left-none s n at l)
 
-  pub mba-on : (x : Read Mba) → at < n → x ≡ judged (word table1) (mbaOf true address) (bitsLeft s n at) at → x ≡ mba true address (bitsLeft s n at) at
+  pub opened : at < n → judged (word table1) (mbaOf true address) (bitsLeft s n at) at ≡ mba true address (bitsLeft s n at) at
   unfolding mba
-  mba-on x l h = h ∙ opened (bitsLeft s n at) (left-more s n at l)
+  opened l = some (bitsLeft s n at) (left-more s n at l)
     where
-      opened : (bs : List Bit) {b : Bit} {cs : List Bit} → bs ≡ b ∷ cs → judged (word table1) (mbaOf true address) bs at ≡ mba true address bs at
-      opened [] e = let z : _≡_ {A = ℕ} 0 1 = cc in absurd (omega arith)
-      opened (b ∷ bs) e = refl
+      some : (bs : List Bit) {b : Bit} {cs : List Bit} → bs ≡ b ∷ cs → judged (word table1) (mbaOf true address) bs at ≡ mba true address bs at
+      some [] e = let z : _≡_ {A = ℕ} 0 1 = cc in absurd (omega arith)
+      some (b ∷ bs) e = refl
+
+  pub mba-on : (x : Read Mba) → at < n → x ≡ judged (word table1) (mbaOf true address) (bitsLeft s n at) at → x ≡ mba true address (bitsLeft s n at) at
+  mba-on x l h = h ∙ opened l
 
 module _ (last : Bool) (address : ℕ) (bs : List Bit) (at : ℕ) (x : Read Mba) where
   pub mba-last : last ≡ true → x ≡ mba true address bs at → x ≡ mba last address bs at
