@@ -12,3 +12,4 @@ pub mod MacroblockWhole
 pub mod MacroblocksTurn
 pub mod GroupsTurn
 pub mod PictureTurn
+pub mod ParseSteps

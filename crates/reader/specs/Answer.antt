@@ -135,5 +135,9 @@ abbrev pub asHeader : List ℕ → ℕ → HeaderRead → Read Header
 asHeader s n (GotHeader tr ptype p) = got (record { tr = tr; ptype = ptype }) (bitsLeft s n p) p
 asHeader s n (NoHeader r) = refused r
 
+abbrev pub headerRefusal : HeaderRead → Refusal
+headerRefusal (GotHeader tr ptype p) = refusal BitsEnd p
+headerRefusal (NoHeader r) = r
+
 abbrev pub flat : List ℕ → List ℕ → List ℕ → Flat
 flat head macroblocks levels = record { head = head; macroblocks = macroblocks; levels = levels }
