@@ -1,7 +1,7 @@
 // The levels of a macroblock under their rules.
 use crate::kind;
 ghost use mathlib.Core.Path.{_≡_};
-ghost use lib.ListN.{length, drop};
+ghost use lib.ListN.{length};
 ghost use Rattle.description.specs.Valid.{all, isZero, isLevel, codesFirst, validLevels};
 
 // Whether every byte is 0.

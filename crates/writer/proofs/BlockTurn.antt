@@ -9,14 +9,15 @@ use native.Mathlib.Numerals.{add-one}
 use borrow.Author.Tests.{eq-eqb, ne-eqb}
 use lib.Dec.{T, leb, eqb, leb→le, lit≤, eqb·suc-zero}
 use lib.ListN.{length, getD, take, drop, length-drop}
-use lib.Seq.{drop-cons, drop-length, drop-drop, getD-drop, getD-take, length-take-le}
-use Rattle.laws.specs.Choice.{pick, both, either, opposite, both-left, both-right, both-make, true-T, true-false}
+use lib.Seq.{drop-length, drop-drop, getD-drop, getD-take}
+use Rattle.laws.specs.Choice.{pick, both, either, opposite, both-left, both-right, both-make, true-false}
 use Rattle.bits.specs.Bits.{Bit, bitsOf}
 use Rattle.bits.specs.Code.{wordOf}
 use Rattle.words.specs.Tables.{endOfBlock, firstTable5, laterTable5}
 use Rattle.words.specs.Words.{Coefficient, coefficient, tcoeffOf, forbidden}
 use Rattle.words.specs.Back.{Sendable}
 use Rattle.description.specs.Value.{Block}
+use Rattle.validity.proofs.Steps.{step}
 use Rattle.description.specs.Flat.{gather, gathers}
 use Rattle.description.specs.Valid.{all, isZero, isLevel, codesFirst}
 use Rattle.writer.specs.Write.{coefficientsOf, blockOf, blocksOf, present, patternOf}
@@ -24,9 +25,6 @@ use Rattle.writer.specs.Sound.{codedOf}
 use Rattle.writer.specs.Put.{Wrote, Room, wrote-none, wrote-as, wrote-most, wrote-then, room-after}
 
 -- ---- lists
-pub step : (l : List ℕ) (i : ℕ) → i < length l → drop i l ≡ getD l i 0 ∷ drop (i + 1) l
-step l i h = drop-cons l i 0 h ∙ ap (λ (n : ℕ). getD l i 0 ∷ drop n l) (sym (add-one i))
-
 pub past : (l : List ℕ) (n : ℕ) → length l ≡ n → drop n l ≡ []
 past l n e = ap (λ (k : ℕ). drop k l) (sym e) ∙ drop-length l
 
@@ -51,9 +49,6 @@ opposite-no false t = refl
 
 pub piece : (l : List ℕ) (a n : ℕ) → take (a + n - a) (drop a l) ≡ take n (drop a l)
 piece l a n = let e : a + n - a ≡ n = omega arith in ap (λ (k : ℕ). take k (drop a l)) e
-
-pub piece-length : (l : List ℕ) (a n : ℕ) → a + n ≤ length l → length (take (a + n - a) (drop a l)) ≡ n
-piece-length l a n h = ap length (piece l a n) ∙ length-take-le n (drop a l) (omega (arith, length-drop a l))
 
 pub piece-first : (l : List ℕ) (a n : ℕ) → 0 < n → getD (take (a + n - a) (drop a l)) 0 0 ≡ getD l a 0
 piece-first l a n h =

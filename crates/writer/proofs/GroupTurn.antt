@@ -1,30 +1,29 @@
 -- The groups of a picture as they are written, on plain values. Assumes nothing.
 use mathlib.Core.Path.{_≡_, refl, sym, ap, ap₂, subst, _∙_}
-use mathlib.Core.Bool.{Bool, true, false}
 use mathlib.Core.List.{List, [], _∷_, _++_, append-assoc, append-nil}
 use Prim.Native.Nat.{ℕ, zero, suc, _+_, _-_, _*_, _≤_, _<_}
 use native.Mathlib.Omega.{arith}
 use native.Mathlib.Nat.{zero-add}
-use borrow.Author.Tests.{leb-true}
 use lib.Dec.{T, leb, eqb, leb→le, eqb→eq, lit≤}
 use lib.ListN.{length, getD, take, drop, length-drop}
-use lib.Seq.{drop-drop, getD-drop, getD-take, length-take-le, take-all, take-take, take-nil}
-use Rattle.laws.specs.Choice.{pick, both, both-left, both-right}
+use lib.Seq.{drop-drop, getD-drop, getD-take, take-take, take-nil}
+use Rattle.laws.specs.Choice.{both, both-left, both-right}
 use Rattle.laws.specs.Table.{lowB, low-at}
 use Rattle.writer.specs.Output.{written}
 use Rattle.bits.specs.Bits.{Bit, bitsOf}
 use Rattle.format.specs.Format.{formatBit, groupNumbers, groupCount, headLength, macroblocksLength, levelsLength}
 use Rattle.format.specs.declared.Format.{Format}
 use Rattle.format.specs.declared.Format.the-variants.{Qcif, Cif}
-use Rattle.description.specs.Vector.{Vector, Before, atStart}
-use Rattle.description.specs.Value.{Macroblock, Group, Picture, after}
-use Rattle.description.specs.Flat.{numberOf, gather, gathers, described, macroblocksIn, groupsIn, pictureIn}
+use Rattle.description.specs.Vector.{Before, atStart}
+use Rattle.description.specs.Value.{Macroblock, Group, after}
+use Rattle.description.specs.Flat.{numberOf, gather, gathers, macroblocksIn, groupsIn, pictureIn}
 use Rattle.description.specs.Spread.{flat}
-use Rattle.description.specs.Valid.{all, within, isQuantiser, validMacroblock, validMacroblocks, validGroups, lengthsOf, validHead, valid}
+use Rattle.description.specs.Valid.{all, isQuantiser, validMacroblock, validMacroblocks, validGroups, lengthsOf, validHead, valid}
 use Rattle.writer.specs.Write.{macroblockOf, macroblocksOf, groupOf, groupsOf, pictureOf}
 use Rattle.writer.specs.Sound.{Near, Sound, SoundGroup, behind, macroblockIn, groupIn}
 use Rattle.writer.specs.Put.{Wrote, Room, wrote-none, wrote-as, wrote-most, wrote-then, room-after}
-use Rattle.writer.proofs.BlockTurn.{step, past, all-index, piece, piece-first}
+use Rattle.validity.proofs.Steps.{step, count-is, counts, part-rest}
+use Rattle.writer.proofs.BlockTurn.{past, all-index, piece}
 use Rattle.writer.proofs.MacroblockSteps.{sound}
 
 -- ---- a macroblock of the slices
@@ -226,20 +225,6 @@ module _ (f : Format) where
       let r = groups-sound numbers (drop 132 fields) (drop 12672 levels) g (both-right (validMacroblocks 33 f number 1 fields levels) (validGroups f numbers (drop 132 fields) (drop 12672 levels)) t) (omega arith) in
       subst (λ (x : List ℕ). SoundGroup x (drop (suc g * 12672) levels)) (drop-drop (g * 132) 132 fields ∙ ap (λ (n : ℕ). drop n fields) a)
       (subst (λ (y : List ℕ). SoundGroup (drop (g * 132) (drop 132 fields)) y) (drop-drop (g * 12672) 12672 levels ∙ ap (λ (n : ℕ). drop n levels) b) r)
-
-pub count-is : (f : Format) → groupCount f ≡ length (groupNumbers f)
-count-is Qcif = refl
-count-is Cif = refl
-
-pub counts : (f : Format) → groupCount f ≤ 12
-counts Qcif = lit≤ tt
-counts Cif = lit≤ tt
-
-pub part-rest : (l : List ℕ) (a : ℕ) → take (length l - a) (drop a l) ≡ drop a l
-part-rest l a = take-all (length l - a) (drop a l) (omega (arith, length-drop a l))
-
-pub part-length : (l : List ℕ) (a n : ℕ) → a + n ≤ length l → n ≤ length (take (length l - a) (drop a l))
-part-length l a n h = omega (arith, ap length (part-rest l a), length-drop a l)
 
 pub record Described (f : Format) (head macroblocks levels : List ℕ) : Type 0 where
   pub head-long : length head ≡ headLength f

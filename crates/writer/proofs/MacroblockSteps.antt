@@ -1,29 +1,28 @@
 -- The fields of a macroblock as they are written, on plain values. Assumes nothing.
-use mathlib.Core.Path.{_≡_, refl, sym, ap, ap₂, subst, _∙_}
+use mathlib.Core.Path.{_≡_, refl, sym, ap, subst, _∙_}
 use mathlib.Core.Bool.{Bool, true, false}
-use mathlib.Core.List.{List, [], _∷_, _++_, append-assoc, append-nil}
-use Prim.Native.Nat.{ℕ, zero, suc, _+_, _-_, _*_, _%_, _^_, _≤_, _<_}
+use mathlib.Core.List.{List, [], _∷_}
+use Prim.Native.Nat.{ℕ, zero, suc, _+_, _-_, _%_, _^_, _≤_, _<_}
 use native.Mathlib.Omega.{arith}
-use native.Mathlib.Nat.{mod-lt}
-use borrow.Author.Tests.{eq-eqb, ne-eqb, le-leb}
-use lib.Dec.{T, leb, ltb, eqb, leb→le, ltb→lt, eqb→eq, lit≤, lit<, eqb·suc-zero}
+use borrow.Author.Tests.{eq-eqb, ne-eqb}
+use lib.Dec.{T, leb, ltb, eqb, leb→le, ltb→lt, eqb→eq, lit≤, eqb·suc-zero}
 use mathlib.Core.Logic.{_⊎_, inl, inr, ⊎-elim}
-use lib.ListN.{length, getD, take, drop}
+use lib.ListN.{length, getD}
 use lib.IntN.{ℤ, pos, natAbs, _+ℤ_, _-ℤ_}
-use Rattle.laws.specs.Choice.{pick, both, either, opposite, oneOf, both-left, both-right, both-make, either-right, true-T, T-true, true-false}
+use Rattle.laws.specs.Choice.{pick, both, either, opposite, oneOf, both-left, both-right, either-right, true-T, T-true, true-false}
 use Rattle.laws.specs.Table.{allB, all-at}
 use Rattle.bits.specs.Bits.{Bit, bitsOf}
 use Rattle.bits.specs.Code.{wordOf}
-use Rattle.words.specs.Tables.{table1, table2, table3, table4}
+use Rattle.words.specs.Tables.{table1, table2, table4}
 use Rattle.words.specs.Words.{isIntra, isMC, hasMQUANT, hasCBP}
 use Rattle.format.specs.declared.Format.{Format}
-use Rattle.description.specs.Vector.{Vector, Before, zeroVector, inRange, inPicture, preceding}
+use Rattle.description.specs.Vector.{Vector, Before, inRange, inPicture, preceding}
 use Rattle.description.specs.Flat.{numberOf, gathers}
-use Rattle.description.specs.Valid.{all, within, isZero, isQuantiser, isLevel, codesFirst, vectorIn, validVector, validLevels, validMacroblock}
-use Rattle.writer.specs.Write.{given, componentOf, vectorOf, blocksOf, patternOf, macroblockOf}
+use Rattle.description.specs.Valid.{all, isZero, isQuantiser, isLevel, codesFirst, vectorIn, validVector, validLevels, validMacroblock}
+use Rattle.writer.specs.Write.{given, vectorOf, blocksOf, patternOf, macroblockOf}
 use Rattle.writer.specs.Sound.{Near, Sound, behind, macroblockIn}
-use Rattle.writer.specs.Put.{Wrote, Room, wrote-none, wrote-as, wrote-most, wrote-then, room-after}
-use Rattle.writer.proofs.BlockTurn.{opposite-no, pattern-some, pattern-low}
+use Rattle.writer.specs.Put.{Wrote, Room, wrote-none, wrote-as, wrote-then, room-after}
+use Rattle.writer.proofs.BlockTurn.{pattern-some}
 
 -- ---- one component: a computed test over all pairs of numbers in -15..15
 abbrev near : ℕ → ℕ

@@ -1,13 +1,13 @@
 -- The answer and the output of `write`, on plain values. Assumes nothing.
-use mathlib.Core.Path.{_≡_, refl, sym, ap, ap₂, subst, _∙_}
+use mathlib.Core.Path.{_≡_, refl, sym, ap, _∙_}
 use mathlib.Core.Bool.{Bool, true, false}
 use mathlib.Core.List.{List, [], _∷_, _++_}
-use Prim.Native.Nat.{ℕ, zero, suc, _+_, _-_, _*_, _/_, _≤_, _<_}
+use Prim.Native.Nat.{ℕ, _+_, _/_, _≤_, _<_}
 use native.Mathlib.Omega.{arith}
 use native.Mathlib.Nat.{zero-add}
 use native.Mathlib.Numerals.{add-one}
 use borrow.Author.Tests.{eq-eqb, ne-eqb, lt-ltb, le-ltb}
-use lib.Dec.{T, eqb, ltb}
+use lib.Dec.{eqb, ltb}
 use lib.ListN.{length, getD, take, drop, set, replicate, length-set, length-replicate}
 use lib.Seq.{take-suc, append-snoc, set-at, take-at, length-take-le}
 use Rattle.laws.specs.Choice.{pick, both, either}
@@ -25,8 +25,8 @@ use Rattle.description.specs.Valid.{lengthsOf, valid}
 use Rattle.writer.specs.declared.Written.{Written}
 use Rattle.writer.specs.declared.Written.the-variants.{Bits, Refused}
 use Rattle.writer.specs.Put.{appended, Wrote, Room}
-use Rattle.writer.specs.Output.{written, lengths, writeOf, leaves, outputOf}
-use Rattle.writer.proofs.BlockTurn.{step}
+use Rattle.writer.specs.Output.{written, writeOf, leaves, outputOf}
+use Rattle.validity.proofs.Steps.{step}
 
 -- ---- the copy
 pub record CopiedSoFar (from : List ℕ) (count : ℕ) (before after : List ℕ) (i : ℕ) : Type 0 where

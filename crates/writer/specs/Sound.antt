@@ -1,13 +1,13 @@
 -- What the writer takes of a valid description, macroblock by macroblock. Assumes nothing.
-use Prim.Native.Nat.{ℕ, _+_, _*_, _≤_, _<_}
+use Prim.Native.Nat.{ℕ, _*_, _≤_, _<_}
 use mathlib.Core.Bool.{Bool, true, false}
-use mathlib.Core.List.{List, [], _∷_}
+use mathlib.Core.List.{List}
 use lib.Dec.{T}
 use lib.ListN.{getD, take, drop}
 use Rattle.laws.specs.Choice.{pick}
 use Rattle.bits.specs.Bits.{Bit}
 use Rattle.words.specs.Words.{hasMQUANT}
-use Rattle.description.specs.Vector.{Vector, Before, inRange}
+use Rattle.description.specs.Vector.{Before, inRange}
 use Rattle.description.specs.Value.{Block, Macroblock, Group}
 use Rattle.description.specs.Flat.{numberOf, gathers, macroblocksIn}
 use Rattle.description.specs.Valid.{isQuantiser, isZero, vectorIn, validLevels}

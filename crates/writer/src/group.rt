@@ -1,7 +1,6 @@
 // The group layer.
 use crate::block;
 use crate::macroblock;
-ghost use mathlib.Core.Path.{_≡_};
 ghost use Prim.Native.Nat.{_+_, _≤_, _<_};
 ghost use lib.ListN.{length};
 ghost use Rattle.words.specs.Lookup.{Tables};

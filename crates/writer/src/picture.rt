@@ -2,10 +2,9 @@
 use crate::block;
 use crate::group;
 use format::Format;
-ghost use mathlib.Core.Path.{_≡_};
-ghost use Prim.Native.Nat.{_+_, _≤_, _<_};
+ghost use Prim.Native.Nat.{_+_, _<_};
 ghost use lib.Dec.{T};
-ghost use lib.ListN.{length, drop};
+ghost use lib.ListN.{drop};
 ghost use Rattle.words.specs.Lookup.{Tables};
 ghost use Rattle.format.specs.Format.{groupNumbers};
 ghost use Rattle.description.specs.Flat.{groupsIn};

@@ -1,7 +1,7 @@
 // MVD: a macroblock's vector against the preceding one. Components are bytes, in two's complement.
 ghost use mathlib.Core.Path.{_≡_};
 ghost use mathlib.Core.List.{[], _∷_};
-ghost use Prim.Native.Nat.{_+_, _≤_, _<_};
+ghost use Prim.Native.Nat.{_+_, _≤_};
 ghost use lib.Dec.{eqb};
 ghost use Rattle.laws.specs.Choice.{either, opposite, oneOf};
 ghost use Rattle.words.specs.Words.{isMC};

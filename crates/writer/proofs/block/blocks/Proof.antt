@@ -6,7 +6,8 @@ use Rattle.description.specs.Flat.{gathers}
 use Rattle.description.specs.Valid.{isLevel}
 use Rattle.writer.specs.Write.{blocksOf}
 use Rattle.writer.specs.Put.{wrote-long}
-use Rattle.writer.proofs.BlockTurn.{all-take, all-drop, piece-length, BlocksSoFar, blocks-begin, block-begins, blocks-done, blocks-room, blocks-more}
+use Rattle.validity.proofs.Steps.{piece-length}
+use Rattle.writer.proofs.BlockTurn.{all-take, all-drop, BlocksSoFar, blocks-begin, block-begins, blocks-done, blocks-room, blocks-more}
 use Rattle.writer.proofs.block.blocks.Statement.{statement}
 use Rattle.writer.proofs.block.blocks.Tie as tie
 

@@ -5,7 +5,7 @@ use Rattle.description.specs.Flat.{macroblocksIn}
 use Rattle.description.specs.Vector.{atStart}
 use Rattle.writer.specs.Write.{macroblocksOf}
 use Rattle.writer.specs.Put.{wrote-long}
-use Rattle.writer.proofs.BlockTurn.{piece-length}
+use Rattle.validity.proofs.Steps.{piece-length}
 use Rattle.writer.proofs.GroupTurn.{MacroblocksSoFar, macroblocks-begin, macroblocks-done, macroblocks-skip, macroblock-sound, macroblocks-room, macroblocks-more}
 use Rattle.writer.proofs.group.macroblocks.Statement.{statement}
 use Rattle.writer.proofs.group.macroblocks.Tie as tie

@@ -6,7 +6,8 @@ use Rattle.format.specs.Format.{groupNumbers}
 use Rattle.description.specs.Flat.{groupsIn}
 use Rattle.writer.specs.Write.{groupsOf}
 use Rattle.writer.specs.Put.{wrote-long}
-use Rattle.writer.proofs.GroupTurn.{counts, part-length, valid-has, GroupsSoFar, groups-begin, groups-done, groups-room, gquant-low, group-sound, groups-more, number-low}
+use Rattle.validity.proofs.Steps.{counts, part-length}
+use Rattle.writer.proofs.GroupTurn.{valid-has, GroupsSoFar, groups-begin, groups-done, groups-room, gquant-low, group-sound, groups-more, number-low}
 use Rattle.writer.proofs.picture.groups.Statement.{statement}
 use Rattle.writer.proofs.picture.groups.Tie as tie
 
