@@ -1,1 +1,4 @@
 pub mod Write
+pub mod Put
+pub mod Sound
+pub mod Output

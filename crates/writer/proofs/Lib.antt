@@ -1,0 +1,4 @@
+pub mod BlockTurn
+pub mod MacroblockSteps
+pub mod GroupTurn
+pub mod WriteSteps

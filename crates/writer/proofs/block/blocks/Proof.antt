@@ -1,0 +1,58 @@
+use Prim.Native.Nat.{_+_, _-_, _*_}
+use native.Mathlib.Omega.{arith}
+use borrow.Author.Needs.{needs}
+use lib.ListN.{drop}
+use Rattle.description.specs.Flat.{gathers}
+use Rattle.description.specs.Valid.{isLevel}
+use Rattle.writer.specs.Write.{blocksOf}
+use Rattle.writer.specs.Put.{wrote-long}
+use Rattle.validity.proofs.Steps.{piece-length}
+use Rattle.writer.proofs.BlockTurn.{all-take, all-drop, BlocksSoFar, blocks-begin, block-begins, blocks-done, blocks-room, blocks-more}
+use Rattle.writer.proofs.block.blocks.Statement.{statement}
+use Rattle.writer.proofs.block.blocks.Tie as tie
+
+abbrev Inv-loop : tie.InvT-loop
+Inv-loop tables levels intra out₀ at place₀ b₀ out place b = BlocksSoFar (blocksOf intra (gathers 6 levels)) levels intra out₀ at out place b
+
+abbrev μ-loop : tie.MeasureT-loop
+μ-loop tables levels intra out₀ at place₀ b₀ out place b = 6 - b
+
+loop-holds : tie.Need-loop-holds Inv-loop μ-loop
+loop-holds c = blocks-begin _ _ _ _
+
+mul-a : tie.Need-mul-a Inv-loop μ-loop
+mul-a c = search needs
+
+add-block : tie.Need-add-block Inv-loop μ-loop
+add-block c = search needs
+
+sub-block : tie.Need-sub-block Inv-loop μ-loop
+sub-block c = search needs
+
+part-block-start : tie.Need-part-block-start Inv-loop μ-loop
+part-block-start c = search needs
+
+part-block-end : tie.Need-part-block-end Inv-loop μ-loop
+part-block-end c = omega (arith, c .before .before .before .before .pre .1, c .loop-test .taken)
+
+block-requires : tie.Need-block-requires Inv-loop μ-loop
+block-requires c κs = (c .before .before .before .before .before .before .pre .0, piece-length (c .before .before .before .before .before .before .args .levels .now) (c .before .before .before .loop .b * 64) 64 (omega (arith, c .before .before .before .before .before .before .pre .1, c .before .before .loop-test .taken)), all-take isLevel (c .before .before .before .loop .b * 64 + 64 - c .before .before .before .loop .b * 64) (drop (c .before .before .before .loop .b * 64) (c .before .before .before .before .before .before .args .levels .now)) (all-drop isLevel (c .before .before .before .loop .b * 64) (c .before .before .before .before .before .before .args .levels .now) (c .before .before .before .before .before .before .pre .2)), block-begins (c .before .before .before .before .before .before .args .levels .now) (c .before .before .before .before .before .before .args .intra) (c .before .before .before .loop .b) (c .before .before .before .before .before .before .pre .3) (c .before .before .loop-test .taken), blocks-room (c .before .before .before .loop .inv) (c .before .before .before .before .before .before .pre .4) (c .before .before .loop-test .taken))
+
+add-b : tie.Need-add-b Inv-loop μ-loop
+add-b c = search needs
+
+loop-less : tie.Need-loop-less Inv-loop μ-loop
+loop-less c = search needs
+
+loop-again : tie.Need-loop-again Inv-loop μ-loop
+loop-again c = blocks-more (c .before .before .before .before .before .before .loop .inv) (c .before .before .before .before .before .before .before .before .before .pre .4) (c .before .before .before .before .before .loop-test .taken) (c .before .before .block .ensures)
+
+same-length : tie.Need-same-length Inv-loop μ-loop
+same-length c = wrote-long (c .before .loop .inv .wrote) (c .before .before .before .before .pre .4) (omega (arith, c .before .loop .inv .count))
+
+returns : tie.Need-returns Inv-loop μ-loop
+returns c = blocks-done (c .before .loop .inv) (c .loop-test .left)
+
+pub blocks-spec : {M : Type 1} → statement M
+blocks-spec =
+    tie.close (tie.spec Inv-loop μ-loop loop-holds mul-a add-block sub-block part-block-start part-block-end block-requires add-b loop-less loop-again same-length returns)

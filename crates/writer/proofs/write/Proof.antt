@@ -1,0 +1,74 @@
+use Prim.Native.Nat.{ℕ}
+use mathlib.Core.Path.{refl, sym, _∙_}
+use native.Mathlib.Omega.{arith}
+use borrow.Author.Needs.{needs}
+use borrow.Author.Tests.{not-true, not-false}
+use Rattle.writer.proofs.WriteSteps.{refuses, short, unfit, invalid, above, below, blank-room, count-low, copy-from, copy-to}
+use Rattle.laws.specs.Choice.{true-T}
+use lib.ListN.{length-replicate}
+use Rattle.writer.proofs.write.Statement.{statement}
+use Rattle.writer.proofs.write.Tie as tie
+
+one-format-requires : tie.Need-one-format-requires
+one-format-requires c κs = search needs
+
+refused-requires : tie.Need-refused-requires
+refused-requires c κs = search needs
+
+returns : tie.Need-returns
+returns c = refuses (c .before .before .before .before .before .before .before .args .format) (c .before .before .before .before .before .before .before .args .head .now) (c .before .before .before .before .before .before .before .args .macroblocks .now) (c .before .before .before .before .before .before .before .args .levels .now) (c .before .before .before .before .before .before .before .args .out .now) _ _ (c .refused .ensures) (short (c .before .before .before .before .before .before .before .args .format) (c .before .before .before .before .before .before .before .args .head .now) (c .before .before .before .before .before .before .before .args .macroblocks .now) (c .before .before .before .before .before .before .before .args .levels .now) (c .before .before .before .before .before .before .before .args .out .now) _ (c .before .before .one-format .ensures) (not-true _ (c .before .if1 .taken)))
+
+output-length-requires : tie.Need-output-length-requires
+output-length-requires c κs = search needs
+
+refused-requires-2 : tie.Need-refused-requires-2
+refused-requires-2 c κs = search needs
+
+returns-2 : tie.Need-returns-2
+returns-2 c = refuses (c .before .before .before .before .before .before .before .before .before .args .format) (c .before .before .before .before .before .before .before .before .before .args .head .now) (c .before .before .before .before .before .before .before .before .before .args .macroblocks .now) (c .before .before .before .before .before .before .before .before .before .args .levels .now) (c .before .before .before .before .before .before .before .before .before .args .out .now) _ _ (c .refused2 .ensures) (unfit (c .before .before .before .before .before .before .before .before .before .args .format) (c .before .before .before .before .before .before .before .before .before .args .head .now) (c .before .before .before .before .before .before .before .before .before .args .macroblocks .now) (c .before .before .before .before .before .before .before .before .before .args .levels .now) (c .before .before .before .before .before .before .before .before .before .args .out .now) _ (c .before .before .before .before .one-format .ensures) (not-false _ (c .before .before .before .if1 .left)) _ (c .before .before .output-length .ensures) (c .before .if2 .taken))
+
+valid-requires : tie.Need-valid-requires
+valid-requires c κs = search needs
+
+refused-requires-3 : tie.Need-refused-requires-3
+refused-requires-3 c κs = search needs
+
+returns-3 : tie.Need-returns-3
+returns-3 c = refuses (c .before .before .before .before .before .before .before .before .before .before .before .args .format) (c .before .before .before .before .before .before .before .before .before .before .before .args .head .now) (c .before .before .before .before .before .before .before .before .before .before .before .args .macroblocks .now) (c .before .before .before .before .before .before .before .before .before .before .before .args .levels .now) (c .before .before .before .before .before .before .before .before .before .before .before .args .out .now) _ _ (c .refused3 .ensures) (invalid (c .before .before .before .before .before .before .before .before .before .before .before .args .format) (c .before .before .before .before .before .before .before .before .before .before .before .args .head .now) (c .before .before .before .before .before .before .before .before .before .before .before .args .macroblocks .now) (c .before .before .before .before .before .before .before .before .before .before .before .args .levels .now) (c .before .before .before .before .before .before .before .before .before .before .before .args .out .now) _ (c .before .before .before .before .before .before .one-format .ensures) (not-false _ (c .before .before .before .before .before .if1 .left)) _ (c .before .before .before .before .output-length .ensures) (c .before .before .before .if2 .left) _ (c .before .before .valid .ensures) (not-true _ (c .before .if3 .taken)))
+
+tables-requires : tie.Need-tables-requires
+tables-requires c κs = search needs
+
+slice-aggregate-picture : tie.Need-slice-aggregate-picture
+slice-aggregate-picture c = sym (length-replicate {A = ℕ} 480000 0)
+
+picture-requires : tie.Need-picture-requires
+picture-requires c κs = (c .before .before .tables .ensures, true-T _ (sym (c .before .before .before .before .valid .ensures) ∙ not-false _ (c .before .before .before .if3 .left)), blank-room 480000 refl)
+
+limit-requires : tie.Need-limit-requires
+limit-requires c κs = search needs
+
+refused-requires-4 : tie.Need-refused-requires-4
+refused-requires-4 c κs = search needs
+
+returns-4 : tie.Need-returns-4
+returns-4 c = refuses (c .before .before .before .before .before .before .before .before .before .before .before .before .before .before .before .before .before .before .args .format) (c .before .before .before .before .before .before .before .before .before .before .before .before .before .before .before .before .before .before .args .head .now) (c .before .before .before .before .before .before .before .before .before .before .before .before .before .before .before .before .before .before .args .macroblocks .now) (c .before .before .before .before .before .before .before .before .before .before .before .before .before .before .before .before .before .before .args .levels .now) (c .before .before .before .before .before .before .before .before .before .before .before .before .before .before .before .before .before .before .args .out .now) _ _ (c .refused4 .ensures) (above (c .before .before .before .before .before .before .before .before .before .before .before .before .before .before .before .before .before .before .args .format) (c .before .before .before .before .before .before .before .before .before .before .before .before .before .before .before .before .before .before .args .head .now) (c .before .before .before .before .before .before .before .before .before .before .before .before .before .before .before .before .before .before .args .macroblocks .now) (c .before .before .before .before .before .before .before .before .before .before .before .before .before .before .before .before .before .before .args .levels .now) (c .before .before .before .before .before .before .before .before .before .before .before .before .before .before .before .before .before .before .args .out .now) _ (c .before .before .before .before .before .before .before .before .before .before .before .before .before .one-format .ensures) (not-false _ (c .before .before .before .before .before .before .before .before .before .before .before .before .if1 .left)) _ (c .before .before .before .before .before .before .before .before .before .before .before .output-length .ensures) (c .before .before .before .before .before .before .before .before .before .before .if2 .left) _ (c .before .before .before .before .before .before .before .before .before .valid .ensures) (not-false _ (c .before .before .before .before .before .before .before .before .if3 .left)) _ (c .before .before .limit .ensures) (c .before .before .before .before .picture .ensures) (c .before .if4 .taken))
+
+slice-aggregate-copy : tie.Need-slice-aggregate-copy
+slice-aggregate-copy c = sym (c .before .before .before .before .picture .kept .1 .1 .1 .1 .1 .0 ∙ length-replicate {A = ℕ} 480000 0)
+
+add-copy : tie.Need-add-copy
+add-copy c = omega (arith, count-low (c .before .before .before .before .picture .ensures))
+
+copy-requires : tie.Need-copy-requires
+copy-requires c κs = (copy-from (c .before .before .before .before .before .picture .ensures) (c .before .before .before .before .before .picture .kept .1 .1 .1 .1 .1 .0) (length-replicate {A = ℕ} 480000 0), copy-to (c .before .before .before .before .before .before .before .before .before .before .before .before .before .before .before .before .before .before .before .args .format) _ _ _ _ (c .before .before .before .limit .ensures) (c .before .before .if4 .left) (c .before .before .before .before .before .before .before .before .before .before .before .if2 .left) (c .before .before .before .before .before .before .before .before .before .before .before .before .output-length .ensures))
+
+same-length : tie.Need-same-length
+same-length c = c .before .before .copy .kept .1 .1 .0
+
+returns-5 : tie.Need-returns-5
+returns-5 c = below (c .before .before .before .before .before .before .before .before .before .before .before .before .before .before .before .before .before .before .before .before .before .before .args .format) (c .before .before .before .before .before .before .before .before .before .before .before .before .before .before .before .before .before .before .before .before .before .before .args .head .now) (c .before .before .before .before .before .before .before .before .before .before .before .before .before .before .before .before .before .before .before .before .before .before .args .macroblocks .now) (c .before .before .before .before .before .before .before .before .before .before .before .before .before .before .before .before .before .before .before .before .before .before .args .levels .now) (c .before .before .before .before .before .before .before .before .before .before .before .before .before .before .before .before .before .before .before .before .before .before .args .out .now) _ (c .before .before .before .before .before .before .before .before .before .before .before .before .before .before .before .before .before .one-format .ensures) (not-false _ (c .before .before .before .before .before .before .before .before .before .before .before .before .before .before .before .before .if1 .left)) _ (c .before .before .before .before .before .before .before .before .before .before .before .before .before .before .before .output-length .ensures) (c .before .before .before .before .before .before .before .before .before .before .before .before .before .before .if2 .left) _ (c .before .before .before .before .before .before .before .before .before .before .before .before .before .valid .ensures) (not-false _ (c .before .before .before .before .before .before .before .before .before .before .before .before .if3 .left)) _ (c .before .before .before .before .before .before .limit .ensures) (c .before .before .before .before .before .before .before .before .picture .ensures) (c .before .before .before .before .before .if4 .left) _ (c .before .before .copy .ensures)
+
+pub write-spec : {M : Type 1} → statement M
+write-spec =
+    tie.close (tie.spec one-format-requires refused-requires returns output-length-requires refused-requires-2 returns-2 valid-requires refused-requires-3 returns-3 tables-requires slice-aggregate-picture picture-requires limit-requires refused-requires-4 returns-4 slice-aggregate-copy add-copy copy-requires same-length returns-5)

@@ -1,0 +1,53 @@
+-- What `write` answers and leaves in its output. Assumes nothing.
+use Prim.Native.Nat.{ℕ, _+_}
+use mathlib.Core.Bool.{Bool}
+use mathlib.Core.List.{List, _++_}
+use lib.Dec.{ltb, eqb}
+use lib.ListN.{length, drop}
+use Rattle.laws.specs.Choice.{pick, both, either}
+use Rattle.refusals.specs.Number.{number, refusal}
+use Rattle.refusals.specs.declared.Reason.the-variants.{Length, Invalid, AboveLimit}
+use Rattle.bits.specs.Bits.{Bit}
+use Rattle.bits.specs.Write.{started, bytesOf}
+use Rattle.format.specs.Format.{limit, outputLength}
+use Rattle.format.specs.declared.Format.{Format}
+use Rattle.format.specs.declared.Format.the-variants.{Qcif, Cif}
+use Rattle.description.specs.Flat.{Flat, pictureIn}
+use Rattle.description.specs.Valid.{lengthsOf, valid}
+use Rattle.writer.specs.Write.{pictureOf}
+use Rattle.writer.specs.declared.Written.{Written}
+use Rattle.writer.specs.declared.Written.the-variants.{Bits, Refused}
+
+-- the bits of the picture that a description describes
+unfoldable pub written : Format → Flat → List Bit
+written f d = pictureOf f (pictureIn d)
+
+-- "1: a lent buffer hasn't its named length": the three slices those of one format's description, the output its own of the opened format
+abbrev pub lengths : Format → Flat → ℕ → Bool
+lengths f d room = both (either (lengthsOf Qcif d) (lengthsOf Cif d)) (eqb room (outputLength f))
+
+-- 1, then 31, then 32; else the number of bits
+unfoldable pub writeOf : Format → Flat → ℕ → Written
+writeOf f d room =
+    pick (lengths f d room)
+    (pick (valid f d)
+    (pick (ltb (limit f) (length (written f d))) (Refused (refusal AboveLimit 0)) (Bits (length (written f d))))
+    (Refused (refusal Invalid 0)))
+    (Refused (refusal Length 0))
+
+-- "It fills the output's last started byte with zeros and touches nothing after." A refusal touches nothing at all.
+unfoldable pub leaves : List ℕ → List Bit → Written → List ℕ
+leaves out bits (Bits n) = bytesOf (started (length bits)) bits ++ drop (started (length bits)) out
+leaves out bits (Refused r) = out
+
+abbrev pub outputOf : Format → Flat → List ℕ → List ℕ
+outputOf f d out = leaves out (written f d) (writeOf f d (length out))
+
+-- document 01's number for each answer: 0 where the picture is written; and its value, the number of bits or the place
+abbrev pub toldBy : Written → ℕ
+toldBy (Bits n) = 0
+toldBy (Refused r) = number (r .reason)
+
+abbrev pub valueOf : Written → ℕ
+valueOf (Bits n) = n
+valueOf (Refused r) = r .place
