@@ -1,0 +1,43 @@
+use Prim.Native.Nat.{_-_}
+use mathlib.Core.Path.{sym, _∙_}
+use borrow.Author.Needs.{needs}
+use borrow.Author.Tests.{not-true, not-false}
+use lib.ListN.{length, drop}
+use Rattle.description.specs.Valid.{all, isQuantiser}
+use Rattle.validity.proofs.Steps.{AllSoFar, all-first, all-no, all-more, all-done}
+use Rattle.validity.proofs.all_quantisers.Statement.{statement}
+use Rattle.validity.proofs.all_quantisers.Tie as tie
+
+abbrev Inv-loop : tie.InvT-loop
+Inv-loop head i₀ i = AllSoFar (all isQuantiser (drop 3 head)) isQuantiser head i
+
+abbrev μ-loop : tie.MeasureT-loop
+μ-loop head i₀ i = length head - i
+
+loop-holds : tie.Need-loop-holds Inv-loop μ-loop
+loop-holds c = all-first isQuantiser _ 3 (c .before .pre)
+
+shared-slice-read-is-quantiser : tie.Need-shared-slice-read-is-quantiser Inv-loop μ-loop
+shared-slice-read-is-quantiser c = search needs
+
+is-quantiser-requires : tie.Need-is-quantiser-requires Inv-loop μ-loop
+is-quantiser-requires c κs = search needs
+
+returns : tie.Need-returns Inv-loop μ-loop
+returns c = all-no (c .before .before .before .before .loop .inv) (c .before .before .before .loop-test .taken) (sym (c .before .is-quantiser .ensures) ∙ not-true _ (c .if1 .taken))
+
+add-i : tie.Need-add-i Inv-loop μ-loop
+add-i c = search needs
+
+loop-less : tie.Need-loop-less Inv-loop μ-loop
+loop-less c = search needs
+
+loop-again : tie.Need-loop-again Inv-loop μ-loop
+loop-again c = all-more (c .before .before .before .before .loop .inv) (c .before .before .before .loop-test .taken) (sym (c .before .is-quantiser .ensures) ∙ not-false _ (c .if1 .left))
+
+returns-2 : tie.Need-returns-2 Inv-loop μ-loop
+returns-2 c = all-done (c .before .loop .inv) (c .loop-test .left)
+
+pub all-quantisers-spec : {M : Type 1} → statement M
+all-quantisers-spec =
+    tie.close (tie.spec Inv-loop μ-loop loop-holds shared-slice-read-is-quantiser is-quantiser-requires returns add-i loop-less loop-again returns-2)

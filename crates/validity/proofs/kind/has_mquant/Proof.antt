@@ -1,0 +1,13 @@
+use Rattle.validity.proofs.Steps.{mquant-yes, mquant-no}
+use Rattle.validity.proofs.kind.has_mquant.Statement.{statement}
+use Rattle.validity.proofs.kind.has_mquant.Tie as tie
+
+returns : tie.Need-returns
+returns c = mquant-yes _ (c .match .keys1)
+
+returns-2 : tie.Need-returns-2
+returns-2 c = mquant-no _ (c .match .rest .1)
+
+pub has-mquant-spec : {M : Type 1} → statement M
+has-mquant-spec =
+    tie.close (tie.spec returns returns-2)

@@ -1,0 +1,38 @@
+use Prim.Native.Nat.{_-_, zero-le}
+use borrow.Author.Needs.{needs}
+use lib.ListN.{length}
+use Rattle.description.specs.Valid.{all, isLevel}
+use Rattle.validity.proofs.Steps.{level-no, level-yes, AllSoFar, all-first, all-no, all-more, all-done}
+use Rattle.validity.proofs.levels.all_levels.Statement.{statement}
+use Rattle.validity.proofs.levels.all_levels.Tie as tie
+
+abbrev Inv-loop : tie.InvT-loop
+Inv-loop bytes i₀ i = AllSoFar (all isLevel bytes) isLevel bytes i
+
+abbrev μ-loop : tie.MeasureT-loop
+μ-loop bytes i₀ i = length bytes - i
+
+loop-holds : tie.Need-loop-holds Inv-loop μ-loop
+loop-holds c = all-first isLevel _ 0 zero-le
+
+shared-slice-read-if1 : tie.Need-shared-slice-read-if1 Inv-loop μ-loop
+shared-slice-read-if1 c = search needs
+
+returns : tie.Need-returns Inv-loop μ-loop
+returns c = all-no (c .before .before .before .loop .inv) (c .before .before .loop-test .taken) (level-no _ (c .if1 .taken))
+
+add-i : tie.Need-add-i Inv-loop μ-loop
+add-i c = search needs
+
+loop-less : tie.Need-loop-less Inv-loop μ-loop
+loop-less c = search needs
+
+loop-again : tie.Need-loop-again Inv-loop μ-loop
+loop-again c = all-more (c .before .before .before .loop .inv) (c .before .before .loop-test .taken) (level-yes _ (c .before .shared-slice-known .given (c .before .before .before .loop .i) .fits) (c .if1 .left))
+
+returns-2 : tie.Need-returns-2 Inv-loop μ-loop
+returns-2 c = all-done (c .before .loop .inv) (c .loop-test .left)
+
+pub all-levels-spec : {M : Type 1} → statement M
+all-levels-spec =
+    tie.close (tie.spec Inv-loop μ-loop loop-holds shared-slice-read-if1 returns add-i loop-less loop-again returns-2)

@@ -1,0 +1,39 @@
+use Prim.Native.Nat.{_-_, zero-le}
+use borrow.Author.Needs.{needs}
+use borrow.Author.Tests.{eq-eqb, ne-eqb}
+use lib.ListN.{length}
+use Rattle.description.specs.Valid.{all, isZero}
+use Rattle.validity.proofs.Steps.{AllSoFar, all-first, all-no, all-more, all-done}
+use Rattle.validity.proofs.levels.all_zero.Statement.{statement}
+use Rattle.validity.proofs.levels.all_zero.Tie as tie
+
+abbrev Inv-loop : tie.InvT-loop
+Inv-loop bytes i₀ i = AllSoFar (all isZero bytes) isZero bytes i
+
+abbrev μ-loop : tie.MeasureT-loop
+μ-loop bytes i₀ i = length bytes - i
+
+loop-holds : tie.Need-loop-holds Inv-loop μ-loop
+loop-holds c = all-first isZero _ 0 zero-le
+
+shared-slice-read-if1 : tie.Need-shared-slice-read-if1 Inv-loop μ-loop
+shared-slice-read-if1 c = search needs
+
+returns : tie.Need-returns Inv-loop μ-loop
+returns c = all-no (c .before .before .before .loop .inv) (c .before .before .loop-test .taken) (ne-eqb _ 0 (c .if1 .taken))
+
+add-i : tie.Need-add-i Inv-loop μ-loop
+add-i c = search needs
+
+loop-less : tie.Need-loop-less Inv-loop μ-loop
+loop-less c = search needs
+
+loop-again : tie.Need-loop-again Inv-loop μ-loop
+loop-again c = all-more (c .before .before .before .loop .inv) (c .before .before .loop-test .taken) (eq-eqb _ 0 (c .if1 .left))
+
+returns-2 : tie.Need-returns-2 Inv-loop μ-loop
+returns-2 c = all-done (c .before .loop .inv) (c .loop-test .left)
+
+pub all-zero-spec : {M : Type 1} → statement M
+all-zero-spec =
+    tie.close (tie.spec Inv-loop μ-loop loop-holds shared-slice-read-if1 returns add-i loop-less loop-again returns-2)

@@ -1,0 +1,49 @@
+use mathlib.Core.Path.{sym, _∙_}
+use mathlib.Core.Bool.{true, false}
+use borrow.Author.Needs.{needs}
+use Rattle.validity.proofs.Steps.{intra-yes, intra-no, coded, coded-no, uncoded}
+use Rattle.validity.proofs.levels.valid_levels.Statement.{statement}
+use Rattle.validity.proofs.levels.valid_levels.Tie as tie
+
+is-intra-requires : tie.Need-is-intra-requires
+is-intra-requires c κs = search needs
+
+all-levels-requires : tie.Need-all-levels-requires
+all-levels-requires c κs = search needs
+
+codes-first-requires : tie.Need-codes-first-requires
+codes-first-requires c κs = search needs
+
+returns : tie.Need-returns
+returns c = intra-yes (c .before .before .before .before .before .before .args .kind) (c .before .before .before .before .before .before .args .bytes .now) (sym (c .before .before .before .before .is-intra .ensures) ∙ c .before .before .before .if1 .taken) (sym (c .before .before .all-levels .ensures) ∙ c .before .if2 .taken) _ (c .codes-first .ensures)
+
+returns-2 : tie.Need-returns-2
+returns-2 c = intra-no (c .before .before .before .before .before .args .kind) (c .before .before .before .before .before .args .bytes .now) (sym (c .before .before .before .is-intra .ensures) ∙ c .before .before .if1 .taken) (sym (c .before .all-levels .ensures) ∙ c .if2 .left)
+
+has-cbp-requires : tie.Need-has-cbp-requires
+has-cbp-requires c κs = search needs
+
+all-levels-requires-2 : tie.Need-all-levels-requires-2
+all-levels-requires-2 c κs = search needs
+
+all-zero-requires : tie.Need-all-zero-requires
+all-zero-requires c κs = search needs
+
+returns-3 : tie.Need-returns-3
+returns-3 c = coded (c .before .before .before .before .before .before .before .before .before .args .kind) (c .before .before .before .before .before .before .before .before .before .args .bytes .now) (sym (c .before .before .before .before .before .before .before .is-intra .ensures) ∙ c .before .before .before .before .before .before .if1 .left) (sym (c .before .before .before .before .before .has-cbp .ensures) ∙ c .before .before .before .before .if3 .taken) (sym (c .before .before .before .all-levels2 .ensures) ∙ c .before .before .if4 .taken) true (sym (c .before .all-zero .ensures) ∙ c .if5 .taken)
+
+returns-4 : tie.Need-returns-4
+returns-4 c = coded (c .before .before .before .before .before .before .before .before .before .args .kind) (c .before .before .before .before .before .before .before .before .before .args .bytes .now) (sym (c .before .before .before .before .before .before .before .is-intra .ensures) ∙ c .before .before .before .before .before .before .if1 .left) (sym (c .before .before .before .before .before .has-cbp .ensures) ∙ c .before .before .before .before .if3 .taken) (sym (c .before .before .before .all-levels2 .ensures) ∙ c .before .before .if4 .taken) false (sym (c .before .all-zero .ensures) ∙ c .if5 .left)
+
+returns-5 : tie.Need-returns-5
+returns-5 c = coded-no (c .before .before .before .before .before .before .before .args .kind) (c .before .before .before .before .before .before .before .args .bytes .now) (sym (c .before .before .before .before .before .is-intra .ensures) ∙ c .before .before .before .before .if1 .left) (sym (c .before .before .before .has-cbp .ensures) ∙ c .before .before .if3 .taken) (sym (c .before .all-levels2 .ensures) ∙ c .if4 .left)
+
+all-zero-requires-2 : tie.Need-all-zero-requires-2
+all-zero-requires-2 c κs = search needs
+
+returns-6 : tie.Need-returns-6
+returns-6 c = uncoded (c .before .before .before .before .before .before .args .kind) (c .before .before .before .before .before .before .args .bytes .now) (sym (c .before .before .before .before .is-intra .ensures) ∙ c .before .before .before .if1 .left) (sym (c .before .before .has-cbp .ensures) ∙ c .before .if3 .left) _ (c .all-zero2 .ensures)
+
+pub valid-levels-spec : {M : Type 1} → statement M
+valid-levels-spec =
+    tie.close (tie.spec is-intra-requires all-levels-requires codes-first-requires returns returns-2 has-cbp-requires all-levels-requires-2 all-zero-requires returns-3 returns-4 returns-5 all-zero-requires-2 returns-6)

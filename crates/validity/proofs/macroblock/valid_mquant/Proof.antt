@@ -1,0 +1,23 @@
+use mathlib.Core.Path.{sym, ap, _∙_}
+use mathlib.Core.Bool.{Bool}
+use borrow.Author.Needs.{needs}
+use Rattle.laws.specs.Choice.{pick}
+use Rattle.description.specs.Valid.{isZero, isQuantiser}
+use Rattle.validity.proofs.macroblock.valid_mquant.Statement.{statement}
+use Rattle.validity.proofs.macroblock.valid_mquant.Tie as tie
+
+has-mquant-requires : tie.Need-has-mquant-requires
+has-mquant-requires c κs = search needs
+
+is-quantiser-requires : tie.Need-is-quantiser-requires
+is-quantiser-requires c κs = search needs
+
+returns : tie.Need-returns
+returns c = c .is-quantiser .ensures ∙ ap (λ (b : Bool). pick b (isQuantiser (c .before .before .before .args .mquant)) (isZero (c .before .before .before .args .mquant))) (sym (c .before .if1 .taken) ∙ c .before .before .has-mquant .ensures)
+
+returns-2 : tie.Need-returns-2
+returns-2 c = ap (λ (b : Bool). pick b (isQuantiser (c .before .before .args .mquant)) (isZero (c .before .before .args .mquant))) (sym (c .if1 .left) ∙ c .before .has-mquant .ensures)
+
+pub valid-mquant-spec : {M : Type 1} → statement M
+valid-mquant-spec =
+    tie.close (tie.spec has-mquant-requires is-quantiser-requires returns returns-2)

@@ -1,0 +1,76 @@
+use native.Mathlib.Omega.{arith}
+use borrow.Author.Needs.{needs}
+use borrow.Author.Tests.{not-true, not-false}
+use Rattle.validity.proofs.Steps.{vector-no, vector-yes, still-no, still-yes, sides}
+use Rattle.validity.proofs.macroblock.valid_vector.Statement.{statement}
+use Rattle.validity.proofs.macroblock.valid_vector.Tie as tie
+
+shared-slice-read-across : tie.Need-shared-slice-read-across
+shared-slice-read-across c = search needs
+
+shared-slice-read-down : tie.Need-shared-slice-read-down
+shared-slice-read-down c = search needs
+
+shared-slice-read-is-mc : tie.Need-shared-slice-read-is-mc
+shared-slice-read-is-mc c = search needs
+
+is-mc-requires : tie.Need-is-mc-requires
+is-mc-requires c κs = search needs
+
+sub-column : tie.Need-sub-column
+sub-column c = search needs
+
+mul-column : tie.Need-mul-column
+mul-column c = search needs
+
+sub-column-2 : tie.Need-sub-column-2
+sub-column-2 c = search needs
+
+mul-column-2 : tie.Need-mul-column-2
+mul-column-2 c = search needs
+
+add-column : tie.Need-add-column
+add-column c = search needs
+
+sub-row : tie.Need-sub-row
+sub-row c = search needs
+
+mul-row : tie.Need-mul-row
+mul-row c = search needs
+
+sub-row-2 : tie.Need-sub-row-2
+sub-row-2 c = search needs
+
+mul-row-2 : tie.Need-mul-row-2
+mul-row-2 c = search needs
+
+add-row : tie.Need-add-row
+add-row c = search needs
+
+width-requires : tie.Need-width-requires
+width-requires c κs = search needs
+
+valid-component-requires : tie.Need-valid-component-requires
+valid-component-requires c κs = (omega arith, omega (arith, c .width .ensures, sides (c .before .before .before .before .before .before .before .args .format)))
+
+returns : tie.Need-returns
+returns c = vector-no (c .before .before .before .before .before .before .before .before .before .args .format) (c .before .before .before .before .before .before .before .before .before .args .number) (c .before .before .before .before .before .before .before .before .before .args .address) (c .before .before .before .before .before .before .before .before .before .args .fields .now) _ (c .before .before .before .before .is-mc .ensures) (c .before .before .before .before .before .before .before .shared-slice-known2 .given 2 .fits) (c .before .before .before .before .before .before .before .shared-slice-known2 .given 3 .fits) _ _ (c .before .before .before .if1 .taken) (c .before .before .width .ensures) (c .before .valid-component .ensures) (not-true _ (c .if2 .taken))
+
+height-requires : tie.Need-height-requires
+height-requires c κs = search needs
+
+valid-component-requires-2 : tie.Need-valid-component-requires-2
+valid-component-requires-2 c κs = (omega arith, omega (arith, c .height .ensures, sides (c .before .before .before .before .before .before .before .before .before .before .args .format)))
+
+returns-2 : tie.Need-returns-2
+returns-2 c = vector-yes (c .before .before .before .before .before .before .before .before .before .before .before .args .format) (c .before .before .before .before .before .before .before .before .before .before .before .args .number) (c .before .before .before .before .before .before .before .before .before .before .before .args .address) (c .before .before .before .before .before .before .before .before .before .before .before .args .fields .now) _ (c .before .before .before .before .before .before .is-mc .ensures) (c .before .before .before .before .before .before .before .before .before .shared-slice-known2 .given 2 .fits) (c .before .before .before .before .before .before .before .before .before .shared-slice-known2 .given 3 .fits) _ _ _ _ (c .before .before .before .before .before .if1 .taken) (c .before .before .before .before .width .ensures) (c .before .before .before .valid-component .ensures) (not-false _ (c .before .before .if2 .left)) (c .before .height .ensures) (c .valid-component2 .ensures)
+
+returns-3 : tie.Need-returns-3
+returns-3 c = still-no (c .before .before .before .before .before .before .before .args .format) (c .before .before .before .before .before .before .before .args .number) (c .before .before .before .before .before .before .before .args .address) (c .before .before .before .before .before .before .before .args .fields .now) _ (c .before .before .is-mc .ensures) (c .before .if1 .left) (c .if3 .taken)
+
+returns-4 : tie.Need-returns-4
+returns-4 c = still-yes (c .before .before .before .before .before .before .before .args .format) (c .before .before .before .before .before .before .before .args .number) (c .before .before .before .before .before .before .before .args .address) (c .before .before .before .before .before .before .before .args .fields .now) _ (c .before .before .is-mc .ensures) (c .before .if1 .left) (c .if3 .left)
+
+pub valid-vector-spec : {M : Type 1} → statement M
+valid-vector-spec =
+    tie.close (tie.spec shared-slice-read-across shared-slice-read-down shared-slice-read-is-mc is-mc-requires sub-column mul-column sub-column-2 mul-column-2 add-column sub-row mul-row sub-row-2 mul-row-2 add-row width-requires valid-component-requires returns height-requires valid-component-requires-2 returns-2 returns-3 returns-4)

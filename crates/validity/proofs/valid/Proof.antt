@@ -1,0 +1,28 @@
+use native.Mathlib.Omega.{arith}
+use borrow.Author.Needs.{needs}
+use borrow.Author.Tests.{not-true, not-false}
+use Rattle.validity.proofs.Steps.{valid-lengths, valid-headed, valid-yes, long}
+use Rattle.validity.proofs.valid.Statement.{statement}
+use Rattle.validity.proofs.valid.Tie as tie
+
+lengths-requires : tie.Need-lengths-requires
+lengths-requires c κs = search needs
+
+returns : tie.Need-returns
+returns c = valid-lengths (c .before .before .before .before .before .args .format) (c .before .before .before .before .before .args .head .now) (c .before .before .before .before .before .args .macroblocks .now) (c .before .before .before .before .before .args .levels .now) _ (c .before .lengths .ensures) (not-true _ (c .if1 .taken))
+
+valid-head-requires : tie.Need-valid-head-requires
+valid-head-requires c κs = omega (arith, long (c .before .before .before .before .before .args .format) (c .before .before .before .before .before .args .head .now) (c .before .before .before .before .before .args .macroblocks .now) (c .before .before .before .before .before .args .levels .now) _ (c .before .lengths .ensures) (not-false _ (c .if1 .left)) .0)
+
+returns-2 : tie.Need-returns-2
+returns-2 c = valid-headed (c .before .before .before .before .before .before .before .args .format) (c .before .before .before .before .before .before .before .args .head .now) (c .before .before .before .before .before .before .before .args .macroblocks .now) (c .before .before .before .before .before .before .before .args .levels .now) _ (c .before .before .before .lengths .ensures) (not-false _ (c .before .before .if1 .left)) _ (c .before .valid-head .ensures) (not-true _ (c .if2 .taken))
+
+valid-groups-requires : tie.Need-valid-groups-requires
+valid-groups-requires c κs = long (c .before .before .before .before .before .before .before .args .format) (c .before .before .before .before .before .before .before .args .head .now) (c .before .before .before .before .before .before .before .args .macroblocks .now) (c .before .before .before .before .before .before .before .args .levels .now) _ (c .before .before .before .lengths .ensures) (not-false _ (c .before .before .if1 .left)) .1
+
+returns-3 : tie.Need-returns-3
+returns-3 c = valid-yes (c .before .before .before .before .before .before .before .before .args .format) (c .before .before .before .before .before .before .before .before .args .head .now) (c .before .before .before .before .before .before .before .before .args .macroblocks .now) (c .before .before .before .before .before .before .before .before .args .levels .now) _ (c .before .before .before .before .lengths .ensures) (not-false _ (c .before .before .before .if1 .left)) _ (c .before .before .valid-head .ensures) (not-false _ (c .before .if2 .left)) _ (c .valid-groups .ensures)
+
+pub valid-spec : {M : Type 1} → statement M
+valid-spec =
+    tie.close (tie.spec lengths-requires returns valid-head-requires returns-2 valid-groups-requires returns-3)
