@@ -9,3 +9,6 @@ pub mod Described
 pub mod LaidOut
 pub mod Pictured
 pub mod Relaid
+pub mod Fields
+pub mod ValidAt
+pub mod Moved

@@ -1,20 +1,20 @@
 -- Where the six blocks of a macroblock lie: every index of a store belongs to exactly one row and column of one block of one macroblock. Assumes nothing.
 use mathlib.Core.Path.{_≡_, refl, sym, ap, subst, _∙_}
-use mathlib.Core.Bool.{Bool, true, false}
+use mathlib.Core.Bool.{Bool}
 use Prim.Native.Nat.{ℕ, zero, suc, _+_, _*_, _/_, _%_, _-_, _≤_, _<_}
 use native.Mathlib.Nat.{add-mul, div-add-mod'}
 use native.Mathlib.Omega.{arith}
-use lib.Dec.{T, eqb}
+use lib.Dec.{eqb}
 use lib.ListN.{getD}
 use mir.Facts.{eqb-yes}
 use Rattle.laws.specs.Rows.{Room}
-use Rattle.laws.specs.Table.{allB, all-at}
+use Rattle.laws.specs.Table.{all-at}
 use Rattle.format.specs.declared.Format.{Format}
 use Rattle.format.specs.declared.Format.the-variants.{Qcif, Cif}
 use Rattle.format.specs.Format.{groupNumbers, groupCount, row, column, storeLength}
 use Rattle.format.specs.Place.{macroblocksAcross, macroblocksDown, side, blocksAcross, blocksDown, wide, high, base, index, own, blockOf, gridOf}
-use Rattle.format.specs.Order.{groupsAcross, macroblockCount, groupOf, addressOf, rowOf, columnOf, numberOf}
-use Rattle.format.specs.Grid.{count-is, index-size, Same, index-same, number-row, number-column, of-number, of-row, of-column, Spot, spot}
+use Rattle.format.specs.Order.{groupsAcross, macroblockCount, groupOf, addressOf, rowOf, columnOf, macroblockAt}
+use Rattle.format.specs.Grid.{index-size, Same, index-same, number-row, number-column, of-number, of-row, of-column, Spot, spot}
 
 -- block (y, x) is one of plane p
 pub record On (f : Format) (p y x : ℕ) : Type 0 where
@@ -88,7 +88,7 @@ pub record Belongs (f : Format) (k : ℕ) : Type 0 where
   pub column : j < 8
   pub is : k ≡ placeOf f n b i j
 
-number-less : (f : Format) (r c : ℕ) → r < macroblocksDown f → c < macroblocksAcross f → numberOf f r c < macroblockCount f
+pub number-less : (f : Format) (r c : ℕ) → r < macroblocksDown f → c < macroblocksAcross f → macroblockAt f r c < macroblockCount f
 number-less Qcif r c l m = omega arith
 number-less Cif r c l m = omega arith
 
@@ -110,7 +110,7 @@ block-column (suc p) y x e = absurd (omega arith)
 
 belongs-at : (f : Format) (k p y x i j : ℕ) → On f p y x → i < 8 → j < 8 → k ≡ index f p (y * 8 + i) (x * 8 + j) → Belongs f k
 belongs-at f k p y x i j o hi hj e = record {
-  n = numberOf f (own p y) (own p x);
+  n = macroblockAt f (own p y) (own p x);
   b = blockOf p y x;
   i = i;
   j = j;
@@ -127,10 +127,10 @@ belongs-at f k p y x i j o hi hj e = record {
     ep : blockOf p y x - 3 ≡ p
     ep = block-plane p y x
 
-    ey : gridOf (blockOf p y x - 3) (rowOf f (numberOf f (own p y) (own p x))) (blockOf p y x / 2 % 2) ≡ y
+    ey : gridOf (blockOf p y x - 3) (rowOf f (macroblockAt f (own p y) (own p x))) (blockOf p y x / 2 % 2) ≡ y
     ey = (λ u. gridOf (ep u) (number-row f (own p y) (own p x) hc u) (blockOf p y x / 2 % 2)) ∙ grid-back p y (blockOf p y x / 2 % 2) (own p y) refl (block-row p y x)
 
-    ex : gridOf (blockOf p y x - 3) (columnOf f (numberOf f (own p y) (own p x))) (blockOf p y x % 2) ≡ x
+    ex : gridOf (blockOf p y x - 3) (columnOf f (macroblockAt f (own p y) (own p x))) (blockOf p y x % 2) ≡ x
     ex = (λ u. gridOf (ep u) (number-column f (own p y) (own p x) hc u) (blockOf p y x % 2)) ∙ grid-back p x (blockOf p y x % 2) (own p x) refl (block-column p y x)
 
 -- the block that a sample is in
@@ -166,7 +166,7 @@ pub place-once : (f : Format) (n b i j m a k e : ℕ) → n < macroblockCount f 
     → placeOf f n b i j ≡ placeOf f m a k e → One n b i j m a k e
 place-once f n b i j m a k e hn hb hi hj hm ha hk he h =
     record {
-      macroblock = sym (of-number f n) ∙ (λ u. numberOf f (er u) (ec u)) ∙ of-number f m;
+      macroblock = sym (of-number f n) ∙ (λ u. macroblockAt f (er u) (ec u)) ∙ of-number f m;
       block = sym (P .number) ∙ (λ u. blockOf (s .plane u) (ry .0 u) (rx .0 u)) ∙ Q .number;
       row = ry .1;
       column = rx .1;

@@ -9,7 +9,7 @@ use Rattle.format.specs.declared.Format.{Format}
 use Rattle.format.specs.declared.Format.the-variants.{Qcif, Cif}
 use Rattle.format.specs.Format.{width, height, storeLength}
 use Rattle.format.specs.Place.{macroblocksAcross, macroblocksDown, wide, high, base, index}
-use Rattle.format.specs.Order.{macroblockCount, rowOf, columnOf, numberOf}
+use Rattle.format.specs.Order.{macroblockCount, rowOf, columnOf, macroblockAt}
 
 -- ---- the two ways to say a size
 pub width-is : (f : Format) → width f ≡ wide f 0
@@ -78,12 +78,12 @@ index-same f p y x q z v hy hx hz hv e = go (lt-or-ge p q) (lt-or-ge q p)
 split-number : (g a : ℕ) → a < 33 → ((g * 33 + a) / 33 ≡ g) × ((g * 33 + a) % 33 ≡ a)
 split-number g a h = (omega arith, omega arith)
 
-pub number-row : (f : Format) (r c : ℕ) → c < macroblocksAcross f → rowOf f (numberOf f r c) ≡ r
+pub number-row : (f : Format) (r c : ℕ) → c < macroblocksAcross f → rowOf f (macroblockAt f r c) ≡ r
 number-row Qcif r c q = omega arith
 number-row Cif r c q = omega arith
 
-pub number-column : (f : Format) (r c : ℕ) → c < macroblocksAcross f → columnOf f (numberOf f r c) ≡ c
-number-column Qcif r c q = omega (arith, split-number (r / 3 * 1 + c / 11) (r % 3 * 11 + c % 11) (omega arith), mod-one (numberOf Qcif r c / 33))
+pub number-column : (f : Format) (r c : ℕ) → c < macroblocksAcross f → columnOf f (macroblockAt f r c) ≡ c
+number-column Qcif r c q = omega (arith, split-number (r / 3 * 1 + c / 11) (r % 3 * 11 + c % 11) (omega arith), mod-one (macroblockAt Qcif r c / 33))
 number-column Cif r c q = omega (arith, split-number (r / 3 * 2 + c / 11) (r % 3 * 11 + c % 11) (omega arith))
 
 -- a group's place and a macroblock's place in it, put together and taken apart
@@ -93,7 +93,7 @@ parts a b h = (omega arith, omega arith)
 parts11 : (a b : ℕ) → b < 11 → ((a * 11 + b) / 11 ≡ a) × ((a * 11 + b) % 11 ≡ b)
 parts11 a b h = (omega arith, omega arith)
 
-pub of-number : (f : Format) (n : ℕ) → numberOf f (rowOf f n) (columnOf f n) ≡ n
+pub of-number : (f : Format) (n : ℕ) → macroblockAt f (rowOf f n) (columnOf f n) ≡ n
 of-number f n = go f
   where
     s-less : n % 33 / 11 < 3
@@ -105,7 +105,7 @@ of-number f n = go f
     join : (G q s t : ℕ) → s ≡ n % 33 / 11 → t ≡ n % 33 % 11 → (w : ℕ) → G * w + q ≡ n / 33 → (G * w + q) * 33 + (s * 11 + t) ≡ n
     join G q s t es et w e = omega arith
 
-    go : (f : Format) → numberOf f (rowOf f n) (columnOf f n) ≡ n
+    go : (f : Format) → macroblockAt f (rowOf f n) (columnOf f n) ≡ n
     go Qcif =
         let u = parts (n / 33 / 1) (n % 33 / 11) s-less in
         let v = parts11 (n / 33 % 1) (n % 33 % 11) t-less in

@@ -28,5 +28,5 @@ abbrev pub columnOf : Format → ℕ → ℕ
 columnOf f n = n / 33 % groupsAcross f * 11 + n % 33 % 11
 
 -- the number of the macroblock in row r, column c
-abbrev pub numberOf : Format → ℕ → ℕ → ℕ
-numberOf f r c = (r / 3 * groupsAcross f + c / 11) * 33 + (r % 3 * 11 + c % 11)
+abbrev pub macroblockAt : Format → ℕ → ℕ → ℕ
+macroblockAt f r c = (r / 3 * groupsAcross f + c / 11) * 33 + (r % 3 * 11 + c % 11)

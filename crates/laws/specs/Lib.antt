@@ -7,6 +7,7 @@ pub mod Table
 pub mod Zeros
 pub mod Block
 pub mod Rows
+pub mod Tabulate
 pub mod Linear
 pub mod Row
 pub mod Splice

@@ -1,7 +1,7 @@
 -- Rows of elements in a list: where they lie, and what a write of one row, or of rows a stride apart, leaves of the list: every element is fixed. Assumes nothing.
 use mathlib.Core.Path.{_≡_, refl, sym, ap, subst, _∙_}
 use mathlib.Core.Logic.{_≢_, _⊎_, inl, inr, ⊎-elim}
-use mathlib.Core.List.{List, []}
+use mathlib.Core.List.{List}
 use Prim.Native.Nat.{ℕ, zero, suc, _+_, _*_, _-_, _≤_, _<_, zero-le, suc-le-suc}
 use native.Mathlib.Nat.{suc-mul, mul-le-mul-right, eq-or-lt-of-le, le-antisymm}
 use native.Mathlib.Omega.{arith}
@@ -123,3 +123,31 @@ row-as a r = record { size = r .size; inside = λ j l. r .inside j l ∙ a j l; 
 
 pub put-as : {h w start stride : ℕ} {g e : ℕ → ℕ → ℕ} {s t : List ℕ} → ((i j : ℕ) → i < h → j < w → g i j ≡ e i j) → Put h w start stride g s t → Put h w start stride e s t
 put-as a r = record { size = r .size; inside = λ i j l m. r .inside i j l m ∙ a i j l m; outside = r .outside }
+
+-- ---- a list of m elements whose first n are what g says
+pub record Begins (m n : ℕ) (g : ℕ → ℕ) (r : List ℕ) : Type 0 where
+  pub size : length r ≡ m
+  pub first : (j : ℕ) → j < n → getD r j 0 ≡ g j
+
+pub begins-none : {m : ℕ} {g : ℕ → ℕ} {r : List ℕ} → length r ≡ m → Begins m 0 g r
+begins-none e = record { size = e; first = λ j l. absurd (none l) }
+
+-- one element more
+pub begins-more : {m n : ℕ} {g : ℕ → ℕ} {r : List ℕ} {a : ℕ} → Begins m n g r → n < m → a ≡ g n → Begins m (n + 1) g (set r n a)
+begins-more {m} {n} {g} {r} {a} h l e = record { size = length-set r n a ∙ h .size; first = λ j q. go j (eq-or-lt-of-le (at-most j q)) }
+  where
+    at-most : (j : ℕ) → j < n + 1 → j ≤ n
+    at-most j q = omega arith
+
+    apart : (j : ℕ) → j < n → j ≢ n
+    apart j q f = omega arith
+
+    inside : n < length r
+    inside = omega (arith, h .size)
+
+    go : (j : ℕ) → (j ≡ n) ⊎ (j < n) → getD (set r n a) j 0 ≡ g j
+    go j (inl f) = ap (λ (k : ℕ). getD (set r n a) k 0) f ∙ getD-set-same r n a 0 inside ∙ e ∙ ap g (sym f)
+    go j (inr q) = getD-set-other r n j a 0 (apart j q) ∙ h .first j q
+
+pub begins-end : {m n : ℕ} {g : ℕ → ℕ} {r : List ℕ} → Begins m n g r → m ≤ n → Begins m m g r
+begins-end {m} {n} h l = record { size = h .size; first = λ j q. h .first j (omega arith) }

@@ -1,5 +1,4 @@
-use mathlib.Core.Path.{_≡_, sym}
-use native.Mathlib.Omega.{arith}
+use mathlib.Core.Path.{sym}
 use Rattle.format.specs.Place.{wide}
 use Rattle.format.specs.Grid.{other-plane}
 use borrow.Author.Needs.{needs}

@@ -1,0 +1,101 @@
+use mathlib.Core.Path.{refl}
+use Prim.Native.Nat.{_+_, _*_}
+use native.Mathlib.Omega.{arith}
+use borrow.Author.Needs.{needs}
+use Rattle.transform.specs.Level.{bytesFrom}
+use Rattle.render.specs.declared.Prediction.the-variants.{Intra, Inter, Filtered}
+use Rattle.render.specs.Turn.{drawn, copied}
+use Rattle.render.specs.Zero.{empty-zero}
+use Rattle.transform.specs.Sample.{byte-sample}
+use Rattle.render.specs.Bounds.{samples-of, zeros-are, zeros-samples}
+use Rattle.render.proofs.block.draw.Statement.{statement}
+use Rattle.render.proofs.block.draw.Tie as tie
+
+enum-told : tie.Need-enum-told
+enum-told c = search needs
+
+output-requires : tie.Need-output-requires
+output-requires c κs = search needs
+
+put-requires : tie.Need-put-requires
+put-requires c κs = let s = c .before .before .before .before .before .before .before .before .before in (s .pre .0, s .pre .2, zeros-samples, c .before .before .before .output .ensures .1)
+
+enum-told-2 : tie.Need-enum-told-2
+enum-told-2 c = search needs
+
+empty-requires : tie.Need-empty-requires
+empty-requires c κs = search needs
+
+copy-eight-requires : tie.Need-copy-eight-requires
+copy-eight-requires c κs = search needs
+
+fetch-requires : tie.Need-fetch-requires
+fetch-requires c κs = search needs
+
+output-requires-2 : tie.Need-output-requires-2
+output-requires-2 c κs = search needs
+
+put-requires-2 : tie.Need-put-requires-2
+put-requires-2 c κs = let s = c .before .before .before .before .before .before .before .before .before .before .before .before in (s .pre .0, s .pre .2, samples-of (c .before .before .before .before .fetch .ensures) (λ i j. byte-sample _ (omega (arith, c .before .before .before .before .before .before .before .before .before .before .before .shared-slice-known .given (s .args .from + i * s .args .stride + j)))), c .before .before .before .output2 .ensures .1)
+
+enum-told-3 : tie.Need-enum-told-3
+enum-told-3 c = search needs
+
+filtered-requires : tie.Need-filtered-requires
+filtered-requires c κs = search needs
+
+difference-requires : tie.Need-difference-requires
+difference-requires c κs = search needs
+
+put-requires-3 : tie.Need-put-requires-3
+put-requires-3 c κs = let s = c .before .before .before .before .before .before .before .before .before .before in (s .pre .0, s .pre .2, c .before .before .before .before .filtered .ensures .1, c .before .before .before .difference .ensures .1)
+
+same-length : tie.Need-same-length
+same-length c = search needs
+
+returns : tie.Need-returns
+returns c = let s = c .before .before .before .before .before .before .before .before .before .before .before .before in drawn Intra (s .args .reference .now) (s .args .from) (bytesFrom (s .args .levels .now) (s .args .at)) (s .args .quantiser) (c .before .before .before .before .before .before .before .enum-told .given .1) (zeros-are _ (λ i j. refl)) (c .before .before .before .before .before .before .output .ensures .0) (c .before .before .put .ensures)
+
+same-length-2 : tie.Need-same-length-2
+same-length-2 c = search needs
+
+returns-2 : tie.Need-returns-2
+returns-2 c = let s = c .before .before .before .before .before .before .before .before .before .before .before in copied (s .args .reference .now) (s .args .from) (bytesFrom (s .args .levels .now) (s .args .at)) (s .args .quantiser) (c .before .before .before .before .before .before .enum-told2 .given .1) (λ n. omega (arith, c .before .before .before .before .before .before .before .before .before .before .shared-slice-known .given n)) (empty-zero (bytesFrom (s .args .levels .now) (s .args .at)) (c .before .before .before .before .before .empty .ensures) (c .before .before .before .before .if1 .taken)) (c .before .before .copy-eight .ensures)
+
+same-length-3 : tie.Need-same-length-3
+same-length-3 c = search needs
+
+returns-3 : tie.Need-returns-3
+returns-3 c = let s = c .before .before .before .before .before .before .before .before .before .before .before .before .before .before .before in drawn Inter (s .args .reference .now) (s .args .from) (bytesFrom (s .args .levels .now) (s .args .at)) (s .args .quantiser) (c .before .before .before .before .before .before .before .before .before .before .enum-told2 .given .1) (c .before .before .before .before .before .before .before .fetch .ensures) (c .before .before .before .before .before .before .output2 .ensures .0) (c .before .before .put2 .ensures)
+
+same-length-4 : tie.Need-same-length-4
+same-length-4 c = search needs
+
+returns-4 : tie.Need-returns-4
+returns-4 c = let s = c .before .before .before .before .before .before .before .before .before .before .before .before .before in drawn Filtered (s .args .reference .now) (s .args .from) (bytesFrom (s .args .levels .now) (s .args .at)) (s .args .quantiser) (c .before .before .before .before .before .before .before .before .enum-told3 .given .1) (c .before .before .before .before .before .before .before .filtered .ensures .0) (c .before .before .before .before .before .before .difference .ensures .0) (c .before .before .put3 .ensures)
+
+pub draw-spec : {M : Type 1} → statement M
+draw-spec =
+    tie.close
+    (tie.spec
+    enum-told
+    output-requires
+    put-requires
+    enum-told-2
+    empty-requires
+    copy-eight-requires
+    fetch-requires
+    output-requires-2
+    put-requires-2
+    enum-told-3
+    filtered-requires
+    difference-requires
+    put-requires-3
+    same-length
+    returns
+    same-length-2
+    returns-2
+    same-length-3
+    returns-3
+    same-length-4
+    returns-4)

@@ -1,0 +1,108 @@
+use Prim.Native.Nat.{ℕ, _+_, _*_, _-_, _≤_}
+use native.Mathlib.Omega.{arith}
+use borrow.Author.Needs.{needs}
+use lib.IntN.{pos}
+use mir.Syntax.{w32}
+use mir.Val.{SFits}
+use mir.Facts.{toZ-pos}
+use Rattle.laws.specs.Integer.{low-fits}
+use Rattle.laws.specs.Block.{Done, shape-fill, done-none, done-more, done-row, done-all}
+use Rattle.render.specs.Turn.{blockFrom}
+use Rattle.render.proofs.parts.fetch.Statement.{statement}
+use Rattle.render.proofs.parts.fetch.Tie as tie
+
+byte-fits : (n : ℕ) → n ≤ 255 → SFits w32 (pos n)
+byte-fits n l = low-fits {m = 255} tt (record { low = l })
+
+abbrev Inv-loop2 : tie.InvT-loop2
+Inv-loop2 samples start stride block₀ i at j₀ block j = (j ≤ 8) × Done (pos 0) (blockFrom samples start stride) (i * 8 + j) block
+
+abbrev μ-loop2 : tie.MeasureT-loop2
+μ-loop2 samples start stride block₀ i at j₀ block j = 8 - j
+
+abbrev Inv-loop : tie.InvT-loop
+Inv-loop samples start stride block₀ i₀ block i = (i ≤ 8) × Done (pos 0) (blockFrom samples start stride) (i * 8 + 0) block
+
+abbrev μ-loop : tie.MeasureT-loop
+μ-loop samples start stride block₀ i₀ block i = 8 - i
+
+loop-holds : tie.Need-loop-holds Inv-loop2 μ-loop2 Inv-loop μ-loop
+loop-holds c = (search needs, done-none (pos 0) _ (shape-fill (pos 0)))
+
+mul-at : tie.Need-mul-at Inv-loop2 μ-loop2 Inv-loop μ-loop
+mul-at c = omega (arith, c .before .before .pre (c .before .loop .i) (search needs))
+
+add-at : tie.Need-add-at Inv-loop2 μ-loop2 Inv-loop μ-loop
+add-at c = omega (arith, c .before .before .pre (c .before .loop .i) (search needs))
+
+loop2-holds : tie.Need-loop2-holds Inv-loop2 μ-loop2 Inv-loop μ-loop
+loop2-holds c = (search needs, c .before .loop .inv .1)
+
+add-block : tie.Need-add-block Inv-loop2 μ-loop2 Inv-loop μ-loop
+add-block c = omega (arith, c .before .before .before .before .pre (c .before .before .before .loop .i) (search needs))
+
+shared-slice-read-block : tie.Need-shared-slice-read-block Inv-loop2 μ-loop2 Inv-loop μ-loop
+shared-slice-read-block c = omega (arith, c .before .before .before .before .before .pre (c .before .before .before .before .loop .i) (search needs))
+
+cast-block : tie.Need-cast-block Inv-loop2 μ-loop2 Inv-loop μ-loop
+cast-block c = let s = c .before .before .before .before .before in byte-fits _ (omega (arith, c .shared-slice-known .given (s .args .start + c .before .before .before .before .loop .i * s .args .stride + c .before .before .loop2 .j)))
+
+mul-t16 : tie.Need-mul-t16 Inv-loop2 μ-loop2 Inv-loop μ-loop
+mul-t16 c = search needs
+
+mul-t19 : tie.Need-mul-t19 Inv-loop2 μ-loop2 Inv-loop μ-loop
+mul-t19 c = search needs
+
+index-1-block : tie.Need-index-1-block Inv-loop2 μ-loop2 Inv-loop μ-loop
+index-1-block c = search needs
+
+index-2-block : tie.Need-index-2-block Inv-loop2 μ-loop2 Inv-loop μ-loop
+index-2-block c = search needs
+
+add-j : tie.Need-add-j Inv-loop2 μ-loop2 Inv-loop μ-loop
+add-j c = search needs
+
+loop2-less : tie.Need-loop2-less Inv-loop2 μ-loop2 Inv-loop μ-loop
+loop2-less c = search needs
+
+loop2-again : tie.Need-loop2-again Inv-loop2 μ-loop2 Inv-loop μ-loop
+loop2-again c = let s = c .before .before .before .before .before in (search needs, done-more (pos 0) _ _ _ _ (c .before .before .loop2 .inv .1) (search needs) (search needs) (toZ-pos w32 (omega (arith, c .shared-slice-known .given (s .args .start + c .before .before .before .before .loop .i * s .args .stride + c .before .before .loop2 .j)))))
+
+add-i : tie.Need-add-i Inv-loop2 μ-loop2 Inv-loop μ-loop
+add-i c = search needs
+
+loop-less : tie.Need-loop-less Inv-loop2 μ-loop2 Inv-loop μ-loop
+loop-less c = search needs
+
+loop-again : tie.Need-loop-again Inv-loop2 μ-loop2 Inv-loop μ-loop
+loop-again c = (search needs, done-row (pos 0) _ _ _ (c .before .loop2 .inv .1) (search needs))
+
+returns : tie.Need-returns Inv-loop2 μ-loop2 Inv-loop μ-loop
+returns c = done-all (pos 0) _ _ (c .before .loop .inv .1) (search needs)
+
+pub fetch-spec : {M : Type 1} → statement M
+fetch-spec =
+    tie.close
+    (tie.spec
+    Inv-loop2
+    μ-loop2
+    Inv-loop
+    μ-loop
+    loop-holds
+    mul-at
+    add-at
+    loop2-holds
+    add-block
+    shared-slice-read-block
+    cast-block
+    mul-t16
+    mul-t19
+    index-1-block
+    index-2-block
+    add-j
+    loop2-less
+    loop2-again
+    add-i
+    loop-less
+    loop-again
+    returns)

@@ -1,0 +1,62 @@
+use Prim.Native.Nat.{_-_, _≤_}
+use native.Mathlib.Omega.{arith}
+use borrow.Author.Needs.{needs}
+use lib.IntN.{pos}
+use Rattle.laws.specs.Rows.{Put, put-none, put-more, put-end, row-as}
+use Rattle.laws.specs.Block.{cell}
+use Rattle.transform.specs.Sample.{sampleOf}
+use Rattle.render.proofs.parts.put.Statement.{statement}
+use Rattle.render.proofs.parts.put.Tie as tie
+
+abbrev Inv-loop : tie.InvT-loop
+Inv-loop store₀ to stride prediction difference i₀ store i = (i ≤ 8) × Put i 8 to stride (λ k j. sampleOf (cell (pos 0) prediction k j) (cell (pos 0) difference k j)) store₀ store
+
+abbrev μ-loop : tie.MeasureT-loop
+μ-loop store₀ to stride prediction difference i₀ store i = 8 - i
+
+loop-holds : tie.Need-loop-holds Inv-loop μ-loop
+loop-holds c = (search needs, put-none)
+
+sums-requires : tie.Need-sums-requires Inv-loop μ-loop
+sums-requires c κs = let s = c .before .before .before in (s .pre .2, s .pre .3, search needs)
+
+mul-put-eight : tie.Need-mul-put-eight Inv-loop μ-loop
+mul-put-eight c = omega (arith, c .before .before .before .before .before .pre .1 (c .before .before .before .loop .i) (search needs))
+
+add-put-eight : tie.Need-add-put-eight Inv-loop μ-loop
+add-put-eight c = omega (arith, c .before .before .before .before .before .pre .1 (c .before .before .before .loop .i) (search needs))
+
+put-eight-requires : tie.Need-put-eight-requires Inv-loop μ-loop
+put-eight-requires c κs = omega (arith, c .before .before .before .before .before .pre .1 (c .before .before .before .loop .i) (search needs), c .before .before .before .loop .inv .1 .size)
+
+add-i : tie.Need-add-i Inv-loop μ-loop
+add-i c = search needs
+
+loop-less : tie.Need-loop-less Inv-loop μ-loop
+loop-less c = search needs
+
+loop-again : tie.Need-loop-again Inv-loop μ-loop
+loop-again c = (search needs, put-more (c .before .before .before .before .before .before .before .before .pre .0) (c .before .before .before .before .before .before .loop .inv .1) (row-as (λ j l. c .before .before .before .before .sums .ensures .first j l) (c .before .before .put-eight .ensures)))
+
+same-length : tie.Need-same-length Inv-loop μ-loop
+same-length c = search needs
+
+returns : tie.Need-returns Inv-loop μ-loop
+returns c = put-end (c .before .loop .inv .1) (search needs) (search needs)
+
+pub put-spec : {M : Type 1} → statement M
+put-spec =
+    tie.close
+    (tie.spec
+    Inv-loop
+    μ-loop
+    loop-holds
+    sums-requires
+    mul-put-eight
+    add-put-eight
+    put-eight-requires
+    add-i
+    loop-less
+    loop-again
+    same-length
+    returns)
