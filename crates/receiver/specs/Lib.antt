@@ -3,3 +3,5 @@ pub mod Receive
 pub mod Answered
 pub mod Shown
 pub mod Run
+pub mod H261
+pub mod Laws

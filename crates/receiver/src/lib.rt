@@ -6,6 +6,15 @@ use stores::Holder;
 use vault::Header;
 ghost use mathlib.Core.Path.{_≡_};
 ghost use Prim.Native.Nat.{_<_, _≤_};
+ghost use lib.Dec.{T};
+ghost use lib.ListN.{length};
+ghost use Rattle.format.specs.Format.{storeLength};
+ghost use Rattle.description.specs.Valid.{valid};
+ghost use Rattle.description.specs.Fields.{flat};
+ghost use Rattle.receiver.specs.Coding.{accepted};
+ghost use Rattle.receiver.specs.H261.{h261};
+ghost use Rattle.receiver.specs.Laws.{Settles};
+ghost use Rattle.receiver.specs.Receive.{alike, ended, received as receivedOf};
 ghost use lib.Dec.{eqb};
 ghost use Rattle.laws.specs.Choice.{both, opposite};
 ghost use Rattle.refusals.specs.Number.{number};
@@ -262,6 +271,67 @@ fn named(format: Format, collection: usize, first: usize, second: usize) -> bool
         return stores::sized(format, first, second);
     }
     false
+}
+
+// ---- a last part
+
+fn agree(a: bool, b: bool) -> bool
+    ensures { λ r. ⌜ r ≡ alike a b ⌝ }
+{
+    if a {
+        return b;
+    }
+    if b {
+        return false;
+    }
+    true
+}
+
+// Its picture is refused.
+fn failed(receiver: Receiver, header: Header, why: Refusal) -> Received
+    requires { ⌜ header .picture < 4096 ⌝ }
+    ensures { λ r. ⌜ r ≡ receivedOf (Answer.Refused why) (failing receiver header) ⌝ }
+{
+    let next = fail(receiver, header);
+    Received {
+        answer: Answer::Refused(why),
+        next,
+    }
+}
+
+// Its picture is accepted: the mark is judged before a sample is written.
+fn settle(
+    receiver: Receiver,
+    header: Header,
+    head: &[u8],
+    macroblocks: &[u8],
+    levels: &[u8],
+    first: &mut [u8],
+    second: &mut [u8],
+) -> Received
+    requires { ⌜ (header .picture < 4096) × (T (valid (receiver .format) (flat (now head) (now macroblocks) (now levels)))) × (length (now first) ≡ storeLength (receiver .format)) × (length (now second) ≡ storeLength (receiver .format)) ⌝ }
+    ensures { λ r. ⌜ Settles h261 receiver (stores (now (first .entry)) (now (second .entry))) (ended h261 receiver header (accepted (flat (now (head .entry)) (now (macroblocks .entry)) (now (levels .entry))))) r (stores (now (first .exit)) (now (second .exit))) ⌝ }
+{
+    let format = receiver.format;
+    let holder = receiver.holder;
+    let marked = mark(receiver, header);
+    let refreshed = stores::is_refresh(format, macroblocks);
+    if agree(refreshed, marked) {
+        stores::keep(format, holder, head, macroblocks, levels, first, second);
+        let next = succeed(receiver, header);
+        return Received {
+            answer: Answer::Picture(header.picture),
+            next,
+        };
+    }
+    failed(
+        receiver,
+        header,
+        Refusal {
+            reason: Reason::UntrueMark,
+            place: 0,
+        },
+    )
 }
 
 // ---- what is shown
