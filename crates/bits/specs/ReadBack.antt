@@ -1,4 +1,4 @@
--- Bits that were written are read back, whatever follows them and wherever they stand: one law for each way to read. Assumes nothing.
+-- Bits that were written are read back, whatever follows them and wherever they stand: one law for each way to read. A codeword's own law is `word-back` (Codes.antt). Assumes nothing.
 use mathlib.Core.Path.{_≡_, sym, ap, _∙_}
 use mathlib.Core.Bool.{true}
 use mathlib.Core.List.{List, [], _++_, append-assoc}
@@ -8,8 +8,8 @@ use native.Mathlib.Omega.{arith}
 use lib.Dec.{T}
 use lib.ListN.{length, length-append}
 use Rattle.bits.specs.Bits.{Bit, bitsOf}
-use Rattle.bits.specs.Read.{got, Reader, _>>=_, done, field, Judged, fine, judged, whole, loop}
-use Rattle.bits.specs.Code.{Entry, word, wordOf, has}
+use Rattle.bits.specs.Read.{got, Reader, _>>=_, done, field, Judged, fine, judged, loop}
+use Rattle.bits.specs.Code.{Entry, wordOf, has}
 use Rattle.bits.specs.Fields.{length-bitsOf, field-back}
 use Rattle.bits.specs.Codes.{free, each, word-got, word-back}
 
@@ -24,9 +24,6 @@ module _ {A : Type 0} where
   pub back-judged : {B : Type 0} {r : Reader A} {w rest : List Bit} {a : A} (rule : A → Judged B) (b : B) → Back r w rest a → rule a ≡ fine b
       → Back (judged r rule) w rest b
   back-judged rule b h e = record { reads = λ at. rw (h .reads at, e) }
-
-  pub back-whole : {r : Reader A} {w rest : List Bit} {a : A} → Back r w rest a → Back (whole r) w rest a
-  back-whole h = record { reads = λ at. rw (h .reads at) }
 
   pub back-next : {B : Type 0} {r : Reader A} {w v rest : List Bit} {a : A} {b : B} (k : A → Reader B) → Back r w (v ++ rest) a → Back (k a) v rest b
       → Back (r >>= k) (w ++ v) rest b
@@ -51,13 +48,9 @@ module _ {A : Type 0} where
 pub back-field : (k x : ℕ) (rest : List Bit) → x < 2 ^ k → Back (field k) (bitsOf k x) rest x
 back-field k x rest l = record { reads = λ at. field-back k x rest at l ∙ ap (λ (n : ℕ). got x rest (at + n)) (sym (length-bitsOf k x)) }
 
-module _ (tab : List Entry) (m : ℕ) (isFree : T (free tab)) (meant : T (has tab m)) where
-  pub back-word : (rest : List Bit) → Back (word tab) (wordOf tab m) rest m
-  back-word rest = record { reads = λ at. word-back tab m rest at isFree meant }
-
-  -- a codeword has a bit at least
-  pub length-word : T (each (λ m. true) tab) → 1 ≤ length (wordOf tab m)
-  length-word t =
-      let w = wordOf tab m in
-      let d = word-got (λ m. true) tab (w ++ []) 0 m [] (0 + length w) t (word-back tab m [] 0 isFree meant) in
-      omega (arith, d .after)
+-- a codeword has a bit at least
+pub length-word : (tab : List Entry) (m : ℕ) → T (each (λ m. true) tab) → T (free tab) → T (has tab m) → 1 ≤ length (wordOf tab m)
+length-word tab m t a h =
+    let w = wordOf tab m in
+    let d = word-got (λ m. true) tab (w ++ []) 0 m [] (0 + length w) t (word-back tab m [] 0 a h) in
+    omega (arith, d .after)

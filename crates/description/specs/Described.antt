@@ -14,13 +14,12 @@ use Rattle.laws.specs.Choice.{both-left}
 use Rattle.laws.specs.Integer.{Low, back}
 use Rattle.laws.specs.Zeros.{zeros, length-zeros}
 use Rattle.words.specs.Words.{coefficient, isMC}
-use Rattle.words.specs.Reads.{isCode}
 use Rattle.format.specs.Format.{groupNumbers}
 use Rattle.format.specs.declared.Format.{Format}
 use Rattle.description.specs.Vector.{Vector, zeroVector}
 use Rattle.description.specs.Value.{Block, Macroblock, Group, Picture}
 use Rattle.description.specs.Flat.{byteOf, numberOf, fieldsOf, laid, gather, gathers, macroblocksIn, groupsIn, pictureIn}
-use Rattle.description.specs.Proper.{If, Each, Fits, ProperVector, ProperMacroblock, Rising, ProperGroups, Proper}
+use Rattle.description.specs.Proper.{If, Each, isCode, Fits, ProperVector, ProperMacroblock, Rising, ProperGroups, Proper}
 use Rattle.description.specs.Walk.{walk-none, walk-more}
 use Rattle.description.specs.Spread.{spread, spreads, length-spread, rows, length-rows, storeFields, storeLevels, levelsOf, fields-written, levels-written, length-levels, columns, gquants, laid-spread}
 

@@ -16,14 +16,13 @@ use Rattle.laws.specs.Choice.{pick, both, either, opposite, both-left, both-rig
 use Rattle.laws.specs.Integer.{Low, low-fits, back}
 use Rattle.laws.specs.Zeros.{zeros}
 use Rattle.words.specs.Words.{Coefficient, isIntra, isMC, hasMQUANT, hasCBP, forbidden}
-use Rattle.words.specs.Reads.{isCode}
 use Rattle.format.specs.Format.{formatBit, groupCount, groupNumbers}
 use Rattle.format.specs.declared.Format.{Format}
 use Rattle.description.specs.Vector.{Vector, zeroVector, inRange, inPicture}
 use Rattle.description.specs.Value.{Block, Macroblock, Group, Picture}
 use Rattle.description.specs.Flat.{Flat, byteOf, fieldsOf, laid}
 use Rattle.description.specs.Valid.{all, isZero, isQuantiser, isLevel, codesFirst, vectorIn, validVector, validLevels, validMacroblock, validMacroblocks, validGroups, lengthsOf, validHead, valid}
-use Rattle.description.specs.Proper.{If, Each, Fits, Begins, allEmpty, ProperBlocks, ProperVector, ProperMacroblock, Rising, ProperGroups, Proper}
+use Rattle.description.specs.Proper.{If, Each, isCode, Fits, Begins, allEmpty, ProperBlocks, ProperVector, ProperMacroblock, Rising, ProperGroups, Proper}
 use Rattle.description.specs.Walk.{walk-none, walk-more}
 use Rattle.description.specs.Described.{small-vector}
 use Rattle.description.specs.Spread.{Writes, spread, spreads, length-spread, rows, length-rows, storeFields, storeLevels, levelsOf, fields-written, levels-written, length-levels, columns, gquants, flat, groups-length, as-many, laid-spread}

@@ -10,6 +10,7 @@ use lib.ListN.{length, getD, take, drop, length-take, length-drop}
 use lib.Seq.{getD-take, take-take, take-nil}
 use Rattle.laws.specs.Choice.{pick, both, either, opposite, both-left, both-right, both-make}
 use Rattle.words.specs.Words.{isIntra, isMC, hasMQUANT, hasCBP}
+use Rattle.words.specs.Reads.{isCode}
 use Rattle.format.specs.Format.{formatBit, groupCount, groupNumbers}
 use Rattle.format.specs.declared.Format.{Format}
 use Rattle.format.specs.declared.Format.the-variants.{Qcif, Cif}

@@ -7,7 +7,7 @@ use lib.Dec.{T}
 use lib.ListN.{length}
 use Rattle.laws.specs.Choice.{opposite}
 use Rattle.words.specs.Words.{isIntra, isMC, hasMQUANT, hasCBP}
-use Rattle.words.specs.Reads.{isCode}
+pub use Rattle.words.specs.Reads.{isCode}
 use Rattle.format.specs.Format.{groupNumbers}
 use Rattle.format.specs.declared.Format.{Format}
 use Rattle.description.specs.Vector.{Vector, zeroVector, inRange, inPicture}

@@ -48,7 +48,8 @@ abbrev pub atStart : Before
 atStart = record { address = 0; vector = zeroVector }
 
 -- "The preceding vector counts as zero at macroblocks 1, 12, 23, where MBA isn't a step of 1 or is the group's first, and after a macroblock that isn't MC."
+abbrev pub restarts : ℕ → ℕ → Bool
+restarts address step = either (oneOf (1 ∷ 12 ∷ 23 ∷ []) (address + step)) (either (opposite (eqb step 1)) (eqb address 0))
+
 abbrev pub preceding : Before → ℕ → Vector
-preceding before step =
-    pick (either (oneOf (1 ∷ 12 ∷ 23 ∷ []) (before .address + step)) (either (opposite (eqb step 1)) (eqb (before .address) 0)))
-    zeroVector (before .vector)
+preceding before step = pick (restarts (before .address) step) zeroVector (before .vector)

@@ -16,12 +16,13 @@ use Rattle.bits.specs.Code.{Entry, word, wordOf}
 use Rattle.bits.specs.ReadBack.{Back, back-done, back-next, back-end, back-judged, back-loop, back-field}
 use Rattle.words.specs.Tables.{table4, pairs, firstTable5, laterTable5}
 use Rattle.words.specs.Words.{isIntra, hasCBP, Coefficient, coefficient, sent, over, forbidden, coefficientRead, tcoeffOf}
-use Rattle.words.specs.WordsBack.{back-table4, back-first, back-later, back-over, length-coefficient}
 use Rattle.words.specs.Reads.{isCode}
+use Rattle.words.specs.Back.{Sendable}
 use Rattle.description.specs.Value.{Block}
 use Rattle.description.specs.Proper.{If, Each, Fits, Begins, allEmpty, ProperBlocks}
 use Rattle.reader.specs.Grammar.{optional, fits, coefficientsAfter, coefficients, dcRead, intraBlock, interBlock, blocksRead, patternRead}
 use Rattle.writer.specs.Write.{given, coefficientsOf, blockOf, blocksOf, present, patternOf}
+use Rattle.readback.specs.Words.{back-cbp, back-first, back-later, back-over, length-coefficient}
 
 -- ---- one block
 code-small : (code : ℕ) → T (isCode code) → code < 256
@@ -33,6 +34,9 @@ code-allowed code t = go (forbidden code) (both-right (leb code 255) (opposite (
     go : (b : Bool) → T (opposite b) → b ≡ false
     go true t = absurd t
     go false t = refl
+
+sendable : (c : Coefficient) → c .run ≤ 63 → T (isCode (c .code)) → Sendable c
+sendable c l t = record { run = l; byte = code-small (c .code) t; level = code-allowed (c .code) t }
 
 -- each coefficient has a bit at least, and EOB has two
 more-bits : (cs : Block) → length cs < length (coefficientsOf cs)
@@ -60,7 +64,7 @@ back-coefficients [] (suc turns) room rest l r p =
     back-end (coefficientsAfter (λ left. coefficients turns left laterTable5) room) (back-judged (fits room) over (back-over rest) refl) refl
 back-coefficients (c ∷ cs) (suc turns) room rest l r p =
     one-more laterTable5 (tcoeffOf laterTable5 c) c cs turns room rest
-    (back-later c (coefficientsOf cs ++ rest) (omega (arith, p .0)) (code-small (c .code) (p .1)) (code-allowed (c .code) (p .1))) (p .0)
+    (back-later c (coefficientsOf cs ++ rest) (sendable c (omega (arith, p .0)) (p .1))) (p .0)
     (back-coefficients cs turns (room - suc (c .run)) rest (omega arith) (omega arith) (p .2))
 
 back-inter : (c : Coefficient) (cs : Block) (rest : List Bit) → Fits 64 (c ∷ cs) → Back interBlock (blockOf false (c ∷ cs)) rest (c ∷ cs)
@@ -68,7 +72,7 @@ unfolding interBlock
 back-inter c cs rest p =
     let w = tcoeffOf firstTable5 c in
     back-loop (λ turns. coefficients turns 64 firstTable5) (λ n l.
-    one-more firstTable5 w c cs n 64 rest (back-first c (coefficientsOf cs ++ rest) (p .0) (code-small (c .code) (p .1)) (code-allowed (c .code) (p .1))) (p .0)
+    one-more firstTable5 w c cs n 64 rest (back-first c (coefficientsOf cs ++ rest) (sendable c (omega (arith, p .0)) (p .1))) (p .0)
     (back-coefficients cs n (64 - suc (c .run)) rest (omega (arith, length-append w (coefficientsOf cs), more-bits cs)) (omega arith) (p .2)))
 
 back-dc : (code : ℕ) (rest : List Bit) → T (isCode code) → Back dcRead (bitsOf 8 code) rest code
@@ -199,7 +203,7 @@ module _ (type : ℕ) (bs : List Block) (rest : List Bit) (p : ProperBlocks type
       full h = let e : 2 ^ length bs ≡ 64 = ap (λ (n : ℕ). 2 ^ n) (p .six) in omega (arith, pattern-full bs h)
 
       go : (i c : Bool) → Coded i c bs → Back (optional c (pick i 63 0) (word table4)) (given c (wordOf table4 (patternOf bs))) rest (patternOf bs)
-      go true true h = back-table4 (patternOf bs) rest (omega (arith, full h)) most
+      go true true h = back-cbp (patternOf bs) rest (omega (arith, full h)) most
       go true false h = rw (full h) (back-done 63 rest)
-      go false true h = back-table4 (patternOf bs) rest (pattern-some bs h) most
+      go false true h = back-cbp (patternOf bs) rest (pattern-some bs h) most
       go false false h = rw (pattern-none bs h) (back-done 0 rest)

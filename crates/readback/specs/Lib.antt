@@ -1,3 +1,4 @@
+pub mod Words
 pub mod Blocks
 pub mod Vectors
 pub mod Macroblocks

@@ -15,7 +15,6 @@ use Rattle.bits.specs.Code.{word, wordOf}
 use Rattle.bits.specs.ReadBack.{Back, back-done, back-next, back-end, back-as, back-judged, back-field}
 use Rattle.words.specs.Tables.{table1, table2, table4, startCode}
 use Rattle.words.specs.Words.{isIntra, isMC, hasMQUANT, hasCBP}
-use Rattle.words.specs.WordsBack.{back-table1, length-table1, back-table2}
 use Rattle.format.specs.declared.Format.{Format}
 use Rattle.description.specs.Vector.{Before, preceding}
 use Rattle.description.specs.Value.{Macroblock, after}
@@ -23,6 +22,7 @@ use Rattle.description.specs.Valid.{isQuantiser}
 use Rattle.description.specs.Proper.{If, ProperMacroblock, Rising}
 use Rattle.reader.specs.Grammar.{quantiser, optional, macroblock, step, ended, mbaOf, mba, macroblocksAfter, macroblocksFrom}
 use Rattle.writer.specs.Write.{given, vectorOf, patternOf, blocksOf, macroblockOf, macroblocksOf}
+use Rattle.readback.specs.Words.{back-mba, length-mba, back-mtype}
 use Rattle.readback.specs.Blocks.{back-blocks, back-pattern}
 use Rattle.readback.specs.Vectors.{Pointed, Ranged, ranged-vector, back-vector}
 
@@ -64,7 +64,7 @@ module _ (f : Format) (number : ℕ) (before : Before) (m : Macroblock) (l : bef
       let points : Pointed f number (before .address + stepTo) (isMC (m .type)) (m .vector) = rw steps (p .pointed) in
       let least = leb→le 1 (m .type) (both-left (leb 1 (m .type)) (leb (m .type) 10) (p .typed)) in
       let most = leb→le (m .type) 10 (both-right (leb 1 (m .type)) (leb (m .type) 10) (p .typed)) in
-      back-next _ (back-table2 (m .type) _ least most)
+      back-next _ (back-mtype (m .type) _ least most)
       (back-next _ (back-mquant (hasMQUANT (m .type)) (m .mquant) _ (p .quantised))
       (back-next _ (back-vector f number (before .address + stepTo) (isMC (m .type)) before stepTo (m .vector) _ r points)
       (back-next _ (back-pattern (m .type) (m .blocks) _ (p .blocked))
@@ -80,15 +80,15 @@ module _ (address s : ℕ) (rest : List Bit) (some : 0 < s) (in-group : address 
   is-step last = rw (ne-eqb s 34 (λ e. omega arith), ne-eqb s 35 (λ e. omega arith), le-ltb 33 (address + s) in-group)
 
   back-step : (last : Bool) → Back (judged (word table1) (mbaOf last address)) (wordOf table1 s) rest (step s)
-  back-step last = back-judged (mbaOf last address) (step s) (back-table1 s rest some (omega arith)) (is-step last)
+  back-step last = back-judged (mbaOf last address) (step s) (back-mba s rest some (omega arith)) (is-step last)
 
-  back-mba : (last : Bool) → Back (mba last address) (wordOf table1 s) rest (step s)
+  back-place : (last : Bool) → Back (mba last address) (wordOf table1 s) rest (step s)
   unfolding mba
-  back-mba true =
+  back-place true =
       let w = wordOf table1 s in
-      let l : 1 ≤ length w = length-table1 s some (omega arith) in
+      let l : 1 ≤ length w = length-mba s some (omega arith) in
       record { reads = λ at. not-ended ended (judged (word table1) (mbaOf true address)) (w ++ rest) at (omega (arith, length-append w rest)) ∙ back-step true .reads at }
-  back-mba false = back-step false
+  back-place false = back-step false
 
 -- what ends a group: nothing in the last one, else the next start code
 abbrev pub ending : Bool → List Bit
@@ -102,7 +102,7 @@ Ending false rest = Unit {0}
 
 back-start : (rest : List Bit) → Back (word table1) (bitsOf 16 0b0000000000000001) rest startCode
 unfolding wordOf table1
-back-start rest = back-table1 startCode rest (lit< tt) (lit≤ tt)
+back-start rest = back-mba startCode rest (lit< tt) (lit≤ tt)
 
 back-ended : (last : Bool) (address : ℕ) (rest : List Bit) → Ending last rest → Back (mba last address) (ending last) rest ended
 unfolding mba
@@ -127,7 +127,7 @@ back-macroblocks (m ∷ ms) (suc turns) f last number before rest l p r e =
     (ranged-vector f number (m .address) (isMC (m .type)) (m .vector) (p .2 .pointed)) e in
     back-as (regroup (wordOf table1 s) (bodyOf before m) (macroblocksOf (after m) ms) (ending last))
     (back-next (macroblocksAfter (macroblocksFrom turns f last number) f number before)
-    (back-mba (before .address) s ((bodyOf before m ++ v) ++ rest) (omega (arith, p .0)) (omega (arith, p .0, p .1)) last)
+    (back-place (before .address) s ((bodyOf before m ++ v) ++ rest) (omega (arith, p .0)) (omega (arith, p .0, p .1)) last)
     (back-next _ (back-body f number before m (p .0) (p .2) r (v ++ rest)) (back-end _ more refl)))
 
 -- each has a bit at least
@@ -138,6 +138,6 @@ more-bits f number before [] p = lit≤ tt
 more-bits f number before (m ∷ ms) p =
     let s = m .address - before .address in
     let w = wordOf table1 s in
-    let h = length-table1 s (omega (arith, p .0)) (omega (arith, p .0, p .1)) in
+    let h = length-mba s (omega (arith, p .0)) (omega (arith, p .0, p .1)) in
     let g = more-bits f number (after m) ms (p .3) in
     omega (arith, length-append (w ++ bodyOf before m) (macroblocksOf (after m) ms), length-append w (bodyOf before m))

@@ -3,22 +3,21 @@ use mathlib.Core.Path.{_≡_, refl, ap}
 use mathlib.Core.List.{List, [], _∷_, _++_}
 use mathlib.Core.Bool.{Bool, true, false}
 use Prim.Native.Nat.{ℕ, suc, _+_, _%_}
-use native.Mathlib.Nat.{mod-lt}
 use native.Mathlib.Omega.{arith}
-use lib.Dec.{T, eqb, leb→le, lit<}
+use lib.Dec.{T, eqb, leb→le}
 use lib.IntN.{ℤ, pos, negsuc, natAbs, _+ℤ_, _-ℤ_}
 use Rattle.laws.specs.Choice.{pick, both, either, opposite, oneOf, both-left, both-right, T-true}
 use Rattle.laws.specs.Table.{allB, all-at, eqZ, eqZ-yes}
 use Rattle.bits.specs.Bits.{Bit}
 use Rattle.bits.specs.Read.{Judged, fine, against}
 use Rattle.bits.specs.ReadBack.{Back, back-done, back-next, back-end, back-judged}
-use Rattle.words.specs.WordsBack.{back-table3}
 use Rattle.format.specs.declared.Format.{Format}
 use Rattle.description.specs.Vector.{Vector, zeroVector, inRange, inPicture, Before, preceding}
 use Rattle.description.specs.Proper.{If, ProperVector}
 use Rattle.reader.specs.Vector.{pairOf, component, componentRead, componentsRead, pointing, vectorRead}
 use Rattle.reader.specs.Grammar.{optional}
 use Rattle.writer.specs.Write.{given, componentOf, vectorOf}
+use Rattle.readback.specs.Words.{back-mvd}
 
 -- ---- a test at every number in -15..15
 abbrev allRange : (ℤ → Bool) → Bool
@@ -54,7 +53,7 @@ lands preceding z p h =
 back-component : (preceding z : ℤ) (rest : List Bit) → T (inRange preceding) → T (inRange z) → Back (componentRead preceding) (componentOf preceding z) rest z
 unfolding componentRead
 back-component preceding z rest p h =
-    back-judged (λ n. component preceding (pairOf n)) z (back-table3 (sentFor preceding z) rest (mod-lt _ (lit< tt))) (lands preceding z p h)
+    back-judged (λ n. component preceding (pairOf n)) z (back-mvd (sentFor preceding z) rest (omega arith)) (lands preceding z p h)
 
 -- ---- a vector
 pub record Ranged (v : Vector) : Type 0 where

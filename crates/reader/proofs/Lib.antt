@@ -5,5 +5,11 @@ pub mod HeaderSteps
 pub mod CoefficientsTurn
 pub mod IntraSteps
 pub mod BlocksTurn
+pub mod VectorSteps
+pub mod TypeSays
+pub mod MacroblockSteps
+pub mod MacroblockWhole
 pub mod MacroblocksTurn
 pub mod GroupsTurn
+pub mod PictureTurn
+pub mod ParseSteps

@@ -20,7 +20,15 @@ use Rattle.bits.specs.declared.WordRead.{WordRead}
 use Rattle.bits.specs.declared.WordRead.the-variants.{Got as GotWord, Refused as NoWord}
 use Rattle.reader.specs.declared.PlaceRead.{PlaceRead}
 use Rattle.reader.specs.declared.PlaceRead.the-variants.{At, Refused}
-use Rattle.reader.specs.Answer.{leaving, fieldRefusal, wordRefusal, placeRefusal}
+use Rattle.reader.proofs.ComponentRead.{the-type as component-type}
+use Rattle.reader.proofs.VectorRead.{the-type as vector-type}
+use Rattle.reader.specs.declared.ComponentRead.{ComponentRead}
+use Rattle.reader.specs.declared.ComponentRead.the-variants.{Got as GotComponent, Refused as NoComponent}
+use Rattle.reader.specs.declared.VectorRead.{VectorRead}
+use Rattle.reader.specs.declared.VectorRead.the-variants.{Got as GotVector, Refused as NoVector}
+use lib.IntN.{ℤ}
+use Rattle.description.specs.Vector.{Vector}
+use Rattle.reader.specs.Answer.{leaving, componentOf, vectorOf, asComponent, asVector, fieldRefusal, wordRefusal, placeRefusal, componentRefusal, vectorRefusal}
 
 module _ {x : Read ℕ} (s : List ℕ) (n : ℕ) where
   pub no-field : (r : FieldRead) → tagOf field-type r ≡ 1 → asField s n r ≡ x → x ≡ refused (fieldRefusal r)
@@ -48,3 +56,19 @@ is-place s n a r p w e = sym w ∙ ap (λ (y : PlaceRead). leaving s n y a) e
 pub within-next : {A : Type 0} {least : ℕ} {Good : A → List Bit → Type 0} {r : Reader A} (s : List ℕ) (n p : ℕ) (a : A) (q : ℕ)
     → Reads (suc (length (bitsLeft s n p))) least Good r → Within s n p → r (bitsLeft s n p) p ≡ got a (bitsLeft s n q) q → Within s n q
 within-next s n p a q h w e = record { lent = w .lent; inside = onward s n p a q h (w .inside) e .inside }
+
+module _ {x : Read ℤ} (s : List ℕ) (n : ℕ) where
+  pub no-component : (r : ComponentRead) → tagOf component-type r ≡ 1 → asComponent s n r ≡ x → x ≡ refused (componentRefusal r)
+  no-component (GotComponent v p) e w = absurd (omega arith)
+  no-component (NoComponent r) e w = sym w
+
+  pub is-component : (r : ComponentRead) (v p : ℕ) → asComponent s n r ≡ x → r ≡ GotComponent v p → x ≡ got (componentOf v) (bitsLeft s n p) p
+  is-component r v p w e = sym w ∙ ap (asComponent s n) e
+
+module _ {x : Read Vector} (s : List ℕ) (n : ℕ) where
+  pub no-vector : (r : VectorRead) → tagOf vector-type r ≡ 1 → asVector s n r ≡ x → x ≡ refused (vectorRefusal r)
+  no-vector (GotVector h v p) e w = absurd (omega arith)
+  no-vector (NoVector r) e w = sym w
+
+  pub is-vector : (r : VectorRead) (h v p : ℕ) → asVector s n r ≡ x → r ≡ GotVector h v p → x ≡ got (vectorOf h v) (bitsLeft s n p) p
+  is-vector r h v p w e = sym w ∙ ap (asVector s n) e

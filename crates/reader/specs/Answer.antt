@@ -66,6 +66,11 @@ leaving s n (Refused r) a = refused r
 abbrev pub componentOf : ℕ → ℤ
 componentOf x = pos x -ℤ pos 16
 
+-- kept so, a component in -15..15
+pub record Kept (x : ℕ) : Type 0 where
+  pub low : 1 ≤ x
+  pub high : x ≤ 31
+
 abbrev pub vectorOf : ℕ → ℕ → Vector
 vectorOf h v = record { horizontal = componentOf h; vertical = componentOf v }
 
@@ -73,13 +78,30 @@ abbrev pub asComponent : List ℕ → ℕ → ComponentRead → Read ℤ
 asComponent s n (GotComponent x p) = got (componentOf x) (bitsLeft s n p) p
 asComponent s n (NoComponent r) = refused r
 
+abbrev pub componentRefusal : ComponentRead → Refusal
+componentRefusal (GotComponent x p) = refusal BitsEnd p
+componentRefusal (NoComponent r) = r
+
+abbrev pub vectorRefusal : VectorRead → Refusal
+vectorRefusal (GotVector h v p) = refusal BitsEnd p
+vectorRefusal (NoVector r) = r
+
 abbrev pub asVector : List ℕ → ℕ → VectorRead → Read Vector
 asVector s n (GotVector h v p) = got (vectorOf h v) (bitsLeft s n p) p
 asVector s n (NoVector r) = refused r
 
 -- ---- macroblocks
+-- a type of document 01's table
+pub record Typed (type : ℕ) : Type 0 where
+  pub low : 1 ≤ type
+  pub high : type ≤ 10
+
 abbrev pub beforeOf : Behind → Before
 beforeOf b = record { address = b .address; vector = vectorOf (b .horizontal) (b .vertical) }
+
+pub record KeptBehind (b : Behind) : Type 0 where
+  pub horizontally : Kept (b .horizontal)
+  pub vertically : Kept (b .vertical)
 
 abbrev pub asMba : List ℕ → ℕ → MbaRead → Read Mba
 asMba s n (Step k p) = got (step k) (bitsLeft s n p) p
@@ -104,10 +126,18 @@ abbrev pub asMacroblock : List ℕ → ℕ → MacroblockRead → List ℕ → L
 asMacroblock s n (GotMacroblock b p) macroblocks levels = got (record { macroblocks = macroblocks; levels = levels; before = beforeOf b }) (bitsLeft s n p) p
 asMacroblock s n (NoMacroblock r) macroblocks levels = refused r
 
+abbrev pub macroblockRefusal : MacroblockRead → Refusal
+macroblockRefusal (GotMacroblock b p) = refusal BitsEnd p
+macroblockRefusal (NoMacroblock r) = r
+
 -- ---- the picture
 abbrev pub asHeader : List ℕ → ℕ → HeaderRead → Read Header
 asHeader s n (GotHeader tr ptype p) = got (record { tr = tr; ptype = ptype }) (bitsLeft s n p) p
 asHeader s n (NoHeader r) = refused r
+
+abbrev pub headerRefusal : HeaderRead → Refusal
+headerRefusal (GotHeader tr ptype p) = refusal BitsEnd p
+headerRefusal (NoHeader r) = r
 
 abbrev pub flat : List ℕ → List ℕ → List ℕ → Flat
 flat head macroblocks levels = record { head = head; macroblocks = macroblocks; levels = levels }

@@ -83,17 +83,22 @@ reading-gives f s n = from (ltb (8 * length s) n) (ltb (limit f) n) (ltb-false (
     from false true h = record { listed = tt; within = omega arith; counted = λ c. refl }
     from false false h = picture-gives f s n (h refl)
 
+-- the same of what a reading is known to be
+known : (f : Format) (s : List ℕ) (n : ℕ) (x : Read Picture) → reading f s n ≡ x → Holds (Accepts f n) (Refuses n) x
+known f s n x e = subst (λ (y : Read Picture). Holds (Accepts f n) (Refuses n) y) e (reading-gives f s n)
+
 -- ---- the theorems
 -- No stand-in for fuel remains: the loops of the grammar end
 pub never-endless : (f : Format) (s : List ℕ) (n : ℕ) → reading f s n ≡ endless → ⊥
-never-endless f s n e = subst (λ (x : Read Picture). Holds (Accepts f n) (Refuses n) x) e (reading-gives f s n)
+never-endless f s n e = known f s n endless e
 
 -- "Refusal numbers": every refusal of reading has a number from 2 to 13, and a place up to N
 pub refused-by-table : (f : Format) (s : List ℕ) (n : ℕ) (r : Refusal) → reading f s n ≡ refused r → Refuses n r
-refused-by-table f s n r e = subst (λ (x : Read Picture). Holds (Accepts f n) (Refuses n) x) e (reading-gives f s n)
+refused-by-table f s n r e = known f s n (refused r) e
 
+-- What is accepted is proper, and took all N bits
 pub accepted : (f : Format) (s : List ℕ) (n : ℕ) (p : Picture) (left : List Bit) (at : ℕ) → reading f s n ≡ got p left at → Accepts f n p left at
-accepted f s n p left at e = subst (λ (x : Read Picture). Holds (Accepts f n) (Refuses n) x) e (reading-gives f s n)
+accepted f s n p left at e = known f s n (got p left at) e
 
 -- "the picture is exactly those bits": what is accepted took all N of them
 pub all-read : (f : Format) (s : List ℕ) (n : ℕ) (p : Picture) (left : List Bit) (at : ℕ) → reading f s n ≡ got p left at → (left ≡ []) × (at ≡ n)

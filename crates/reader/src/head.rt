@@ -2,6 +2,7 @@
 use crate::HeaderRead;
 use crate::PlaceRead;
 use bits::FieldRead;
+use bits::WordRead;
 use format::Format;
 use refusals::Reason;
 use refusals::Refusal;
@@ -10,7 +11,7 @@ ghost use Prim.Native.Nat.{_≤_, _<_};
 ghost use Rattle.bits.specs.Bits.{bitsLeft};
 ghost use Rattle.bits.specs.Read.{judged, field};
 ghost use Rattle.bits.specs.Answer.{Within, asField};
-ghost use Rattle.reader.specs.Answer.{leaving, asHeader, fieldRefusal, placeRefusal};
+ghost use Rattle.reader.specs.Answer.{leaving, asHeader, fieldRefusal, wordRefusal, placeRefusal};
 ghost use Rattle.reader.specs.Grammar.{expect as expected, quantiser as quantiserRead, spares as sparesRead, ptypeOf, groupHead, header as headerRead};
 
 // The refusal of a field that was refused.
@@ -23,6 +24,19 @@ pub fn field_refusal(read: FieldRead) -> Refusal
             place: at,
         },
         FieldRead::Refused(refusal) => refusal,
+    }
+}
+
+// The refusal of a codeword that was refused.
+pub fn word_refusal(read: WordRead) -> Refusal
+    ensures { λ r. ⌜ r ≡ wordRefusal read ⌝ }
+{
+    match read {
+        WordRead::Got(_, at) => Refusal {
+            reason: Reason::BitsEnd,
+            place: at,
+        },
+        WordRead::Refused(refusal) => refusal,
     }
 }
 

@@ -3,6 +3,11 @@ use refusals::Refusal;
 
 mod block;
 mod head;
+mod kind;
+mod macroblock;
+pub mod parse;
+mod picture;
+mod vector;
 
 // Where a layer ended, or the refusal.
 pub enum PlaceRead {
@@ -44,5 +49,11 @@ pub enum MacroblockRead {
 // TR and PTYPE bits 1 to 3.
 pub enum HeaderRead {
     Got(u8, u8, usize),
+    Refused(Refusal),
+}
+
+// The verdict of the rules.
+pub enum Verdict {
+    Accepted,
     Refused(Refusal),
 }

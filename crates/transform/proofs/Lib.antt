@@ -1,5 +1,6 @@
 mod Placing
 mod Lines
+mod Bits
 mod Rows
 mod Halves
 mod Bounds

@@ -15,7 +15,7 @@ use mir.Facts.{eqb-yes, ltb-yes}
 use Rattle.laws.specs.Choice.{pick, both}
 use Rattle.laws.specs.Table.{allB, all-at}
 use Rattle.laws.specs.Block.{Shape, Is, cell, put, shape-fill, put-shape, cell-same, cell-other}
-use Rattle.transform.specs.Level.{positionAt, valueAt, coefficientAt, coefficient, levelOf, direct, level-none}
+use Rattle.transform.specs.Level.{bytesFrom, positionAt, valueAt, coefficientAt, coefficient, levelOf, direct, level-none}
 
 -- the table of the code
 abbrev pub places : List ℕ
@@ -134,6 +134,27 @@ module _ (g : ℕ → ℤ) (n : ℕ) {t : List (List ℤ)} (h : Placed g n t) wh
       above : {k n : ℕ} → n + 1 ≤ k → k ≡ n → ⊥
       above m f = omega arith
 
+pub placed-same : {g : ℕ → ℤ} {n m : ℕ} {t : List (List ℤ)} → n ≡ m → Placed g n t → Placed g m t
+placed-same {g} {t = t} e h = subst (λ (n : ℕ). Placed g n t) e h
+
+-- a run of positions that hold 0
+pub placed-run : (g : ℕ → ℤ) (n k : ℕ) {t : List (List ℤ)} → Placed g n t → ((i : ℕ) → i < k → g (n + i) ≡ pos 0) → Placed g (n + k) t
+placed-run g n zero {t} h e = subst (λ (m : ℕ). Placed g m t) (same n) h
+  where
+    same : (n : ℕ) → n ≡ n + 0
+    same n = omega arith
+placed-run g n (suc k) {t} h e =
+    subst (λ (m : ℕ). Placed g m t) (next n k) (placed-skip g (n + k) (placed-run g n k h (λ i l. e i (up l))) (e k (here k)))
+  where
+    next : (n k : ℕ) → n + k + 1 ≡ n + suc k
+    next n k = omega arith
+
+    up : {i k : ℕ} → i < k → i < suc k
+    up l = omega arith
+
+    here : (k : ℕ) → k < suc k
+    here k = omega arith
+
 -- what the loop meets at a position: a byte 0, or a level
 module _ (bytes : ℕ → ℕ) (quantiser n : ℕ) where
   pub level-here : valueAt bytes false quantiser n ≡ coefficient quantiser (levelOf (bytes n))
@@ -142,6 +163,27 @@ module _ (bytes : ℕ → ℕ) (quantiser n : ℕ) where
 
   pub none-here : bytes n ≡ 0 → valueAt bytes false quantiser n ≡ pos 0
   none-here e = level-here ∙ ap (λ (byte : ℕ). coefficient quantiser (levelOf byte)) e ∙ level-none quantiser
+
+-- the end of a group of eight, whose bytes from k on are 0
+pub placed-group : (levels : List ℕ) (at quantiser group k : ℕ) {t : List (List ℤ)} → Placed (valueAt (bytesFrom levels at) false quantiser) (8 * group + k) t → k ≤ 8 → ((i : ℕ) → k ≤ i → i < 8 → bytesFrom levels (at + 8 * group) i ≡ 0) → Placed (valueAt (bytesFrom levels at) false quantiser) (8 * (group + 1)) t
+placed-group levels at quantiser group k {t} h l none =
+    subst (λ (n : ℕ). Placed (valueAt (bytesFrom levels at) false quantiser) n t) (full group k l)
+    (placed-run _ (8 * group + k) (8 - k) h
+    (λ i m.
+    none-here (bytesFrom levels at) quantiser (8 * group + k + i)
+    (ap (λ (n : ℕ). getD levels n 0) (same at group k i) ∙ none (k + i) (from k i) (inside k i m))))
+  where
+    full : (group k : ℕ) → k ≤ 8 → 8 * group + k + (8 - k) ≡ 8 * (group + 1)
+    full group k l = omega arith
+
+    same : (at group k i : ℕ) → at + (8 * group + k + i) ≡ at + 8 * group + (k + i)
+    same at group k i = omega arith
+
+    from : (k i : ℕ) → k ≤ k + i
+    from k i = omega arith
+
+    inside : (k i : ℕ) → i < 8 - k → k + i < 8
+    inside k i m = omega arith
 
 -- the whole block
 module _ (bytes : ℕ → ℕ) (quantiser : ℕ) (n : ℕ) {t : List (List ℤ)} (h : Placed (valueAt bytes false quantiser) n t) (all : 64 ≤ n) where

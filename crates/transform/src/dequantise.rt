@@ -111,7 +111,23 @@ fn direct(code: u8) -> i32
     if code == 255 { 1024 } else { 8 * (code as i32) }
 }
 
-// Most levels are 0, and those cells are left as they are.
+// How many of eight bytes to look at: none where all are 0, as most are.
+fn busy(levels: &[u8], at: usize) -> usize
+    requires { ⌜ at + 8 ≤ length (now levels) ⌝ }
+    ensures { λ r. ⌜ (r ≤ 8) × ((k : ℕ) → r ≤ k → k < 8 → bytesFrom (now (levels .entry)) at k ≡ 0) ⌝ }
+{
+    let bits = levels[at]
+        | levels[at + 1]
+        | levels[at + 2]
+        | levels[at + 3]
+        | levels[at + 4]
+        | levels[at + 5]
+        | levels[at + 6]
+        | levels[at + 7];
+    if bits == 0 { 0 } else { 8 }
+}
+
+// A cell whose level is 0 is left as it is.
 pub fn dequantise(levels: &[u8], at: usize, intra: bool, quantiser: u8) -> [[i32; 8]; 8]
     requires { ⌜ (at + 64 ≤ length (now levels)) × (1 ≤ quantiser) × (quantiser ≤ 31) ⌝ }
     ensures { λ r. ⌜ Is (pos 0) (coefficientAt (bytesFrom (now (levels .entry)) at) intra quantiser) r ⌝ }
@@ -119,13 +135,17 @@ pub fn dequantise(levels: &[u8], at: usize, intra: bool, quantiser: u8) -> [[i32
     let places = PLACES;
     let zeros = [0i32; 8];
     let mut block = [zeros; 8];
-    for position in 0..64 {
-        let byte = levels[at + position];
-        if byte != 0 {
-            let place = places[position] as usize;
-            let row = place / 8;
-            let column = place % 8;
-            block[row][column] = coefficient(byte, quantiser);
+    for group in 0..8 {
+        let count = busy(levels, at + 8 * group);
+        for k in 0..count {
+            let position = 8 * group + k;
+            let byte = levels[at + position];
+            if byte != 0 {
+                let place = places[position] as usize;
+                let row = place / 8;
+                let column = place % 8;
+                block[row][column] = coefficient(byte, quantiser);
+            }
         }
     }
     if intra {

@@ -13,7 +13,7 @@ ghost use Rattle.laws.specs.Floor.{floorDivided};
 ghost use Rattle.laws.specs.Block.{Is, cell};
 ghost use Rattle.laws.specs.Linear.{eval, plus, less};
 ghost use Rattle.transform.specs.Inverse.{Small, SmallRow, inverseAt};
-ghost use Rattle.transform.specs.Passes.{Line, entry, along, evenPart, oddPart, FirstOnly, downAt, rowsAt, columnsAt, finished};
+ghost use Rattle.transform.specs.Passes.{Line, entry, along, evenPart, oddPart, ZeroFrom, Lone, flatAt, downAt, rowsAt, columnsAt, finished};
 
 // Eight products of 16384 by 2841 come to 372375552.
 fn more(sum: i32, number: i16, factor: i32) -> i32
@@ -72,13 +72,13 @@ fn pass(f: [i16; 8]) -> [i32; 8]
     ]
 }
 
-// Whether all but the first number of a row is 0.
-fn first_only(f: [i32; 8]) -> bool
-    requires { ⌜ SmallRow 2048 f ⌝ }
-    ensures { λ r. ⌜ (r ≡ true → FirstOnly f) ⌝ }
+// Whether a row's numbers are all 0 from a place on.
+fn zero_from(f: [i32; 8], from: usize) -> bool
+    requires { ⌜ (SmallRow 2048 f) × (from ≤ 8) ⌝ }
+    ensures { λ r. ⌜ (r ≡ true → ZeroFrom f from) ⌝ }
 {
     let mut bits: i32 = 0;
-    for i in 1..8 {
+    for i in from..8 {
         bits = bits | f[i];
     }
     bits == 0
@@ -112,7 +112,7 @@ fn row(f: [i32; 8]) -> [i32; 8]
     requires { ⌜ SmallRow 2048 f ⌝ }
     ensures { λ r. ⌜ Line (along f) r ⌝ }
 {
-    if first_only(f) {
+    if zero_from(f, 1) {
         let a = more(0, narrow(f[0]), 2048);
         return [a; 8];
     }
@@ -219,9 +219,40 @@ fn columns(t: [[i32; 8]; 8]) -> [[i32; 8]; 8]
     out
 }
 
+// Whether all but the number at (0, 0) is 0. Most blocks that have more show it in their first rows.
+fn lone(f: &[[i32; 8]; 8]) -> bool
+    requires { ⌜ Small 2048 (now f) ⌝ }
+    ensures { λ r. ⌜ (r ≡ true → Lone (now (f .entry))) ⌝ }
+{
+    let first = f[0];
+    if !zero_from(first, 1) {
+        return false;
+    }
+    for v in 1..8 {
+        let f_v = f[v];
+        if !zero_from(f_v, 0) {
+            return false;
+        }
+    }
+    true
+}
+
+// What a number alone at (0, 0) gives everywhere.
+fn flat(z: i32) -> i32
+    requires { ⌜ Low 2048 z ⌝ }
+    ensures { λ r. ⌜ r ≡ flatAt z ⌝ }
+{
+    cut(-256, 255, (z + 4) >> 3)
+}
+
 pub fn inverse(f: [[i32; 8]; 8]) -> [[i32; 8]; 8]
     requires { ⌜ Small 2048 f ⌝ }
     ensures { λ r. ⌜ Is (pos 0) (inverseAt f) r ⌝ }
 {
+    if lone(&f) {
+        let z = flat(f[0][0]);
+        let line = [z; 8];
+        return [line; 8];
+    }
     columns(rows(f))
 }

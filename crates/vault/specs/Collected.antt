@@ -3,7 +3,7 @@
 use mathlib.Core.Path.{_≡_, refl, sym, ap, _∙_}
 use mathlib.Core.Bool.{Bool, true, false}
 use mathlib.Core.List.{List, _++_, append-assoc}
-use Prim.Native.Nat.{ℕ, zero, suc, _+_, _-_, _*_, _/_, _%_, _^_, _≤_, _<_, min}
+use Prim.Native.Nat.{ℕ, zero, suc, _+_, _*_, _/_, _%_, _^_, _≤_, _<_}
 use mathlib.Core.Logic.{⊎-elim}
 use native.Mathlib.Nat.{eq-or-lt-of-le, le-of-suc-le-suc, not-suc-le-zero}
 use native.Mathlib.Omega.{arith}
@@ -18,11 +18,11 @@ use Rattle.format.specs.declared.Format.the-variants.{Qcif, Cif}
 use Rattle.format.specs.Format.{limit}
 use Rattle.vault.specs.declared.Checked.the-variants.{Good}
 use Rattle.vault.specs.Block.{unused, clear, pictures, greatestPart, ruled, payloadOf, checkOf, judgeOf}
-use Rattle.vault.specs.Parts.{partCount, keptByte, payloadAt, headerAt, blockAt, firstBlocks, placed}
+use Rattle.vault.specs.Parts.{partCount, usedAt, keptByte, payloadAt, headerAt, blockAt, firstBlocks, placed}
 use Rattle.vault.specs.Clear.{clear-all}
 use Rattle.vault.specs.Kept.{kept-zero, kept-clear, payload-length, payload-byte}
 use Rattle.vault.specs.Cut.{at-length, first-length}
-use Rattle.vault.specs.Judged.{made-good, made-payload, good-judged}
+use Rattle.vault.specs.Judged.{both-true, made-good, made-payload, good-judged}
 
 -- a part of a picture within the format's limit
 pub record Part (format : Format) (clip picture count part : ℕ) : Type 0 where
@@ -36,20 +36,18 @@ part-most : (format : Format) (count part : ℕ) → count ≤ limit format → 
 part-most Qcif count part l p = omega arith
 part-most Cif count part l p = omega arith
 
-refresh-first : (refresh : Bool) (part : ℕ) (t : Bool) → eqb part 0 ≡ t → either (opposite (both refresh t)) t ≡ true
-refresh-first true part true e = refl
-refresh-first true part false e = refl
-refresh-first false part t e = refl
+pub parts-most : (format : Format) (count : ℕ) → count ≤ limit format → partCount count ≤ greatestPart format + 1
+parts-most Qcif count l = omega arith
+parts-most Cif count l = omega arith
+
+refresh-first : (refresh first : Bool) → either (opposite (both refresh first)) first ≡ true
+refresh-first true true = refl
+refresh-first true false = refl
+refresh-first false first = refl
 
 full-or-last : (last : Bool) (used : ℕ) → (last ≡ false → used ≡ 4000) → either last (eqb used 4000) ≡ true
 full-or-last true used h = refl
 full-or-last false used h = eq-eqb used 4000 (h refl)
-
-five : (a b c d e : Bool) → a ≡ true → b ≡ true → c ≡ true → d ≡ true → e ≡ true → both a (both b (both c (both d e))) ≡ true
-five a b c d e p q r s t = rw (p, q, r, s) t
-
-three : (a b c : Bool) → a ≡ true → b ≡ true → c ≡ true → both a (both b c) ≡ true
-three a b c p q r = rw (p, q) r
 
 started : (count part : ℕ) → part < partCount count → 4000 * part < count
 started count part l = omega arith
@@ -57,32 +55,31 @@ started count part l = omega arith
 module _ (clip picture : ℕ) (refresh : Bool) (bytes : List ℕ) (count : ℕ) where
   -- ---- each block is good
   module _ (format : Format) {part : ℕ} (p : Part format clip picture count part) where
-    used : ℕ
-    used = min 4000 (count - 4000 * part)
-
     header-ruled : ruled format (headerAt clip picture refresh count part) ≡ true
-    unfolding ruled used
+    unfolding ruled
     header-ruled =
-        five _ _ _ _ _ (le-leb 1 clip (p .clip-is)) (lt-ltb picture pictures (p .picture-is))
-        (le-leb part (greatestPart format) (part-most format count part (p .count-is) (p .part-is)))
-        (refresh-first refresh part (eqb part 0) refl)
-        (three _ _ _ (le-leb 1 used some) (le-leb used 4000 most) (full-or-last (eqb (part + 1) (partCount count)) used full))
+        both-true (le-leb 1 clip (p .clip-is))
+        (both-true (lt-ltb picture pictures (p .picture-is))
+        (both-true (le-leb part (greatestPart format) (part-most format count part (p .count-is) (p .part-is)))
+        (both-true (refresh-first refresh (eqb part 0))
+        (both-true (le-leb 1 (usedAt count part) some)
+        (both-true (le-leb (usedAt count part) 4000 most) (full-or-last (eqb (part + 1) (partCount count)) (usedAt count part) full))))))
       where
-        some : 1 ≤ min 4000 (count - 4000 * part)
+        some : 1 ≤ usedAt count part
         some = omega (arith, started count part (p .part-is))
 
-        most : min 4000 (count - 4000 * part) ≤ 4000
+        most : usedAt count part ≤ 4000
         most = omega arith
 
-        full : eqb (part + 1) (partCount count) ≡ false → min 4000 (count - 4000 * part) ≡ 4000
+        full : eqb (part + 1) (partCount count) ≡ false → usedAt count part ≡ 4000
         full e = omega (arith, eqb-false (part + 1) (partCount count) e, p .part-is)
 
-    payload-clear : clear (min 4000 (count - 4000 * part)) (payloadAt bytes count part) 500 ≡ true
+    payload-clear : clear (usedAt count part) (payloadAt bytes count part) 500 ≡ true
     payload-clear =
-        clear-all (min 4000 (count - 4000 * part)) (payloadAt bytes count part) 500
+        clear-all (usedAt count part) (payloadAt bytes count part) 500
         (λ j l. (λ i. payload-byte bytes count part j l i % 2 ^ same j l i) ∙ kept-zero bytes count (500 * part + j))
       where
-        same : (j : ℕ) → j < 500 → unused (min 4000 (count - 4000 * part)) j ≡ unused count (500 * part + j)
+        same : (j : ℕ) → j < 500 → unused (usedAt count part) j ≡ unused count (500 * part + j)
         same j l = omega (arith, started count part (p .part-is))
 
     -- judged good, with its own header

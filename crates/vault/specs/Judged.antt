@@ -89,8 +89,8 @@ passed : (format : Format) (block : List ℕ) (header : Header) → length block
 unfolding checkOf
 passed format block header l s f h = rw (eq-eqb (length block) 512 l, eq-eqb (sumOf block) (checkSumOf block) s, f) (ap Good h)
 
-all-four : (a b c d : Bool) → a ≡ true → b ≡ true → c ≡ true → d ≡ true → both a (both b (both c d)) ≡ true
-all-four a b c d p q r s = rw (p, q, r) s
+pub both-true : {a b : Bool} → a ≡ true → b ≡ true → both a b ≡ true
+both-true p q = rw p q
 
 -- a block of a header within the rules and a clear payload is good, and its header is that one
 pub made-good : (format : Format) (header : Header) (payload : List ℕ) → length payload ≡ 500 → ruled format header ≡ true
@@ -101,9 +101,10 @@ made-good format header payload e r k =
   where
     rules : follows format (blockFor header payload) ≡ true
     rules =
-        all-four _ _ _ _ (ap (ruled format) (made-header header payload e) ∙ r) (made-marks header payload e)
-        ((λ i. clear (made-header header payload e i .used) (made-payload header payload e i) 500) ∙ k)
-        (eq-eqb (zerosOf (blockFor header payload)) 0 (made-zeros header payload e))
+        both-true (ap (ruled format) (made-header header payload e) ∙ r)
+        (both-true (made-marks header payload e)
+        (both-true ((λ i. clear (made-header header payload e i .used) (made-payload header payload e i) 500) ∙ k)
+        (eq-eqb (zerosOf (blockFor header payload)) 0 (made-zeros header payload e))))
 
 -- ---- a block that is good
 pub record Sound (format : Format) (block : List ℕ) (header : Header) : Type 0 where

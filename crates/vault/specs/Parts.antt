@@ -9,9 +9,12 @@ use Rattle.laws.specs.Row.{row}
 use Rattle.vault.specs.declared.Header.{Header}
 use Rattle.vault.specs.Block.{unused, payloadOf, blockFor}
 
--- "bits used, 1..4000, exactly 4000 unless last": as many parts as it takes
+-- "bits used, 1..4000, exactly 4000 unless last": how many parts that makes, and the bits used of each
 abbrev pub partCount : ℕ → ℕ
 partCount count = (count + 3999) / 4000
+
+abbrev pub usedAt : ℕ → ℕ → ℕ
+usedAt count part = min 4000 (count - 4000 * part)
 
 -- "unused bits zero": byte i with all but the picture's first `count` bits zero
 abbrev pub keptByte : List ℕ → ℕ → ℕ → ℕ
@@ -29,7 +32,7 @@ headerAt clip picture refresh count part = record {
   part = part;
   last = eqb (part + 1) (partCount count);
   refresh = both refresh (eqb part 0);
-  used = min 4000 (count - 4000 * part);
+  used = usedAt count part;
 }
 
 unfoldable pub blockAt : ℕ → ℕ → Bool → List ℕ → ℕ → ℕ → List ℕ

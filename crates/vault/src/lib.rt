@@ -10,7 +10,7 @@ ghost use lib.ListN.{length, drop};
 ghost use lib.Seq.{sets, paste};
 ghost use Rattle.laws.specs.Choice.{both};
 ghost use Rattle.vault.specs.Block.{pairAt, pictureOf, headerOf, pictures, greatestPart, refreshRule, usedRule, ruled as ruledOf, unused, clear, payloadOf, follows as followsOf, sumOf, refusedBy, checkOf, judgeOf, marksFor, headBytes, twoBytes, blockFor};
-ghost use Rattle.vault.specs.Parts.{partCount, keptByte, payloadAt, headerAt, blocksOf, placed};
+ghost use Rattle.vault.specs.Parts.{partCount, usedAt, keptByte, payloadAt, headerAt, blocksOf, placed};
 ghost use Rattle.vault.specs.Due.{dueOf};
 
 // What a block says before its payload.
@@ -283,7 +283,7 @@ fn whole_bytes(count: usize, from: usize) -> usize
     500
 }
 
-// Whole bytes are copied as they are; the rest is looked at bit by bit.
+// Whole bytes are copied as they are; of the rest only the picture's bits are kept.
 fn write_payload(bytes: &[u8], count: usize, part: usize, block: &mut [u8])
     requires { ⌜ (length (now block) ≡ 512) × (part < 66) × (count ≤ 8 * length (now bytes)) ⌝ }
     ensures { λ _. ⌜ now (block .exit) ≡ paste (now (block .entry)) 8 (payloadAt (now (bytes .entry)) count part) 500 ⌝ }
@@ -340,7 +340,7 @@ fn refresh_at(refresh: bool, part: usize) -> bool
 
 fn used_at(count: usize, part: usize) -> u16
     requires { ⌜ 4000 * part ≤ count ⌝ }
-    ensures { λ r. ⌜ r ≡ min 4000 (count - 4000 * part) ⌝ }
+    ensures { λ r. ⌜ r ≡ usedAt count part ⌝ }
 {
     let left = count - 4000 * part;
     if left < 4000 {

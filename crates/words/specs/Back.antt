@@ -93,7 +93,7 @@ level-some : (code : ℕ) → forbidden code ≡ false → code ≡ 0 → ⊥
 level-some zero e z = true-false e
 level-some (suc n) e z = omega arith
 
-size-some : (code : ℕ) → code < 256 → forbidden code ≡ false → 1 ≤ size code
+pub size-some : (code : ℕ) → code < 256 → forbidden code ≡ false → 1 ≤ size code
 size-some code h e = go (ltb code 128) (level-some code e)
   where
     go : (b : Bool) → (code ≡ 0 → ⊥) → 1 ≤ pick b code (256 - code)
@@ -107,7 +107,7 @@ sign-back code h = go (ltb code 128)
     go true = refl
     go false = omega arith
 
-negative-small : (code : ℕ) → negative code < 2 ^ 1
+pub negative-small : (code : ℕ) → negative code < 2 ^ 1
 negative-small code = go (ltb code 128)
   where
     go : (b : Bool) → pick b 0 1 < 2

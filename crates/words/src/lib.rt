@@ -3,15 +3,18 @@ use bits::WordRead;
 use refusals::Reason;
 use refusals::Refusal;
 ghost use mathlib.Core.Path.{_≡_};
-ghost use Rattle.bits.specs.Bits.{bitsLeft};
-ghost use Rattle.bits.specs.Code.{word};
+ghost use Rattle.bits.specs.Bits.{bitsOf, bitsLeft};
+ghost use Rattle.bits.specs.Code.{word as wordRead, wordOf};
+ghost use Rattle.bits.specs.Write.{written};
 ghost use Rattle.bits.specs.Answer.{Within, asWord};
-ghost use Prim.Native.Nat.{_<_};
-ghost use lib.ListN.{getD};
+ghost use Prim.Native.Nat.{_+_, _*_, _/_, _%_, _^_, _≤_, _<_};
+ghost use lib.ListN.{length, getD};
 ghost use Rattle.laws.specs.Choice.{pick};
-ghost use Rattle.words.specs.Tables.{table1, table2, table3, table4, firstTable5, laterTable5};
-ghost use Rattle.words.specs.Words.{coefficientRead};
+ghost use Rattle.words.specs.Tables.{table1, table2, table3, table4, endOfBlock, firstTable5, laterTable5};
+ghost use Rattle.words.specs.Words.{coefficient as coefficientOf, negative, size, coefficientRead, tcoeffOf};
 ghost use Rattle.words.specs.Answer.{asCoefficient};
+ghost use Rattle.words.specs.Back.{Sendable};
+ghost use Rattle.words.specs.Written.{made, Writes};
 ghost use Rattle.words.specs.Lookup.{Tables, placed, firstAt, laterAt};
 
 mod lookup;
@@ -35,7 +38,7 @@ pub enum CoefficientRead {
 // MBA at `at`: a step of 1 to 33, 34 for stuffing, 35 for a start code.
 pub fn mba(tables: &[u16; 1521], bytes: &[u8], count: usize, at: usize) -> WordRead
     requires { ⌜ (Tables (now tables)) × (Within (now bytes) count at) ⌝ }
-    ensures { λ r. ⌜ asWord (now (bytes .entry)) count r ≡ word table1 (bitsLeft (now (bytes .entry)) count at) at ⌝ }
+    ensures { λ r. ⌜ asWord (now (bytes .entry)) count r ≡ wordRead table1 (bitsLeft (now (bytes .entry)) count at) at ⌝ }
 {
     bits::walk(tables, 0, bytes, count, at)
 }
@@ -43,7 +46,7 @@ pub fn mba(tables: &[u16; 1521], bytes: &[u8], count: usize, at: usize) -> WordR
 // MTYPE at `at`: 1 to 10, in the order of document 01's table.
 pub fn mtype(tables: &[u16; 1521], bytes: &[u8], count: usize, at: usize) -> WordRead
     requires { ⌜ (Tables (now tables)) × (Within (now bytes) count at) ⌝ }
-    ensures { λ r. ⌜ asWord (now (bytes .entry)) count r ≡ word table2 (bitsLeft (now (bytes .entry)) count at) at ⌝ }
+    ensures { λ r. ⌜ asWord (now (bytes .entry)) count r ≡ wordRead table2 (bitsLeft (now (bytes .entry)) count at) at ⌝ }
 {
     bits::walk(tables, 46, bytes, count, at)
 }
@@ -51,7 +54,7 @@ pub fn mtype(tables: &[u16; 1521], bytes: &[u8], count: usize, at: usize) -> Wor
 // A component of MVD at `at`: 16 more than the difference that Table 3 prints first.
 pub fn mvd(tables: &[u16; 1521], bytes: &[u8], count: usize, at: usize) -> WordRead
     requires { ⌜ (Tables (now tables)) × (Within (now bytes) count at) ⌝ }
-    ensures { λ r. ⌜ asWord (now (bytes .entry)) count r ≡ word table3 (bitsLeft (now (bytes .entry)) count at) at ⌝ }
+    ensures { λ r. ⌜ asWord (now (bytes .entry)) count r ≡ wordRead table3 (bitsLeft (now (bytes .entry)) count at) at ⌝ }
 {
     bits::walk(tables, 56, bytes, count, at)
 }
@@ -59,7 +62,7 @@ pub fn mvd(tables: &[u16; 1521], bytes: &[u8], count: usize, at: usize) -> WordR
 // CBP at `at`: 1 to 63.
 pub fn cbp(tables: &[u16; 1521], bytes: &[u8], count: usize, at: usize) -> WordRead
     requires { ⌜ (Tables (now tables)) × (Within (now bytes) count at) ⌝ }
-    ensures { λ r. ⌜ asWord (now (bytes .entry)) count r ≡ word table4 (bitsLeft (now (bytes .entry)) count at) at ⌝ }
+    ensures { λ r. ⌜ asWord (now (bytes .entry)) count r ≡ wordRead table4 (bitsLeft (now (bytes .entry)) count at) at ⌝ }
 {
     bits::walk(tables, 90, bytes, count, at)
 }
@@ -129,4 +132,142 @@ pub fn coefficient(
     } else {
         CoefficientRead::Coefficient((pair / 16) as u8, (256 - level) as u8, at + size)
     }
+}
+
+// A codeword to be written: its number in `width` bits.
+pub struct Codeword {
+    pub width: usize,
+    pub bits: u32,
+}
+
+fn split(e: u16) -> Codeword
+    ensures { λ r. ⌜ (r .width ≡ e % 32) × (r .bits ≡ e / 32) × (r .bits < 2048) ⌝ }
+{
+    Codeword {
+        width: (e % 32) as usize,
+        bits: (e / 32) as u32,
+    }
+}
+
+// The codeword that an entry by meaning spells.
+fn spelt(tables: &[u16; 1521], place: usize) -> Codeword
+    requires { ⌜ place < 1521 ⌝ }
+    ensures { λ r. ⌜ (r .width ≡ getD (now (tables .entry)) place 0 % 32) × (r .bits ≡ getD (now (tables .entry)) place 0 / 32) × (r .bits < 2048) ⌝ }
+{
+    split(tables[place])
+}
+
+// The codeword of MBA: a step of 1 to 33, 34 for stuffing, 35 for a start code.
+pub fn mba_codeword(tables: &[u16; 1521], step: usize) -> Codeword
+    requires { ⌜ (Tables (now tables)) × (1 ≤ step) × (step ≤ 35) ⌝ }
+    ensures { λ r. ⌜ Writes (wordOf table1 step) r ⌝ }
+{
+    spelt(tables, 946 + step)
+}
+
+// The codeword of MTYPE, 1 to 10.
+pub fn mtype_codeword(tables: &[u16; 1521], kind: usize) -> Codeword
+    requires { ⌜ (Tables (now tables)) × (1 ≤ kind) × (kind ≤ 10) ⌝ }
+    ensures { λ r. ⌜ Writes (wordOf table2 kind) r ⌝ }
+{
+    spelt(tables, 982 + kind)
+}
+
+// The codeword of a component of MVD: 16 more than the difference that Table 3 prints first.
+pub fn mvd_codeword(tables: &[u16; 1521], difference: usize) -> Codeword
+    requires { ⌜ (Tables (now tables)) × (difference ≤ 31) ⌝ }
+    ensures { λ r. ⌜ Writes (wordOf table3 difference) r ⌝ }
+{
+    spelt(tables, 993 + difference)
+}
+
+// The codeword of CBP, 1 to 63.
+pub fn cbp_codeword(tables: &[u16; 1521], pattern: usize) -> Codeword
+    requires { ⌜ (Tables (now tables)) × (1 ≤ pattern) × (pattern ≤ 63) ⌝ }
+    ensures { λ r. ⌜ Writes (wordOf table4 pattern) r ⌝ }
+{
+    spelt(tables, 1025 + pattern)
+}
+
+// EOB.
+pub fn end_codeword() -> Codeword
+    ensures { λ r. ⌜ Writes (wordOf laterTable5 endOfBlock) r ⌝ }
+{
+    Codeword { width: 2, bits: 2 }
+}
+
+fn sign(code: u8) -> u32
+    ensures { λ r. ⌜ r ≡ negative code ⌝ }
+{
+    if code < 128 { 0 } else { 1 }
+}
+
+fn magnitude(code: u8) -> usize
+    ensures { λ r. ⌜ r ≡ size code ⌝ }
+{
+    if code < 128 {
+        code as usize
+    } else {
+        256 - code as usize
+    }
+}
+
+fn escape(run: usize, code: u8) -> Codeword
+    requires { ⌜ run ≤ 63 ⌝ }
+    ensures { λ r. ⌜ r ≡ made 20 (16384 + run * 256 + code) ⌝ }
+{
+    Codeword {
+        width: 20,
+        bits: 16384 + (run as u32) * 256 + (code as u32),
+    }
+}
+
+// The codeword of a coefficient with its sign: "a table code wherever Table 5 has one", else an escape. `first` for the first coefficient of a
+// block that is not INTRA.
+pub fn coefficient_codeword(tables: &[u16; 1521], run: usize, code: u8, first: bool) -> Codeword
+    requires { ⌜ (Tables (now tables)) × (Sendable (coefficientOf run code)) ⌝ }
+    ensures { λ r. ⌜ Writes (tcoeffOf (pick first firstTable5 laterTable5) (coefficientOf run code)) r ⌝ }
+{
+    let minus = sign(code);
+    let level = magnitude(code);
+    if 16 <= level {
+        return escape(run, code);
+    }
+    if 27 <= run {
+        return escape(run, code);
+    }
+    let pair = run * 16 + level;
+    if pair == 1 {
+        if first {
+            return Codeword {
+                width: 2,
+                bits: 2 + minus,
+            };
+        }
+        return Codeword {
+            width: 3,
+            bits: 6 + minus,
+        };
+    }
+    let word = spelt(tables, 1089 + pair);
+    let width = word.width;
+    if width == 0 {
+        return escape(run, code);
+    }
+    let number = word.bits;
+    Codeword {
+        width: width + 1,
+        bits: number * 2 + minus,
+    }
+}
+
+// A codeword at a place of the output; the place after it.
+pub fn put(out: &mut [u8], at: usize, word: Codeword) -> usize
+    requires { ⌜ (1 ≤ word .width) × (word .width ≤ 24) × (word .bits < 2 ^ (word .width)) × (at + word .width ≤ 8 * length (now out)) × (at < 4294967296) ⌝ }
+    ensures { λ r. ⌜ (r ≡ at + word .width) × (now (out .exit) ≡ written (now (out .entry)) at (bitsOf (word .width) (word .bits))) ⌝ }
+{
+    let width = word.width;
+    let number = word.bits;
+    bits::put(out, at, width, number);
+    at + width
 }

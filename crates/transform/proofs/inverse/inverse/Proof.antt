@@ -1,7 +1,12 @@
+use mathlib.Core.Path.{_≡_, ap, _∙_}
 use Prim.Native.Nat.{ℕ, zero-le}
 use lib.IntN.{ℤ}
-use Rattle.laws.specs.Integer.{Low}
+use mir.Syntax.{w32}
+use Rattle.laws.specs.Integer.{Low, back}
 use Rattle.laws.specs.Block.{is-each}
+use Rattle.transform.specs.Passes.{flatAt}
+use Rattle.transform.proofs.Lines.{back32}
+use Rattle.transform.proofs.Halves.{flat-block}
 use Rattle.transform.proofs.Bounds.{along-low}
 use Rattle.transform.proofs.Split.{whole}
 use borrow.Author.Needs.{needs}
@@ -10,20 +15,47 @@ use Rattle.transform.proofs.inverse.inverse.Tie as tie
 use Rattle.transform.proofs.inverse.inverse.Reads as reads
 use Rattle.transform.proofs.inverse.inverse.Lts as lts
 use Rattle.transform.proofs.inverse.columns.Reads as columns-reads
+use Rattle.transform.proofs.inverse.flat.Reads as flat-reads
+use Rattle.transform.proofs.inverse.lone.Reads as lone-reads
 use Rattle.transform.proofs.inverse.rows.Reads as rows-reads
 
--- src/inverse.rt:226:13
+lone-requires : tie.Need-lone-requires
+lone-requires c κs = search needs
+
+index-1-flat : tie.Need-index-1-flat
+index-1-flat c = search needs
+
+index-2-flat : tie.Need-index-2-flat
+index-2-flat c = search needs
+
+flat-requires : tie.Need-flat-requires
+flat-requires c κs = rw (back w32 tt (c .before .before .before .before .pre 0 0)) (c .before .before .before .before .pre 0 0)
+
+returns : tie.Need-returns
+returns c =
+    let s = c .before .before .before .before .before in
+    flat-block (s .args .t1) (c .before .before .before .lone .ensures (c .before .before .if1 .taken))
+    (back32 (c .flat .result) (c .flat .ok) ∙ c .flat .ensures ∙ ap flatAt (back w32 tt (s .pre 0 0)))
+
 rows-requires : tie.Need-rows-requires
 rows-requires c κs = search needs
 
--- src/inverse.rt:226:5
 columns-requires : tie.Need-columns-requires
 columns-requires c κs =
-    is-each (λ (z : ℤ). Low 46546944 z) (c .rows .ensures) (record { low = zero-le }) (λ v x. along-low _ x (c .before .pre v))
+    is-each (λ (z : ℤ). Low 46546944 z) (c .rows .ensures) (record { low = zero-le }) (λ v x. along-low _ x (c .before .before .before .before .pre v))
 
--- src/inverse.rt:222:1
-returns : tie.Need-returns
-returns c = whole _ _ _ (c .before .rows .ensures) (c .columns .ensures)
+returns-2 : tie.Need-returns-2
+returns-2 c = whole _ _ _ (c .before .rows .ensures) (c .columns .ensures)
 
 pub inverse-spec : {M : Type 1} → statement M
-inverse-spec = tie.close (tie.spec rows-requires columns-requires returns)
+inverse-spec =
+    tie.close
+    (tie.spec
+    lone-requires
+    index-1-flat
+    index-2-flat
+    flat-requires
+    returns
+    rows-requires
+    columns-requires
+    returns-2)

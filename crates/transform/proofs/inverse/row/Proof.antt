@@ -11,22 +11,22 @@ use Rattle.laws.specs.Sum.{sumZ}
 use Rattle.transform.specs.Inverse.{A}
 use Rattle.transform.specs.Passes.{entry, along}
 use Rattle.transform.proofs.Lines.{line-low, back32, back16}
-use Rattle.transform.proofs.Halves.{alone, low-k0}
+use Rattle.transform.proofs.Halves.{alone-along, low-k0}
 use Rattle.transform.proofs.Split.{along-same}
 use borrow.Author.Needs.{needs}
 use Rattle.transform.proofs.inverse.row.Statement.{statement}
 use Rattle.transform.proofs.inverse.row.Tie as tie
 use Rattle.transform.proofs.inverse.row.Reads as reads
 use Rattle.transform.proofs.inverse.row.Lts as lts
-use Rattle.transform.proofs.inverse.first_only.Reads as first-only-reads
+use Rattle.transform.proofs.inverse.zero_from.Reads as zero-from-reads
 use Rattle.transform.proofs.inverse.more.Reads as more-reads
 use Rattle.transform.proofs.inverse.narrow.Reads as narrow-reads
 use Rattle.transform.proofs.inverse.narrowed.Reads as narrowed-reads
 use Rattle.transform.proofs.inverse.pass.Reads as pass-reads
 
 -- src/inverse.rt:115:8
-first-only-requires : tie.Need-first-only-requires
-first-only-requires c κs = search needs
+zero-from-requires : tie.Need-zero-from-requires
+zero-from-requires c κs = search needs
 
 -- src/inverse.rt:116:32
 array-copy-out-narrow : tie.Need-array-copy-out-narrow
@@ -58,7 +58,7 @@ returns c =
       entries = λ x l.
           getD-replicate 8 x _ (pos 0) l ∙ back32 (c .more .result) (c .more .ok) ∙ c .more .ensures
           ∙ ap (λ (z : ℤ). pos 0 +ℤ z *ℤ pos 2048) (first-is (c .before)) ∙ +ℤ-idl (entry (s .args .t1) 0 *ℤ pos 2048)
-          ∙ alone (s .args .t1) (c .before .before .before .before .first-only .ensures (c .before .before .before .if1 .taken)) x;
+          ∙ sym (alone-along (s .args .t1) (c .before .before .before .before .zero-from .ensures (c .before .before .before .if1 .taken)) x);
     }
 
 -- src/inverse.rt:119:10
@@ -81,7 +81,7 @@ pub row-spec : {M : Type 1} → statement M
 row-spec =
     tie.close
     (tie.spec
-    first-only-requires
+    zero-from-requires
     array-copy-out-narrow
     narrow-requires
     more-requires

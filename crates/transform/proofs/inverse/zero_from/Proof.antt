@@ -3,7 +3,6 @@ use mathlib.Core.Bool.{true}
 use Prim.Native.Nat.{ℕ, _≤_, _<_, _-_, _+_}
 use native.Mathlib.Nat.{lt-of-lt-of-le}
 use native.Mathlib.Omega.{arith}
-use lib.Bits.{bitOr, or-add-and, and-le-l, and-le-r}
 use lib.IntN.{ℤ, pos}
 use lib.ListN.{getD}
 use mir.Syntax.{w32}
@@ -11,27 +10,21 @@ use mir.Val.{toZ, ofZ}
 use borrow.Author.Needs.{needs}
 use borrow.Author.Tests.{eqb-true}
 use borrow.Author.Count.{below-more}
+use Rattle.transform.proofs.Bits.{or-left, or-right}
 use Rattle.laws.specs.Integer.{Low, back}
-use Rattle.transform.proofs.inverse.first_only.Statement.{statement}
-use Rattle.transform.proofs.inverse.first_only.Tie as tie
-use Rattle.transform.proofs.inverse.first_only.Reads as reads
-use Rattle.transform.proofs.inverse.first_only.Lts as lts
+use Rattle.transform.proofs.inverse.zero_from.Statement.{statement}
+use Rattle.transform.proofs.inverse.zero_from.Tie as tie
+use Rattle.transform.proofs.inverse.zero_from.Reads as reads
+use Rattle.transform.proofs.inverse.zero_from.Lts as lts
 
 abbrev Inv-loop : tie.InvT-loop
-Inv-loop f bits₀ i₀ bits i = (1 ≤ i) × (i ≤ 8) × (bits ≡ 0 → (k : ℕ) → k < i → 0 < k → getD f k (pos 0) ≡ pos 0)
+Inv-loop from f bits₀ i₀ bits i = (from ≤ i) × (i ≤ 8) × (bits ≡ 0 → (k : ℕ) → k < i → from ≤ k → getD f k (pos 0) ≡ pos 0)
 
 abbrev μ-loop : tie.MeasureT-loop
-μ-loop f bits₀ i₀ bits i = 8 - i
+μ-loop from f bits₀ i₀ bits i = 8 - i
 
-none : (k : ℕ) → k < 1 → 0 < k → ⊥
-none k l p = omega arith
-
--- where two numbers' bits together are 0, each is 0
-or-left : (a b : ℕ) → bitOr a b ≡ 0 → a ≡ 0
-or-left a b e = omega (arith, or-add-and a b, and-le-l a b, and-le-r a b)
-
-or-right : (a b : ℕ) → bitOr a b ≡ 0 → b ≡ 0
-or-right a b e = omega (arith, or-add-and a b, and-le-l a b, and-le-r a b)
+none : (from k : ℕ) → k < from → from ≤ k → ⊥
+none from k l p = omega arith
 
 -- bits of 0 are 0
 is-zero : {z : ℤ} → Low 2048 z → ofZ w32 z ≡ 0 → z ≡ pos 0
@@ -39,7 +32,7 @@ is-zero p e = sym (back w32 tt p) ∙ ap (toZ w32) e
 
 -- src/inverse.rt:77:5
 loop-holds : tie.Need-loop-holds Inv-loop μ-loop
-loop-holds c = (search needs, search needs, λ e k l p. absurd (none k l p))
+loop-holds c = (search needs, search needs, λ e k l p. absurd (none _ k l p))
 
 -- src/inverse.rt:78:23
 mul-bits : tie.Need-mul-bits Inv-loop μ-loop
@@ -65,16 +58,16 @@ loop-again c =
       search needs,
       search needs,
       λ e.
-          below-more (λ (k : ℕ). 0 < k → getD (s .args .t1) k (pos 0) ≡ pos 0) _ (l .inv .2 (or-left (l .bits) (ofZ w32 (getD (s .args .t1) (l .i) (pos 0))) e))
-          (λ p. is-zero (s .pre (l .i)) (or-right (l .bits) (ofZ w32 (getD (s .args .t1) (l .i) (pos 0))) e)),
+          below-more (λ (k : ℕ). s .args .from ≤ k → getD (s .args .t1) k (pos 0) ≡ pos 0) _ (l .inv .2 (or-left (l .bits) (ofZ w32 (getD (s .args .t1) (l .i) (pos 0))) e))
+          (λ p. is-zero (s .pre .0 (l .i)) (or-right (l .bits) (ofZ w32 (getD (s .args .t1) (l .i) (pos 0))) e)),
     )
 
 -- src/inverse.rt:72:1
 returns : tie.Need-returns Inv-loop μ-loop
 returns c = λ e i p q. c .before .loop .inv .2 (eqb-true _ _ e) i (lt-of-lt-of-le q (c .loop-test .left)) p
 
-pub first-only-spec : {M : Type 1} → statement M
-first-only-spec =
+pub zero-from-spec : {M : Type 1} → statement M
+zero-from-spec =
     tie.close
     (tie.spec
     Inv-loop

@@ -1,0 +1,41 @@
+-- The description that bits give, and the answers of reading them. Assumes nothing.
+use Prim.Native.Nat.{ℕ, _+_, _*_}
+use mathlib.Core.Path.{_≡_}
+use mathlib.Core.List.{List}
+use lib.ListN.{length, replicate}
+use Rattle.refusals.specs.declared.Reason.the-variants.{Length}
+use Rattle.refusals.specs.Number.{refusal}
+use Rattle.bits.specs.Read.{Read, got, refused, endless}
+use Rattle.format.specs.Format.{groupCount}
+use Rattle.format.specs.declared.Format.{Format}
+use Rattle.description.specs.Flat.{Flat, laid}
+use Rattle.reader.specs.Answer.{mapRead, flat}
+use Rattle.reader.specs.Grammar.{reading}
+use Rattle.reader.specs.declared.Verdict.{Verdict}
+use Rattle.reader.specs.declared.Verdict.the-variants.{Accepted, Refused}
+
+-- the three slices have the lengths of the format
+pub record Lengths (f : Format) (head macroblocks levels : List ℕ) : Type 0 where
+  pub head-long : length head ≡ 3 + groupCount f
+  pub ms-long : length macroblocks ≡ groupCount f * 132
+  pub ls-long : length levels ≡ groupCount f * 12672
+
+-- the description of the picture that N bits of a slice are
+unfoldable pub described : Format → List ℕ → ℕ → Read Flat
+described f bytes n = mapRead (laid f) (reading f bytes n)
+
+-- reading is never endless (never-endless, Verdict.antt), so what stands there is never given
+abbrev pub verdictOf : {A : Type 0} → Read A → Verdict
+verdictOf (got a bs at) = Accepted
+verdictOf (refused r) = Refused r
+verdictOf endless = Refused (refusal Length 0)
+
+-- zeros in the format's lengths
+abbrev pub zeros : Format → Flat
+zeros f = flat (replicate (3 + groupCount f) 0) (replicate (groupCount f * 132) 0) (replicate (groupCount f * 12672) 0)
+
+-- the description, or zeros
+abbrev pub laidOr : Format → Read Flat → Flat
+laidOr f (got d bs at) = d
+laidOr f (refused r) = zeros f
+laidOr f endless = zeros f

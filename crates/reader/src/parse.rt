@@ -1,0 +1,100 @@
+// A picture's bits to its description, or the refusal, in buffers of the format's lengths.
+use crate::HeaderRead;
+use crate::PlaceRead;
+use crate::Verdict;
+use crate::head::header;
+use crate::head::place_refusal;
+use crate::picture::groups;
+use format::Format;
+use refusals::Reason;
+use refusals::Refusal;
+ghost use mathlib.Core.Path.{_≡_};
+ghost use Prim.Native.Nat.{_+_, _*_, _≤_};
+ghost use lib.Dec.{ltb};
+ghost use lib.ListN.{length, replicate};
+ghost use Rattle.laws.specs.Choice.{either};
+ghost use Rattle.format.specs.Format.{limit, groupCount};
+ghost use Rattle.reader.specs.Answer.{flat, headerRefusal};
+ghost use Rattle.reader.specs.Described.{Lengths, described, verdictOf, laidOr};
+
+fn header_refusal(read: HeaderRead) -> Refusal
+    ensures { λ r. ⌜ r ≡ headerRefusal read ⌝ }
+{
+    match read {
+        HeaderRead::Got(_, _, at) => Refusal {
+            reason: Reason::BitsEnd,
+            place: at,
+        },
+        HeaderRead::Refused(refusal) => refusal,
+    }
+}
+
+// Whether N is above 8 times the slice, or above the format's limit.
+fn above(length: usize, count: usize, format: Format) -> bool
+    ensures { λ r. ⌜ r ≡ either (ltb (8 * length) count) (ltb (limit format) count) ⌝ }
+{
+    let started = count / 8 + (count % 8 + 7) / 8;
+    if length < started {
+        return true;
+    }
+    format::limit(format) < count
+}
+
+fn clear(buffer: &mut [u8])
+    ensures { λ _. ⌜ now (buffer .exit) ≡ replicate (length (now (buffer .entry))) 0 ⌝ }
+{
+    let mut i: usize = 0;
+    while i < buffer.len() {
+        buffer[i] = 0;
+        i += 1;
+    }
+}
+
+// The verdict of the rules. On acceptance the buffers hold the description, on a refusal zeros.
+pub fn parse(
+    bytes: &[u8],
+    count: usize,
+    format: Format,
+    head: &mut [u8],
+    macroblocks: &mut [u8],
+    levels: &mut [u8],
+) -> Verdict
+    requires { ⌜ Lengths format (now head) (now macroblocks) (now levels) ⌝ }
+    ensures verdict { λ r. ⌜ r ≡ verdictOf (described format (now (bytes .entry)) count) ⌝ }
+    ensures buffers { λ _. ⌜ flat (now (head .exit)) (now (macroblocks .exit)) (now (levels .exit)) ≡ laidOr format (described format (now (bytes .entry)) count) ⌝ }
+{
+    clear(head);
+    clear(macroblocks);
+    clear(levels);
+    if above(bytes.len(), count, format) {
+        return Verdict::Refused(Refusal {
+            reason: Reason::Count,
+            place: 0,
+        });
+    }
+    let opened = header(bytes, count, 0, format);
+    let HeaderRead::Got(tr, ptype, next) = opened else {
+        return Verdict::Refused(header_refusal(opened));
+    };
+    head[0] = tr;
+    head[1] = ptype;
+    head[2] = format::bit(format);
+    let tables = words::tables();
+    let read = groups(
+        &tables,
+        bytes,
+        count,
+        next,
+        format,
+        head,
+        macroblocks,
+        levels,
+    );
+    let PlaceRead::At(_) = read else {
+        clear(head);
+        clear(macroblocks);
+        clear(levels);
+        return Verdict::Refused(place_refusal(read));
+    };
+    Verdict::Accepted
+}

@@ -1,0 +1,92 @@
+use native.Mathlib.Omega.{arith}
+use Rattle.words.specs.Tables.{pair, pairs}
+use Rattle.words.specs.Back.{negative-small}
+use Rattle.words.proofs.Codewords.{spelt-at, escape-large, escape-far, escape-none, pair-writes, one-first, one-later}
+use borrow.Author.Needs.{needs}
+use Rattle.words.proofs.coefficient_codeword.Statement.{statement}
+use Rattle.words.proofs.coefficient_codeword.Tie as tie
+
+sign-requires : tie.Need-sign-requires
+sign-requires c κs = search needs
+
+magnitude-requires : tie.Need-magnitude-requires
+magnitude-requires c κs = search needs
+
+escape-requires : tie.Need-escape-requires
+escape-requires c κs = search needs
+
+returns : tie.Need-returns
+returns c = let a = c .before .before .before .before .args in rw (c .escape .ensures) (escape-large (a .first) (a .run) (a .code) _ _ (c .before .before .before .before .pre .1) (c .before .before .magnitude .ensures) (c .before .before .before .sign .ensures) (c .before .if1 .taken))
+
+escape-requires-2 : tie.Need-escape-requires-2
+escape-requires-2 c κs = search needs
+
+returns-2 : tie.Need-returns-2
+returns-2 c = let a = c .before .before .before .before .before .args in rw (c .escape2 .ensures) (escape-far (a .first) (a .run) (a .code) _ _ (c .before .before .before .before .before .pre .1) (c .before .before .before .magnitude .ensures) (c .before .before .before .before .sign .ensures) (c .before .before .if1 .left) (c .before .if2 .taken))
+
+mul-pair : tie.Need-mul-pair
+mul-pair c = search needs
+
+add-pair : tie.Need-add-pair
+add-pair c = search needs
+
+add-t14 : tie.Need-add-t14
+add-t14 c = omega (arith, c .before .before .before .before .before .sign .ensures, negative-small (c .before .before .before .before .before .before .args .code))
+
+returns-3 : tie.Need-returns-3
+returns-3 c = let a = c .before .before .before .before .before .before .args in one-first (a .run) (a .code) _ _ (c .before .before .before .before .before .before .pre .1) (c .before .before .before .before .magnitude .ensures) (c .before .before .before .before .before .sign .ensures) (c .before .before .before .if1 .left) (c .before .if3 .taken) (a .first) (c .if4 .taken)
+
+add-t15 : tie.Need-add-t15
+add-t15 c = omega (arith, c .before .before .before .before .before .sign .ensures, negative-small (c .before .before .before .before .before .before .args .code))
+
+returns-4 : tie.Need-returns-4
+returns-4 c = let a = c .before .before .before .before .before .before .args in one-later (a .run) (a .code) _ _ (c .before .before .before .before .before .before .pre .1) (c .before .before .before .before .magnitude .ensures) (c .before .before .before .before .before .sign .ensures) (c .before .before .before .if1 .left) (c .before .if3 .taken) (a .first) (c .if4 .left)
+
+add-spelt : tie.Need-add-spelt
+add-spelt c = search needs
+
+spelt-requires : tie.Need-spelt-requires
+spelt-requires c κs = search needs
+
+escape-requires-3 : tie.Need-escape-requires-3
+escape-requires-3 c κs = search needs
+
+returns-5 : tie.Need-returns-5
+returns-5 c = let a = c .before .before .before .before .before .before .before .before .args in rw (c .escape3 .ensures) (escape-none (a .first) (a .run) (a .code) _ _ (c .before .before .before .before .before .before .before .before .pre .1) (c .before .before .before .before .before .before .magnitude .ensures) (c .before .before .before .before .before .before .before .sign .ensures) (c .before .before .before .before .before .if1 .left) _ _ (spelt-at (a .tables .now) 1089 432 pairs (c .before .before .before .before .before .before .before .before .pre .0 .pairWords) (pair (a .run) (c .before .before .before .before .before .before .magnitude .result)) (search needs)) (c .before .before .before .if3 .left) (c .before .before .spelt .ensures .0) (c .before .if5 .taken))
+
+add-t12 : tie.Need-add-t12
+add-t12 c = search needs
+
+mul-t16 : tie.Need-mul-t16
+mul-t16 c = search needs
+
+add-t17 : tie.Need-add-t17
+add-t17 c = omega (arith, c .before .before .before .before .before .before .sign .ensures, negative-small (c .before .before .before .before .before .before .before .args .code), c .before .spelt .ensures .2)
+
+returns-6 : tie.Need-returns-6
+returns-6 c = let a = c .before .before .before .before .before .before .before .args in pair-writes (a .first) (a .run) (a .code) _ _ (c .before .before .before .before .before .before .before .pre .1) (c .before .before .before .before .before .magnitude .ensures) (c .before .before .before .before .before .before .sign .ensures) (c .before .before .before .before .if1 .left) _ _ _ (spelt-at (a .tables .now) 1089 432 pairs (c .before .before .before .before .before .before .before .pre .0 .pairWords) (pair (a .run) (c .before .before .before .before .before .magnitude .result)) (search needs)) (c .before .before .if3 .left) (c .before .spelt .ensures .0) (c .before .spelt .ensures .1) (c .if5 .left)
+
+pub coefficient-codeword-spec : {M : Type 1} → statement M
+coefficient-codeword-spec =
+    tie.close
+    (tie.spec
+    sign-requires
+    magnitude-requires
+    escape-requires
+    returns
+    escape-requires-2
+    returns-2
+    mul-pair
+    add-pair
+    add-t14
+    returns-3
+    add-t15
+    returns-4
+    add-spelt
+    spelt-requires
+    escape-requires-3
+    returns-5
+    add-t12
+    mul-t16
+    add-t17
+    returns-6)
