@@ -5,7 +5,7 @@ use mathlib.Core.Bool.{Bool, true, false}
 use mathlib.Core.List.{List}
 use native.Mathlib.Omega.{arith}
 use lib.Dec.{T}
-use Rattle.refusals.specs.declared.Reason.the-variants.{BitsEnd}
+use Rattle.refusals.specs.declared.Reason.the-variants.{Length}
 use Rattle.refusals.specs.declared.Refusal.{Refusal}
 use Rattle.refusals.specs.Number.{refusal}
 use Rattle.bits.specs.Read.{Read, got, endless, refused as unread}
@@ -15,21 +15,24 @@ use Rattle.description.specs.Flat.{Flat, laid}
 use Rattle.description.specs.Valid.{valid}
 use Rattle.description.specs.Fields.{refresh}
 use Rattle.reader.specs.Grammar.{reading}
+use Rattle.reader.specs.Answer.{mapRead}
+use Rattle.reader.specs.Described.{described}
 use Rattle.reader.specs.Verdict.{accepted-valid}
 use Rattle.render.specs.Sample.{rendered}
 use Rattle.receiver.specs.Coding.{Found, accepted, refused, Coding}
 
--- a picture is kept as its description; no reading is endless (`never-endless` of the reader)
-abbrev pub found : Format → Read Picture → Found Flat
-found f (got p left at) = accepted (laid f p)
-found f (unread why) = refused why
-found f endless = refused (refusal BitsEnd 0)
+-- no reading is endless (`never-endless` of the reader)
+abbrev pub found : Read Flat → Found Flat
+found (got d left at) = accepted d
+found (unread why) = refused why
+found endless = refused (refusal Length 0)
 
 abbrev pub h261 : Format → Coding Flat
-h261 f = record { read = λ bytes n. found f (reading f bytes n); refresh = refresh f; render = rendered f }
+h261 f = record { read = λ bytes n. found (described f bytes n); refresh = refresh f; render = rendered f }
 
 -- what is found is a valid description
 pub found-valid : (f : Format) (bytes : List ℕ) (n : ℕ) (d : Flat) → accepted d ≡ h261 f .read bytes n → T (valid f d)
+unfolding described
 found-valid f bytes n d e = go (reading f bytes n) refl
   where
     never : (why : Refusal) → accepted d ≡ refused why → ⊥
@@ -38,7 +41,10 @@ found-valid f bytes n d e = go (reading f bytes n) refl
     inside : (x : Flat) → accepted d ≡ accepted x → x ≡ d
     inside x q = cc
 
+    read-as : (x : Read Picture) → reading f bytes n ≡ x → accepted d ≡ found (mapRead (laid f) x)
+    read-as x h = e ∙ ap (λ (y : Read Picture). found (mapRead (laid f) y)) h
+
     go : (x : Read Picture) → reading f bytes n ≡ x → T (valid f d)
-    go (got p left at) h = subst (λ (x : Flat). T (valid f x)) (inside (laid f p) (e ∙ ap (found f) h)) (accepted-valid f bytes n p left at h)
-    go (unread why) h = absurd (never why (e ∙ ap (found f) h))
-    go endless h = absurd (never (refusal BitsEnd 0) (e ∙ ap (found f) h))
+    go (got p left at) h = subst (λ (x : Flat). T (valid f x)) (inside (laid f p) (read-as (got p left at) h)) (accepted-valid f bytes n p left at h)
+    go (unread why) h = absurd (never why (read-as (unread why) h))
+    go endless h = absurd (never (refusal Length 0) (read-as endless h))

@@ -5,3 +5,4 @@ pub mod Shown
 pub mod Run
 pub mod H261
 pub mod Laws
+pub mod Told

@@ -1,20 +1,23 @@
 // A receiver of one clip's blocks: state by value, in and out.
 use format::Format;
+use reader::Verdict;
 use refusals::Reason;
 use refusals::Refusal;
 use stores::Holder;
+use vault::Checked;
 use vault::Header;
 ghost use mathlib.Core.Path.{_≡_};
 ghost use Prim.Native.Nat.{_<_, _≤_};
 ghost use lib.Dec.{T};
 ghost use lib.ListN.{length};
-ghost use Rattle.format.specs.Format.{storeLength};
+ghost use Rattle.format.specs.Format.{headLength, macroblocksLength, levelsLength, storeLength};
+ghost use Rattle.vault.specs.Parts.{placed};
 ghost use Rattle.description.specs.Valid.{valid};
 ghost use Rattle.description.specs.Fields.{flat};
 ghost use Rattle.receiver.specs.Coding.{accepted};
 ghost use Rattle.receiver.specs.H261.{h261};
-ghost use Rattle.receiver.specs.Laws.{Settles};
-ghost use Rattle.receiver.specs.Receive.{alike, ended, received as receivedOf};
+ghost use Rattle.receiver.specs.Laws.{Ready, Settles};
+ghost use Rattle.receiver.specs.Receive.{alike, countOf, ended, tookOf, byLine, received as receivedOf, buffers, outcome, cameTo, step};
 ghost use lib.Dec.{eqb};
 ghost use Rattle.laws.specs.Choice.{both, opposite};
 ghost use Rattle.refusals.specs.Number.{number};
@@ -332,6 +335,158 @@ fn settle(
             place: 0,
         },
     )
+}
+
+// It is read into the lent scratch, then settled.
+fn finish_in(
+    receiver: Receiver,
+    header: Header,
+    collection: &[u8],
+    head: &mut [u8],
+    macroblocks: &mut [u8],
+    levels: &mut [u8],
+    first: &mut [u8],
+    second: &mut [u8],
+) -> Received
+    requires { ⌜ (header .picture < 4096) × (header .part ≤ 65) × (header .used ≤ 4000) × (length (now head) ≡ headLength (receiver .format)) × (length (now macroblocks) ≡ macroblocksLength (receiver .format)) × (length (now levels) ≡ levelsLength (receiver .format)) × (length (now first) ≡ storeLength (receiver .format)) × (length (now second) ≡ storeLength (receiver .format)) ⌝ }
+    ensures { λ r. ⌜ Settles h261 receiver (stores (now (first .entry)) (now (second .entry))) (ended h261 receiver header (h261 (receiver .format) .read (now (collection .entry)) (countOf header))) r (stores (now (first .exit)) (now (second .exit))) ⌝ }
+{
+    let format = receiver.format;
+    let count = 4000 * (header.part as usize) + (header.used as usize);
+    let verdict = reader::parse::parse(collection, count, format, head, macroblocks, levels);
+    match verdict {
+        Verdict::Refused(why) => failed(receiver, header, why),
+        Verdict::Accepted => settle(receiver, header, head, macroblocks, levels, first, second),
+    }
+}
+
+fn finish(
+    receiver: Receiver,
+    header: Header,
+    collection: &[u8],
+    first: &mut [u8],
+    second: &mut [u8],
+) -> Received
+    requires { ⌜ (header .picture < 4096) × (header .part ≤ 65) × (header .used ≤ 4000) × (length (now first) ≡ storeLength (receiver .format)) × (length (now second) ≡ storeLength (receiver .format)) ⌝ }
+    ensures { λ r. ⌜ Settles h261 receiver (stores (now (first .entry)) (now (second .entry))) (ended h261 receiver header (h261 (receiver .format) .read (now (collection .entry)) (countOf header))) r (stores (now (first .exit)) (now (second .exit))) ⌝ }
+{
+    let format = receiver.format;
+    let mut head = [0u8; 15];
+    let mut macroblocks = [0u8; 1584];
+    let mut levels = [0u8; 152064];
+    let heads = format::head_length(format);
+    let fields = format::macroblocks_length(format);
+    let coefficients = format::levels_length(format);
+    finish_in(
+        receiver,
+        header,
+        collection,
+        &mut head[..heads],
+        &mut macroblocks[..fields],
+        &mut levels[..coefficients],
+        first,
+        second,
+    )
+}
+
+// ---- a block
+
+// A block that is taken: its payload is collected, and a last part read at once.
+fn collect(
+    receiver: Receiver,
+    header: Header,
+    standing: Standing,
+    block: &[u8],
+    collection: &mut [u8],
+    first: &mut [u8],
+    second: &mut [u8],
+) -> Received
+    requires { ⌜ Ready (receiver .format) header (now block) (now collection) (now first) (now second) ⌝ }
+    ensures { λ r. ⌜ outcome r (now (collection .exit)) (now (first .exit)) (now (second .exit)) ≡ cameTo h261 receiver (now (block .entry)) (buffers (now (collection .entry)) (now (first .entry)) (now (second .entry))) (tookOf h261 receiver header standing (placed (now (block .entry)) (header .part) (now (collection .entry)))) ⌝ }
+{
+    let part = header.part;
+    vault::place(block, part, collection);
+    if header.last {
+        return finish(receiver, header, collection, first, second);
+    }
+    let next = take(receiver, header, standing);
+    Received {
+        answer: Answer::Taken(header.picture, header.part),
+        next,
+    }
+}
+
+// A good block of this clip, by the first matching line.
+fn act(
+    receiver: Receiver,
+    header: Header,
+    block: &[u8],
+    collection: &mut [u8],
+    first: &mut [u8],
+    second: &mut [u8],
+) -> Received
+    requires { ⌜ Ready (receiver .format) header (now block) (now collection) (now first) (now second) ⌝ }
+    ensures { λ r. ⌜ outcome r (now (collection .exit)) (now (first .exit)) (now (second .exit)) ≡ cameTo h261 receiver (now (block .entry)) (buffers (now (collection .entry)) (now (first .entry)) (now (second .entry))) (byLine h261 (lineOf receiver header) receiver header (now (block .entry)) (now (collection .entry))) ⌝ }
+{
+    let line = first_line(receiver, header);
+    match line {
+        Line::Earlier => Received {
+            answer: Answer::Old(header.picture, header.part),
+            next: receiver,
+        },
+        Line::Next => {
+            let standing = receiver.standing;
+            collect(receiver, header, standing, block, collection, first, second)
+        }
+        Line::Anew => collect(
+            receiver,
+            header,
+            Standing::Catching,
+            block,
+            collection,
+            first,
+            second,
+        ),
+        Line::Otherwise => {
+            let next = lose(receiver);
+            Received {
+                answer: Answer::Lost,
+                next,
+            }
+        }
+    }
+}
+
+// A block comes: the answer and the next state; the payload in the collection, a finished picture in a store.
+pub fn receive(
+    receiver: Receiver,
+    block: &[u8],
+    collection: &mut [u8],
+    first: &mut [u8],
+    second: &mut [u8],
+) -> Received
+    ensures { λ r. ⌜ outcome r (now (collection .exit)) (now (first .exit)) (now (second .exit)) ≡ step h261 receiver (now (block .entry)) (buffers (now (collection .entry)) (now (first .entry)) (now (second .entry))) ⌝ }
+{
+    let format = receiver.format;
+    let clip = receiver.clip;
+    if named(format, collection.len(), first.len(), second.len()) {
+        let checked = vault::judge(format, clip, block);
+        match checked {
+            Checked::Good(header) => act(receiver, header, block, collection, first, second),
+            Checked::Refused(why) => Received {
+                answer: Answer::Refused(why),
+                next: receiver,
+            },
+        }
+    } else {
+        Received {
+            answer: Answer::Refused(Refusal {
+                reason: Reason::Length,
+                place: 0,
+            }),
+            next: receiver,
+        }
+    }
 }
 
 // ---- what is shown
