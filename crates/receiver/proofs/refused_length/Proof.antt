@@ -1,0 +1,55 @@
+-- `receiver::refused_length` meets its contract: by the answer. Assumes nothing.
+use borrow.Author.Needs.{needs}
+use mathlib.Core.Path.{sym, ap, _∙_}
+use Rattle.receiver.specs.Shown.{refusedLength}
+use Rattle.receiver.proofs.refused_length.Statement.{statement}
+use Rattle.receiver.proofs.refused_length.Tie as tie
+
+enum-known-answer : tie.Need-enum-known-answer
+enum-known-answer c = search needs
+
+is-length-requires : tie.Need-is-length-requires
+is-length-requires c κs = search needs
+
+enum-told : tie.Need-enum-told
+enum-told c = search needs
+
+enum-told-2 : tie.Need-enum-told-2
+enum-told-2 c = search needs
+
+enum-told-3 : tie.Need-enum-told-3
+enum-told-3 c = search needs
+
+enum-told-4 : tie.Need-enum-told-4
+enum-told-4 c = search needs
+
+returns : tie.Need-returns
+returns c = c .is-length .ensures ∙ sym (ap refusedLength (c .before .before .answer .given .1))
+
+returns-2 : tie.Need-returns-2
+returns-2 c = search needs
+
+returns-3 : tie.Need-returns-3
+returns-3 c = search needs
+
+returns-4 : tie.Need-returns-4
+returns-4 c = search needs
+
+returns-5 : tie.Need-returns-5
+returns-5 c = search needs
+
+pub refused-length-spec : {M : Type 1} → statement M
+refused-length-spec =
+    tie.close
+    (tie.spec
+    enum-known-answer
+    is-length-requires
+    enum-told
+    enum-told-2
+    enum-told-3
+    enum-told-4
+    returns
+    returns-2
+    returns-3
+    returns-4
+    returns-5)

@@ -1,0 +1,230 @@
+-- Document 01, "What the receiver does with each block": what a block comes to (decide), the next state (advance), the lent buffers (collected, stored). Assumes nothing.
+use Prim.Native.Nat.{ℕ, _+_, _*_}
+use mathlib.Core.Bool.{Bool, true, false}
+use mathlib.Core.List.{List}
+use lib.Dec.{eqb, ltb}
+use lib.ListN.{length}
+use Rattle.laws.specs.Choice.{pick, both, either, opposite}
+use Rattle.refusals.specs.declared.Reason.the-variants.{UntrueMark, BlockField}
+use Rattle.refusals.specs.declared.Refusal.{Refusal}
+use Rattle.refusals.specs.Number.{refusal}
+use Rattle.format.specs.declared.Format.{Format}
+use Rattle.format.specs.Format.{collectionLength}
+use Rattle.refusals.specs.declared.Reason.the-variants as R
+use Rattle.vault.specs.declared.Header.{Header}
+use Rattle.vault.specs.declared.Checked.{Checked}
+use Rattle.vault.specs.declared.Checked.the-variants as C
+use Rattle.vault.specs.Block.{refusedBy, judgeOf}
+use Rattle.vault.specs.Parts.{placed}
+use Rattle.stores.specs.declared.Holder.{Holder}
+use Rattle.stores.specs.declared.Holder.the-variants.{Neither}
+use Rattle.stores.specs.Stores.{Stores, stores, sized, goesInto, reference, kept}
+use Rattle.receiver.specs.declared.Place.{Place}
+use Rattle.receiver.specs.declared.Standing.{Standing}
+use Rattle.receiver.specs.declared.Standing.the-variants as S
+use Rattle.receiver.specs.declared.Receiver.{Receiver}
+use Rattle.receiver.specs.declared.Opened.{Opened}
+use Rattle.receiver.specs.declared.Opened.the-variants as O
+use Rattle.receiver.specs.declared.Line.{Line}
+use Rattle.receiver.specs.declared.Line.the-variants.{Earlier, Next, Anew, Otherwise}
+use Rattle.receiver.specs.declared.Answer.{Answer}
+use Rattle.receiver.specs.declared.Answer.the-variants as A
+use Rattle.receiver.specs.declared.Received.{Received}
+use Rattle.receiver.specs.Coding.{Found, accepted, refused, Coding}
+
+abbrev pub place : ℕ → ℕ → Place
+place picture part = record { picture = picture; part = part }
+
+-- ---- opening: "It wants a place (picture, part), at first (0, 0), and starts lost." Refusal 22: "opening with clip 0"
+abbrev pub fresh : ℕ → Format → Receiver
+fresh clip format = record {
+  clip = clip;
+  format = format;
+  wanted = place 0 0;
+  standing = S.Lost;
+  holder = Neither;
+  refresh = false;
+}
+
+abbrev pub opened : ℕ → Format → Opened
+opened clip format = pick (eqb clip 0) (O.Refused (refusal BlockField 0)) (O.Open (fresh clip format))
+
+-- ---- the four lines
+-- "Places compare by picture, then part."
+abbrev pub earlier : Place → Place → Bool
+earlier a b = either (ltb (a .picture) (b .picture)) (both (eqb (a .picture) (b .picture)) (ltb (a .part) (b .part)))
+
+abbrev pub same : Place → Place → Bool
+same a b = both (eqb (a .picture) (b .picture)) (eqb (a .part) (b .part))
+
+abbrev pub isLost : Standing → Bool
+isLost S.Lost = true
+isLost S.Catching = false
+isLost (S.InStep k) = false
+
+abbrev pub placeOf : Header → Place
+placeOf header = place (header .picture) (header .part)
+
+-- "First matching line"
+unfoldable pub lineOf : Receiver → Header → Line
+lineOf r header =
+    -- "1. Earlier than wanted"
+    pick (earlier (placeOf header) (r .wanted)) Earlier
+    -- "2. Equal, and not lost"
+    (pick (both (same (placeOf header) (r .wanted)) (opposite (isLost (r .standing)))) Next
+    -- "3. Part 0 with refresh"; "4. Otherwise"
+    (pick (both (eqb (header .part) 0) (header .refresh)) Anew Otherwise))
+
+-- ---- what a block comes to. A finished picture is its header, which has its number and N (`countOf`), and its description
+pub data Event (D : Type 0) : Type 0 where
+  refusing : Refusal → Event D
+  old : Header → Event D
+  taken : Header → Standing → Event D
+  lost : Event D
+  failed : Header → Refusal → Event D
+  finished : Header → D → Event D
+
+-- N, by the last part: all parts before it have 4000 bits
+abbrev pub countOf : Header → ℕ
+countOf header = 4000 * header .part + header .used
+
+-- the refresh mark of part 0 of what is collected
+abbrev pub markOf : Receiver → Header → Bool
+markOf r header = pick (eqb (header .part) 0) (header .refresh) (r .refresh)
+
+abbrev pub alike : Bool → Bool → Bool
+alike true b = b
+alike false b = opposite b
+
+-- the lent buffers but the block
+pub record Buffers : Type 0 where
+  pub collection : List ℕ
+  pub both : Stores
+
+abbrev pub buffers : List ℕ → List ℕ → List ℕ → Buffers
+buffers collection first second = record { collection = collection; both = stores first second }
+
+-- refusal 1: "a lent buffer hasn't its named length"
+abbrev pub named : Format → ℕ → ℕ → ℕ → Bool
+named f collection first second = both (eqb collection (collectionLength f)) (sized f first second)
+
+abbrev pub lengths : Format → Buffers → Bool
+lengths f b = named f (length (b .collection)) (length (b .both .first)) (length (b .both .second))
+
+-- "Blocks: 1, 21, 22, 23."
+unfoldable pub judged : Receiver → List ℕ → Buffers → Checked
+judged r block b = pick (lengths (r .format) b) (judgeOf (r .format) (r .clip) block) (refusedBy R.Length)
+
+module _ {D : Type 0} (coding : Format → Coding D) where
+  -- "A last part is read at once". Refusal 24: "accepted picture, untrue refresh mark"
+  unfoldable pub ended : Receiver → Header → Found D → Event D
+  ended r header (accepted d) = pick (alike (coding (r .format) .refresh d) (markOf r header)) (finished header d) (failed header (refusal UntrueMark 0))
+  ended r header (refused why) = failed header why
+
+  -- a block that is taken, into this collection, while the receiver stands so
+  unfoldable pub tookOf : Receiver → Header → Standing → List ℕ → Event D
+  tookOf r header standing collection =
+      pick (header .last) (ended r header (coding (r .format) .read collection (countOf header))) (taken header standing)
+
+  unfoldable pub byLine : Line → Receiver → Header → List ℕ → List ℕ → Event D
+  byLine Earlier r header block collection = old header
+  byLine Next r header block collection = tookOf r header (r .standing) (placed block (header .part) collection)
+  -- "The receiver is catching until it finishes."
+  byLine Anew r header block collection = tookOf r header S.Catching (placed block (header .part) collection)
+  byLine Otherwise r header block collection = lost
+
+  unfoldable pub byJudgement : Checked → Receiver → List ℕ → List ℕ → Event D
+  byJudgement (C.Good header) r block collection = byLine (lineOf r header) r header block collection
+  byJudgement (C.Refused why) r block collection = refusing why
+
+  unfoldable pub decide : Receiver → List ℕ → Buffers → Event D
+  decide r block b = byJudgement (judged r block b) r block (b .collection)
+
+-- ---- the next state
+abbrev pub wanting : Receiver → Place → Standing → Holder → Bool → Receiver
+wanting r wanted standing holder refresh = record {
+  clip = r .clip;
+  format = r .format;
+  wanted = wanted;
+  standing = standing;
+  holder = holder;
+  refresh = refresh;
+}
+
+-- "both then want part 0 of the next"
+abbrev pub nextPicture : Header → Place
+nextPicture header = place (header .picture + 1) 0
+
+-- "wanted place kept"
+abbrev pub losing : Receiver → Receiver
+losing r = wanting r (r .wanted) S.Lost (r .holder) (r .refresh)
+
+-- "wants the next part"
+abbrev pub taking : Receiver → Header → Standing → Receiver
+taking r header standing = wanting r (place (header .picture) (header .part + 1)) standing (r .holder) (markOf r header)
+
+-- "refused means lost"
+abbrev pub failing : Receiver → Header → Receiver
+failing r header = wanting r (nextPicture header) S.Lost (r .holder) (markOf r header)
+
+-- "accepted means in step at that picture"
+abbrev pub finishing : Receiver → Header → Receiver
+finishing r header = wanting r (nextPicture header) (S.InStep (header .picture)) (goesInto (r .holder)) (markOf r header)
+
+module _ {D : Type 0} where
+  abbrev pub advance : Receiver → Event D → Receiver
+  advance r (refusing why) = r
+  advance r (old header) = r
+  advance r (taken header standing) = taking r header standing
+  advance r lost = losing r
+  advance r (failed header why) = failing r header
+  advance r (finished header d) = finishing r header
+
+  -- ---- the answer
+  abbrev pub answerOf : Event D → Answer
+  answerOf (refusing why) = A.Refused why
+  answerOf (old header) = A.Old (header .picture) (header .part)
+  answerOf (taken header standing) = A.Taken (header .picture) (header .part)
+  answerOf lost = A.Lost
+  answerOf (failed header why) = A.Refused why
+  answerOf (finished header d) = A.Picture (header .picture)
+
+  -- ---- the lent buffers
+  -- "Taken copies 500 payload bytes to 500 times part in the collection buffer"; "a dropped collection's bytes stay as they lie"
+  abbrev pub collected : List ℕ → List ℕ → Event D → List ℕ
+  collected block collection (refusing why) = collection
+  collected block collection (old header) = collection
+  collected block collection (taken header standing) = placed block (header .part) collection
+  collected block collection lost = collection
+  collected block collection (failed header why) = placed block (header .part) collection
+  collected block collection (finished header d) = placed block (header .part) collection
+
+  -- "Old, taken and lost change no store"
+  abbrev pub storedBy : (Format → Coding D) → Receiver → Stores → Event D → Stores
+  storedBy coding r s (refusing why) = s
+  storedBy coding r s (old header) = s
+  storedBy coding r s (taken header standing) = s
+  storedBy coding r s lost = s
+  storedBy coding r s (failed header why) = s
+  storedBy coding r s (finished header d) = kept (r .holder) (coding (r .format) .render d (reference (r .holder) s)) s
+
+abbrev pub received : Answer → Receiver → Received
+received answer next = record { answer = answer; next = next }
+
+-- ---- a call: what it gives back and leaves in the buffers
+pub record Outcome : Type 0 where
+  pub gave : Received
+  pub left : Buffers
+
+abbrev pub outcome : Received → List ℕ → List ℕ → List ℕ → Outcome
+outcome gave collection first second = record { gave = gave; left = buffers collection first second }
+
+module _ {D : Type 0} (coding : Format → Coding D) where
+  unfoldable pub cameTo : Receiver → List ℕ → Buffers → Event D → Outcome
+  cameTo r block b e = record {
+    gave = received (answerOf e) (advance r e);
+    left = record { collection = collected block (b .collection) e; both = storedBy coding r (b .both) e };
+  }
+
+  unfoldable pub step : Receiver → List ℕ → Buffers → Outcome
+  step r block b = cameTo r block b (decide coding r block b)

@@ -1,0 +1,48 @@
+-- A sender over a list of calls, and the clip that it writes. Assumes nothing.
+use Prim.Native.Nat.{ℕ, zero, suc}
+use mathlib.Core.List.{List, [], _∷_, _++_}
+use lib.ListN.{take, drop}
+use Rattle.format.specs.declared.Format.{Format}
+use Rattle.stores.specs.Stores.{Stores}
+use Rattle.sender.specs.declared.Sender.{Sender}
+use Rattle.sender.specs.declared.Answer.{Answer}
+use Rattle.sender.specs.declared.Answer.the-variants as A
+use Rattle.sender.specs.Coding.{Coding}
+use Rattle.sender.specs.Send.{Buffers, Outcome, step}
+
+-- a call: a description, and what the lent output holds before it
+pub record Call (D : Type 0) : Type 0 where
+  pub description : D
+  pub out : List ℕ
+
+-- a sender with its two stores: "each call .. gets the last state back .. and the same stores .., untouched since"
+pub record World : Type 0 where
+  pub sender : Sender
+  pub both : Stores
+
+-- the first n blocks of a buffer
+unfoldable pub cut : ℕ → List ℕ → List (List ℕ)
+cut zero out = []
+cut (suc n) out = take 512 out ∷ cut n (drop 512 out)
+
+-- the blocks that a call wrote: a refused one adds none
+abbrev pub added : Answer → List ℕ → List (List ℕ)
+added (A.Blocks n) out = cut n out
+added (A.Refused why) out = []
+
+module _ {D : Type 0} (coding : Format → Coding D) where
+  unfoldable pub called : World → Call D → Outcome
+  called w call = step coding (w .sender) (call .description) (record { out = call .out; both = w .both })
+
+  unfoldable pub after : World → Call D → World
+  after w call = record { sender = called w call .gave .next; both = called w call .left .both }
+
+  -- after all of them
+  unfoldable pub run : World → List (Call D) → World
+  run w [] = w
+  run w (call ∷ calls) = run (after w call) calls
+
+  -- the clip's blocks, in the order in which they were written
+  unfoldable pub clipOf : World → List (Call D) → List (List ℕ)
+  clipOf w [] = []
+  clipOf w (call ∷ calls) = added (called w call .gave .answer) (called w call .left .out) ++ clipOf (after w call) calls

@@ -1,0 +1,99 @@
+-- `stores::is_refresh` meets its contract. The loop's invariant: the macroblocks passed are sent as INTRA. Assumes nothing.
+use borrow.Author.Needs.{needs}
+use borrow.Author.Tests.{not-true, not-false}
+use native.Mathlib.Omega.{arith}
+use native.Mathlib.Numerals.{add-one}
+use native.Mathlib.Nat.{eq-or-lt-of-le, le-of-suc-le-suc, not-suc-le-zero}
+use mathlib.Core.Path.{_≡_, refl, sym, ap, _∙_}
+use mathlib.Core.Bool.{Bool, true, false}
+use mathlib.Core.List.{List, []}
+use mathlib.Core.Logic.{⊎-elim}
+use Prim.Native.Nat.{ℕ, zero, suc, _+_, _*_, _-_, _<_, _≤_}
+use lib.ListN.{getD}
+use Rattle.laws.specs.Choice.{both}
+use Rattle.laws.specs.Table.{allB}
+use Rattle.words.specs.Words.{isIntra}
+use Rattle.format.specs.declared.Format.{Format}
+use Rattle.format.specs.Order.{macroblockCount}
+use Rattle.description.specs.Fields.{flat, refresh}
+use Rattle.stores.proofs.is_refresh.Statement.{statement}
+use Rattle.stores.proofs.is_refresh.Tie as tie
+
+-- whether macroblock n is sent as INTRA
+abbrev intraAt : List ℕ → ℕ → Bool
+intraAt macroblocks n = isIntra (getD macroblocks (n * 4) 0)
+
+fails : (m : ℕ) (p : ℕ → Bool) (n : ℕ) → n < m → p n ≡ false → allB m p ≡ false
+fails zero p n l e = absurd (not-suc-le-zero l)
+fails (suc m) p n l e =
+    ⊎-elim (λ same. last (p m) (allB m p) (ap p (sym same) ∙ e)) (λ less. rest (p m) (allB m p) (fails m p n less e)) (eq-or-lt-of-le (le-of-suc-le-suc l))
+  where
+    last : (a b : Bool) → a ≡ false → both a b ≡ false
+    last a b e = rw e
+
+    rest : (a b : Bool) → b ≡ false → both a b ≡ false
+    rest true b e = e
+    rest false b e = refl
+
+more : (p : ℕ → Bool) (n : ℕ) → allB n p ≡ true → p n ≡ true → allB (n + 1) p ≡ true
+more p n h e = ap (λ (k : ℕ). allB k p) (add-one n) ∙ (λ i. both (e i) (allB n p)) ∙ h
+
+is-all : (f : Format) (macroblocks : List ℕ) {count : ℕ} (b : Bool) → count ≡ macroblockCount f → allB count (intraAt macroblocks) ≡ b → b ≡ refresh f (flat [] macroblocks [])
+unfolding refresh
+is-all f macroblocks b e h = sym h ∙ ap (λ (k : ℕ). allB k (intraAt macroblocks)) e
+
+all-passed : (p : ℕ → Bool) (n count : ℕ) → n ≡ count → allB n p ≡ true → allB count p ≡ true
+all-passed p n count e h = ap (λ (k : ℕ). allB k p) (sym e) ∙ h
+
+abbrev Inv-loop : tie.InvT-loop
+Inv-loop macroblocks count n₀ n = (n ≤ count) × (allB n (intraAt macroblocks) ≡ true)
+
+abbrev μ-loop : tie.MeasureT-loop
+μ-loop macroblocks count n₀ n = count - n
+
+macroblock-count-requires : tie.Need-macroblock-count-requires Inv-loop μ-loop
+macroblock-count-requires c κs = search needs
+
+loop-holds : tie.Need-loop-holds Inv-loop μ-loop
+loop-holds c = (omega arith, refl)
+
+mul-is-intra : tie.Need-mul-is-intra Inv-loop μ-loop
+mul-is-intra c = omega arith
+
+shared-slice-read-is-intra : tie.Need-shared-slice-read-is-intra Inv-loop μ-loop
+shared-slice-read-is-intra c = omega arith
+
+is-intra-requires : tie.Need-is-intra-requires Inv-loop μ-loop
+is-intra-requires c κs = search needs
+
+returns : tie.Need-returns Inv-loop μ-loop
+returns c = is-all (c .before .before .before .before .before .before .before .args .format) (c .before .before .before .before .before .before .before .args .macroblocks .now) false (c .before .before .before .before .before .macroblock-count .ensures) (fails (c .before .before .before .before .before .macroblock-count .result) (intraAt (c .before .before .before .before .before .before .before .args .macroblocks .now)) (c .before .before .before .before .loop .n) (omega arith) (sym (c .before .is-intra .ensures) ∙ not-true _ (c .if1 .taken)))
+
+add-n : tie.Need-add-n Inv-loop μ-loop
+add-n c = omega arith
+
+loop-less : tie.Need-loop-less Inv-loop μ-loop
+loop-less c = omega arith
+
+loop-again : tie.Need-loop-again Inv-loop μ-loop
+loop-again c = (omega arith, more (intraAt (c .before .before .before .before .before .before .before .args .macroblocks .now)) (c .before .before .before .before .loop .n) (c .before .before .before .before .loop .inv .1) (sym (c .before .is-intra .ensures) ∙ not-false _ (c .if1 .left)))
+
+returns-2 : tie.Need-returns-2 Inv-loop μ-loop
+returns-2 c = is-all (c .before .before .before .before .args .format) (c .before .before .before .before .args .macroblocks .now) true (c .before .before .macroblock-count .ensures) (all-passed (intraAt (c .before .before .before .before .args .macroblocks .now)) (c .before .loop .n) (c .before .before .macroblock-count .result) (omega arith) (c .before .loop .inv .1))
+
+pub is-refresh-spec : {M : Type 1} → statement M
+is-refresh-spec =
+    tie.close
+    (tie.spec
+    Inv-loop
+    μ-loop
+    macroblock-count-requires
+    loop-holds
+    mul-is-intra
+    shared-slice-read-is-intra
+    is-intra-requires
+    returns
+    add-n
+    loop-less
+    loop-again
+    returns-2)
