@@ -1,0 +1,97 @@
+use mathlib.Core.Path.{_≡_, sym, ap, _∙_}
+use native.Mathlib.Omega.{arith}
+use lib.ListN.{length}
+use lib.Seq.{length-take-le}
+use Rattle.reader.specs.Described.{verdictOf}
+use Rattle.decoder.specs.Decoded.{storeAfter}
+use Rattle.decoder.proofs.Steps.{unfit-reference, unfit-store, fit, groups-most, part-long}
+use borrow.Author.Needs.{needs}
+use Rattle.decoder.proofs.decode.Statement.{statement}
+use Rattle.decoder.proofs.decode.Tie as tie
+use Rattle.decoder.proofs.decode.Reads as reads
+use Rattle.decoder.proofs.decode.Lts as lts
+use Rattle.decoder.proofs.decode_in.Reads as decode-in-reads
+use Rattle.format.proofs.head_length.Reads as head-length-reads
+use Rattle.format.proofs.levels_length.Reads as levels-length-reads
+use Rattle.format.proofs.macroblocks_length.Reads as macroblocks-length-reads
+use Rattle.format.proofs.store_length.Reads as store-length-reads
+
+-- src/lib.rt:47:9
+store-length-requires : tie.Need-store-length-requires
+store-length-requires c κs = search needs
+
+-- src/lib.rt:53:9
+returns : tie.Need-returns
+returns c = let e = unfit-reference (c .before .before .before .before .before .args .format) (c .before .before .before .before .before .args .bytes .now) (c .before .before .before .before .before .args .count) (c .before .before .before .before .before .args .reference .now) (length (c .before .before .before .before .before .args .store .now)) (λ h. c .if1 .taken (h ∙ sym (c .before .store-length .ensures))) in (sym (ap verdictOf e), sym (ap (storeAfter (c .before .before .before .before .before .args .store .now)) e))
+
+-- src/lib.rt:56:9
+returns-2 : tie.Need-returns-2
+returns-2 c = let e = unfit-store (c .before .before .before .before .before .before .args .format) (c .before .before .before .before .before .before .args .bytes .now) (c .before .before .before .before .before .before .args .count) (c .before .before .before .before .before .before .args .reference .now) (length (c .before .before .before .before .before .before .args .store .now)) (c .before .if1 .left ∙ c .before .before .store-length .ensures) (λ h. c .if2 .taken (h ∙ sym (c .before .before .store-length .ensures))) in (sym (ap verdictOf e), sym (ap (storeAfter (c .before .before .before .before .before .before .args .store .now)) e))
+
+-- src/lib.rt:61:9
+head-length-requires : tie.Need-head-length-requires
+head-length-requires c κs = search needs
+
+-- src/lib.rt:62:9
+macroblocks-length-requires : tie.Need-macroblocks-length-requires
+macroblocks-length-requires c κs = search needs
+
+-- src/lib.rt:63:9
+levels-length-requires : tie.Need-levels-length-requires
+levels-length-requires c κs = search needs
+
+-- src/lib.rt:68:9
+array-borrow-prefix-head : tie.Need-array-borrow-prefix-head
+array-borrow-prefix-head c = omega (arith, c .before .before .head-length .ensures, groups-most (c .before .before .before .before .before .before .before .before .before .args .format))
+
+-- src/lib.rt:68:9
+slice-aggregate-decode-in : tie.Need-slice-aggregate-decode-in
+slice-aggregate-decode-in c = part-long _ (array-borrow-prefix-head (c .before))
+
+-- src/lib.rt:69:9
+array-borrow-prefix-macroblocks : tie.Need-array-borrow-prefix-macroblocks
+array-borrow-prefix-macroblocks c = omega (arith, c .before .before .macroblocks-length .ensures, groups-most (c .before .before .before .before .before .before .before .before .before .before .args .format))
+
+-- src/lib.rt:69:9
+slice-aggregate-decode-in-2 : tie.Need-slice-aggregate-decode-in-2
+slice-aggregate-decode-in-2 c = part-long _ (array-borrow-prefix-macroblocks (c .before))
+
+-- src/lib.rt:70:9
+array-borrow-prefix-levels : tie.Need-array-borrow-prefix-levels
+array-borrow-prefix-levels c = omega (arith, c .before .before .levels-length .ensures, groups-most (c .before .before .before .before .before .before .before .before .before .before .before .args .format))
+
+-- src/lib.rt:70:9
+slice-aggregate-decode-in-3 : tie.Need-slice-aggregate-decode-in-3
+slice-aggregate-decode-in-3 c = part-long _ (array-borrow-prefix-levels (c .before))
+
+-- src/lib.rt:64:5
+decode-in-requires : tie.Need-decode-in-requires
+decode-in-requires c κs = (record { head-long = length-take-le _ _ (array-borrow-prefix-head (c .before .before .before .before)) ∙ c .before .before .before .before .before .before .head-length .ensures; ms-long = length-take-le _ _ (array-borrow-prefix-macroblocks (c .before .before .before)) ∙ c .before .before .before .before .before .macroblocks-length .ensures; ls-long = length-take-le _ _ (array-borrow-prefix-levels (c .before .before)) ∙ c .before .before .before .before .levels-length .ensures }, c .before .before .before .before .before .before .before .before .if1 .left ∙ c .before .before .before .before .before .before .before .before .before .store-length .ensures, c .before .before .before .before .before .before .before .if2 .left ∙ c .before .before .before .before .before .before .before .before .before .store-length .ensures)
+
+-- src/lib.rt:37:1
+same-length : tie.Need-same-length
+same-length c = search needs
+
+-- src/lib.rt:37:1
+returns-3 : tie.Need-returns-3
+returns-3 c = let e = fit (c .before .before .before .before .before .before .before .before .before .before .before .before .before .before .before .before .before .before .before .args .format) (c .before .before .before .before .before .before .before .before .before .before .before .before .before .before .before .before .before .before .before .args .bytes .now) (c .before .before .before .before .before .before .before .before .before .before .before .before .before .before .before .before .before .before .before .args .count) (c .before .before .before .before .before .before .before .before .before .before .before .before .before .before .before .before .before .before .before .args .reference .now) (length (c .before .before .before .before .before .before .before .before .before .before .before .before .before .before .before .before .before .before .before .args .store .now)) (c .before .before .before .before .before .before .before .before .before .before .before .before .before .before .if1 .left ∙ c .before .before .before .before .before .before .before .before .before .before .before .before .before .before .before .store-length .ensures) (c .before .before .before .before .before .before .before .before .before .before .before .before .before .if2 .left ∙ c .before .before .before .before .before .before .before .before .before .before .before .before .before .before .before .store-length .ensures) in (c .before .before .before .before .before .decode-in .ensures .0 ∙ sym (ap verdictOf e), c .before .before .before .before .before .decode-in .ensures .1 ∙ sym (ap (storeAfter (c .before .before .before .before .before .before .before .before .before .before .before .before .before .before .before .before .before .before .before .args .store .now)) e))
+
+pub decode-spec : {M : Type 1} → statement M
+decode-spec =
+    tie.close
+    (tie.spec
+    store-length-requires
+    returns
+    returns-2
+    head-length-requires
+    macroblocks-length-requires
+    levels-length-requires
+    array-borrow-prefix-head
+    slice-aggregate-decode-in
+    array-borrow-prefix-macroblocks
+    slice-aggregate-decode-in-2
+    array-borrow-prefix-levels
+    slice-aggregate-decode-in-3
+    decode-in-requires
+    same-length
+    returns-3)
