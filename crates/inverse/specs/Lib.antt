@@ -1,3 +1,2 @@
 pub mod Inverse
 pub mod Passes
-pub mod Examples
