@@ -140,7 +140,7 @@ chroma-11 place =
     (one, one)
 
 -- ---- all of them
-shown : (x : Example) → says x
+pub shown : (x : Example) → says x
 unfolding magnitude coefficient cut atLeast atMost inverseAt output floorDivided S sumZ A cosine filterAt weighted roundedSixteenth
 shown P1 = picture-1
 shown P2 = picture-2

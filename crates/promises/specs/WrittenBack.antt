@@ -89,6 +89,18 @@ unfolding writeOf valid
 writes f d out t l e =
     rw (one-of f d (both-left (lengthsOf f d) _ t), eq-eqb (length out) (outputLength f) e, T-true (valid f d) t, le-ltb (limit f) (length (written f d)) l) refl
 
+-- what `write` left holds the bits first, whenever it answers N
+pub written-held : (f : Format) (d : Flat) (out : List ℕ) (n : ℕ) → writeOf f d (length out) ≡ Bits n → Holds (outputOf f d out) (written f d)
+unfolding leaves
+written-held f d out n e =
+    let w = written f d in
+    let w-is = wrote f d (length out) n e in
+    subst (λ (x : Written). Holds (leaves out w x) w) (sym e) (output-holds out w (fits f (length w) (length out) (w-is .below) (w-is .named)))
+  where
+    fits : (f : Format) (bits room : ℕ) → bits ≤ limit f → room ≡ outputLength f → bits ≤ 8 * room
+    fits Qcif bits room l e = omega arith
+    fits Cif bits room l e = omega arith
+
 -- ---- the theorem
 pub record ReadAgain (f : Format) (d : Flat) (out : List ℕ) (n : ℕ) : Type 0 where
   -- "`read` .. is accepted, gives that very description, and takes exactly N bits": none is left, and the place is N
@@ -98,19 +110,12 @@ pub record ReadAgain (f : Format) (d : Flat) (out : List ℕ) (n : ℕ) : Type 0
 
 -- whenever `write` answers N bits. "A longer or shorter N is not what was written": N is `Wrote`'s
 pub written-back : (f : Format) (d : Flat) (out : List ℕ) (n : ℕ) → writeOf f d (length out) ≡ Bits n → ReadAgain f d out n
-unfolding described drawn decoded leaves written
+unfolding described drawn decoded written
 written-back f d out n e =
-    let w = written f d in
     let w-is = wrote f d (length out) n e in
-    let room : length w ≤ 8 * length out = fits f (length w) (length out) (w-is .below) (w-is .named) in
-    let holds : Holds (outputOf f d out) w = subst (λ (x : Written). Holds (leaves out w x) w) (sym e) (output-holds out w room) in
-    let back : ReadBack f d (outputOf f d out) = reads-back f d (outputOf f d out) (w-is .is-valid) (w-is .below) holds in
+    let back : ReadBack f d (outputOf f d out) = reads-back f d (outputOf f d out) (w-is .is-valid) (w-is .below) (written-held f d out n e) in
     let again : mapRead (laid f) (reading f (outputOf f d out) n) ≡ got d [] n = rw (w-is .count, back .read, back .laidOut) refl in
     record {
       read = again;
       samples = λ reference h. rw (eq-eqb (length reference) (storeLength f) h, eq-eqb (storeLength f) (storeLength f) refl, again) refl;
     }
-  where
-    fits : (f : Format) (bits room : ℕ) → bits ≤ limit f → room ≡ outputLength f → bits ≤ 8 * room
-    fits Qcif bits room l e = omega arith
-    fits Cif bits room l e = omega arith
