@@ -7,7 +7,8 @@ use mathlib.Core.List.{List}
 use native.Mathlib.Omega.{arith}
 use Rattle.refusals.specs.declared.Reason.{Reason}
 use Rattle.refusals.specs.declared.Refusal.{Refusal}
-use Rattle.bits.specs.Bits.{Bit, bitsFrom, bitsLeft}
+use Rattle.bits.specs.Bits.{Bit, bitsLeft}
+use Rattle.bits.specs.Value.{length-bits}
 use Rattle.bits.specs.Read.{Read, got, refused, endless, bad, Reader, next, done, Judged, fine, against, judged}
 use Rattle.bits.specs.Logic.{Reads, Gives}
 use Rattle.reader.specs.Answer.{mapRead}
@@ -44,13 +45,8 @@ was-refused g (refused r) x e = let h : r ≡ x = cc in ap (λ (r : Refusal). re
 was-refused g endless x e = let z : _≡_ {A = ℕ} 0 1 = cc in absurd (omega arith)
 
 -- ---- fuel
-length-from : (s : List ℕ) (a k : ℕ) → length (bitsFrom s a k) ≡ k
-unfolding bitsFrom
-length-from s a zero = refl
-length-from s a (suc k) = ap suc (length-from s (a + 1) k)
-
 pub length-left : (s : List ℕ) (n p : ℕ) → length (bitsLeft s n p) ≡ n - p
-length-left s n p = length-from s p (n - p)
+length-left s n p = length-bits s p (n - p)
 
 -- there is fuel for a turn
 pub some : (m fuel : ℕ) → m < fuel → (rest : ℕ) × (fuel ≡ suc rest)
