@@ -1,3 +1,4 @@
 pub mod Sheet
 pub mod WrittenBack
 pub mod Demand2
+pub mod Determined
