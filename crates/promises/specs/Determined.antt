@@ -3,7 +3,6 @@
 use Prim.Native.Nat.{ℕ, _+_, _*_, _-_, _/_, _%_, _^_, _≤_, _<_}
 use mathlib.Core.Path.{_≡_, refl, sym, ap, subst, _∙_}
 use mathlib.Core.Logic.{_≢_, _⊎_, inl, inr, ⊎-elim}
-use mathlib.Core.Dec.{Dec, yes, no}
 use mathlib.Core.List.{List, [], _∷_, _++_, append-nil}
 use native.Mathlib.Decide.{ℕ-discrete}
 use native.Mathlib.Nat.{div-add-mod', mod-lt}
@@ -43,9 +42,9 @@ use Rattle.reader.specs.declared.HeaderRead.{HeaderRead}
 use Rattle.reader.specs.declared.HeaderRead.the-variants as H
 use Rattle.reader.specs.declared.Behind.{Behind}
 use Rattle.reader.specs.declared.VectorRead.{VectorRead}
-use Rattle.reader.specs.declared.VectorRead.the-variants as V
+use Rattle.reader.specs.declared.VectorRead.the-variants as VR
 use Rattle.reader.specs.declared.MacroblockRead.{MacroblockRead}
-use Rattle.reader.specs.declared.MacroblockRead.the-variants as B
+use Rattle.reader.specs.declared.MacroblockRead.the-variants as BR
 use Rattle.reader.specs.declared.PlaceRead.{PlaceRead}
 use Rattle.reader.specs.declared.PlaceRead.the-variants as P
 use Rattle.writer.specs.Put.{Wrote as WroteBits}
@@ -56,8 +55,8 @@ pub once : {A : Type 0} {a x y : A} → x ≡ a → y ≡ a → x ≡ y
 once e f = e ∙ sym f
 
 -- ---- an equation with what the answer says: nothing of the answer is lost by that
-through : {A B : Type 0} (as : A → B) (of : B → A) → ((x : A) → of (as x) ≡ x) → {b : B} {x y : A} → as x ≡ b → as y ≡ b → x ≡ y
-through as of back {b} {x} {y} e f = sym (back x) ∙ ap of (e ∙ sym f) ∙ back y
+through : {A B : Type 0} (says : A → B) (of : B → A) → ((x : A) → of (says x) ≡ x) → {b : B} {x y : A} → says x ≡ b → says y ≡ b → x ≡ y
+through says of back {b} {x} {y} e f = sym (back x) ∙ ap of (e ∙ sym f) ∙ back y
 
 module _ (s : List ℕ) (n : ℕ) where
   fieldOf : Read ℕ → FieldRead
@@ -140,14 +139,14 @@ module _ (s : List ℕ) (n : ℕ) where
   kept-back x = ap natAbs (-ℤ-+ℤ-cancel (pos x) (pos 16))
 
   vectorRead : Read Vector → VectorRead
-  vectorRead (got v left p) = V.Got (kept (v .horizontal)) (kept (v .vertical)) p
-  vectorRead (refused why) = V.Refused why
-  vectorRead endless = V.Refused (refusal Length 0)
+  vectorRead (got v left p) = VR.Got (kept (v .horizontal)) (kept (v .vertical)) p
+  vectorRead (refused why) = VR.Refused why
+  vectorRead endless = VR.Refused (refusal Length 0)
 
   vector-of : (x : VectorRead) → vectorRead (asVector s n x) ≡ x
   unfolding vectorRead
-  vector-of (V.Got h v p) = λ i. V.Got (kept-back h i) (kept-back v i) p
-  vector-of (V.Refused why) = refl
+  vector-of (VR.Got h v p) = λ i. VR.Got (kept-back h i) (kept-back v i) p
+  vector-of (VR.Refused why) = refl
 
   pub vector-once : {b : Read Vector} {x y : VectorRead} → asVector s n x ≡ b → asVector s n y ≡ b → x ≡ y
   vector-once = through (asVector s n) vectorRead vector-of
@@ -160,21 +159,21 @@ module _ (s : List ℕ) (n : ℕ) where
   behind-back b = λ i. record { address = b .address; horizontal = kept-back (b .horizontal) i; vertical = kept-back (b .vertical) i }
 
   macroblockRead : Read Sent → MacroblockRead
-  macroblockRead (got x left p) = B.Got (behindOf (x .before)) p
-  macroblockRead (refused why) = B.Refused why
-  macroblockRead endless = B.Refused (refusal Length 0)
+  macroblockRead (got x left p) = BR.Got (behindOf (x .before)) p
+  macroblockRead (refused why) = BR.Refused why
+  macroblockRead endless = BR.Refused (refusal Length 0)
 
   macroblock-of : (x : MacroblockRead) (macroblocks levels : List ℕ) → macroblockRead (asMacroblock s n x macroblocks levels) ≡ x
   unfolding macroblockRead
-  macroblock-of (B.Got b p) macroblocks levels = λ i. B.Got (behind-back b i) p
-  macroblock-of (B.Refused why) macroblocks levels = refl
+  macroblock-of (BR.Got b p) macroblocks levels = λ i. BR.Got (behind-back b i) p
+  macroblock-of (BR.Refused why) macroblocks levels = refl
 
-  pub macroblock-read-once : {b : Read Sent} {x y : MacroblockRead} {m l k j : List ℕ} → asMacroblock s n x m l ≡ b → asMacroblock s n y k j ≡ b → x ≡ y
-  macroblock-read-once {b} {x} {y} {m} {l} {k} {j} e f = sym (macroblock-of x m l) ∙ ap macroblockRead (e ∙ sym f) ∙ macroblock-of y k j
+  pub macroblock-read-once : {b : Read Sent} (x y : MacroblockRead) (m l k j : List ℕ) → asMacroblock s n x m l ≡ b → asMacroblock s n y k j ≡ b → x ≡ y
+  macroblock-read-once x y m l k j e f = sym (macroblock-of x m l) ∙ ap macroblockRead (e ∙ sym f) ∙ macroblock-of y k j
 
-  pub macroblock-left-once : {b : Read Sent} {c d : Behind} {p q : ℕ} {m l k j : List ℕ} → asMacroblock s n (B.Got c p) m l ≡ b → asMacroblock s n (B.Got d q) k j ≡ b
+  pub macroblock-left-once : {b : Read Sent} (c d : Behind) (p q : ℕ) (m l k j : List ℕ) → asMacroblock s n (BR.Got c p) m l ≡ b → asMacroblock s n (BR.Got d q) k j ≡ b
       → (m ≡ k) × (l ≡ j)
-  macroblock-left-once e f = same (e ∙ sym f)
+  macroblock-left-once c d p q m l k j e f = same (e ∙ sym f)
     where
       same : {x y : Sent} {l m : List Bit} {p q : ℕ} → got x l p ≡ got y m q → (x .macroblocks ≡ y .macroblocks) × (x .levels ≡ y .levels)
       same g = (cc, cc)
@@ -191,8 +190,8 @@ module _ (s : List ℕ) (n : ℕ) where
     place-of (P.At p) a = refl
     place-of (P.Refused why) a = refl
 
-    pub place-once : {b : Read A} {x y : PlaceRead} {t u : A} → leaving s n x t ≡ b → leaving s n y u ≡ b → x ≡ y
-    place-once {b} {x} {y} {t} {u} e f = sym (place-of x t) ∙ ap placeOf (e ∙ sym f) ∙ place-of y u
+    pub place-once : {b : Read A} (x y : PlaceRead) (t u : A) → leaving s n x t ≡ b → leaving s n y u ≡ b → x ≡ y
+    place-once x y t u e f = sym (place-of x t) ∙ ap placeOf (e ∙ sym f) ∙ place-of y u
 
     pub left-once : {b : Read A} {p q : ℕ} {t u : A} → leaving s n (P.At p) t ≡ b → leaving s n (P.At q) u ≡ b → t ≡ u
     left-once e f = same (e ∙ sym f)
@@ -229,21 +228,21 @@ pub bits-wrote-once : {most at p q : ℕ} {w : List Bit} {before t u : List ℕ}
 bits-wrote-once h k = (once (h .is) (k .is), once (h .next) (k .next))
 
 -- ---- stores: every sample is said, or is as it was
-module _ (f : Format) {s t u : List ℕ} (long : length t ≡ storeLength f) (size : length t ≡ length u) where
+module _ (f : Format) {t u : List ℕ} (long : length t ≡ storeLength f) (size : length t ≡ length u) where
   store-once : ((p y x i j : ℕ) → On f p y x → i < 8 → j < 8 → cellOf f t p y x i j ≡ cellOf f u p y x i j) → t ≡ u
   store-once same = ext-getD 0 t u size (λ k l. at k (spot f k (subst (λ (n : ℕ). k < n) long l)))
     where
       at : (k : ℕ) → Spot f k → getD t k 0 ≡ getD u k 0
       at k o =
           let here : k ≡ index f (o .p) (o .y / 8 * 8 + o .y % 8) (o .x / 8 * 8 + o .x % 8) =
-              o .is ∙ (λ i. index f (o .p) (sym (div-add-mod' (o .y) 8) i) (sym (div-add-mod' (o .x) 8) i)) in
+          o .is ∙ (λ i. index f (o .p) (sym (div-add-mod' (o .y) 8) i) (sym (div-add-mod' (o .x) 8) i)) in
           ap (λ (n : ℕ). getD t n 0) here
           ∙ same (o .p) (o .y / 8) (o .x / 8) (o .y % 8) (o .x % 8) (on-at f (o .p) (o .y) (o .x) (o .plane) (o .row) (o .col)) (omega arith) (omega arith)
           ∙ ap (λ (n : ℕ). getD u n 0) (sym here)
 
 pub block-wrote-once : (f : Format) (p y x : ℕ) (g : ℕ → ℕ → ℕ) {s t u : List ℕ} → length s ≡ storeLength f → Wrote f p y x g s t → Wrote f p y x g s u → t ≡ u
 block-wrote-once f p y x g {s} {t} {u} long h k =
-    store-once f {s} (h .size ∙ long) (h .size ∙ sym (k .size)) (λ q z v i j o l m. go q z v i j o l m (ℕ-discrete q p) (ℕ-discrete z y) (ℕ-discrete v x))
+    store-once f (h .size ∙ long) (h .size ∙ sym (k .size)) (λ q z v i j o l m. go q z v i j o l m (ℕ-discrete q p) (ℕ-discrete z y) (ℕ-discrete v x))
   where
     apart : (q z v i j : ℕ) → On f q z v → i < 8 → j < 8 → (q ≡ p → z ≡ y → v ≡ x → ⊥) → cellOf f t q z v i j ≡ cellOf f u q z v i j
     apart q z v i j o l m n = h .outside q z v o n i j l m ∙ sym (k .outside q z v o n i j l m)
@@ -257,7 +256,7 @@ block-wrote-once f p y x g {s} {t} {u} long h k =
 
 pub macroblock-once : (f : Format) (r c : ℕ) (g : Values) {s t u : List ℕ} → length s ≡ storeLength f → Macroblock f r c g s t → Macroblock f r c g s u → t ≡ u
 macroblock-once f r c g {s} {t} {u} long h k =
-    store-once f {s} (h .size ∙ long) (h .size ∙ sym (k .size)) (λ q z v i j o l m. go q z v i j o l m (ℕ-discrete (own q z) r) (ℕ-discrete (own q v) c))
+    store-once f (h .size ∙ long) (h .size ∙ sym (k .size)) (λ q z v i j o l m. go q z v i j o l m (ℕ-discrete (own q z) r) (ℕ-discrete (own q v) c))
   where
     go : (q z v i j : ℕ) → On f q z v → i < 8 → j < 8 → Dec (own q z ≡ r) → Dec (own q v ≡ c) → cellOf f t q z v i j ≡ cellOf f u q z v i j
     go q z v i j o l m (yes a) (yes b) =
