@@ -1,0 +1,12 @@
+pub mod Agree
+pub mod Clip
+pub mod Filled
+pub mod Finished
+pub mod Sent
+pub mod Step
+pub mod Held
+pub mod InStep
+pub mod Arrives
+pub mod CatchingUp
+pub mod H261
+pub mod Demand3

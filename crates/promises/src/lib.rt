@@ -1,0 +1,1 @@
+// What a sender and a receiver promise of one another: theorems alone.
