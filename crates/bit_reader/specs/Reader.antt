@@ -1,0 +1,19 @@
+-- What a bit reader stands for: the lent bytes, how many of their bits are the picture's, and a place among them. Assumes nothing.
+use Prim.Native.Nat.{ℕ}
+use mathlib.Core.List.{List}
+use denote.Ref.{RefT, now}
+use Rattle.bits.specs.Bits.{Bit, bitsLeft}
+use Rattle.bits.specs.Answer.{Within}
+use Rattle.bit_reader.specs.declared.BitReader.{BitReader}
+
+-- "A bit reader carries the lent bytes together with its place."
+abbrev pub over : RefT (List ℕ) → ℕ → ℕ → BitReader
+over bytes count place = record { bytes = bytes; count = count; place = place }
+
+-- the bits from its place on
+abbrev pub left : BitReader → List Bit
+left r = bitsLeft (now (r .bytes)) (r .count) (r .place)
+
+-- its place is within the bits, and these within the bytes
+abbrev pub Inside : BitReader → Type 0
+Inside r = Within (now (r .bytes)) (r .count) (r .place)
