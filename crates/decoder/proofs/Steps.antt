@@ -2,21 +2,18 @@
 use mathlib.Core.Path.{_≡_, refl, sym, ap, subst, _∙_}
 use mathlib.Core.Bool.{Bool, true, false}
 use mathlib.Core.List.{List}
-use Prim.Native.Nat.{ℕ, _≤_}
+use Prim.Native.Nat.{ℕ}
 use native.Mathlib.Omega.{arith}
 use borrow.Author.Tests.{eq-eqb, ne-eqb}
 use lib.Dec.{T, eqb}
-use lib.ListN.{length, take}
-use lib.Seq.{length-take-le}
-use denote.Enum.Declared.{tagOf}
+use lib.ListN.{length}
 use Rattle.laws.specs.Choice.{pick, both}
 use Rattle.refusals.specs.declared.Reason.the-variants.{Length}
 use Rattle.refusals.specs.declared.Refusal.{Refusal}
 use Rattle.refusals.specs.Number.{refusal}
 use Rattle.bits.specs.Bits.{Bit}
 use Rattle.bits.specs.Read.{Read, got, refused, endless, bad}
-use Rattle.format.specs.Format.{storeLength, groupCount}
-use Rattle.format.specs.declared.Format.the-variants.{Qcif, Cif}
+use Rattle.format.specs.Format.{storeLength}
 use Rattle.format.specs.declared.Format.{Format}
 use Rattle.description.specs.Flat.{Flat, laid}
 use Rattle.description.specs.Valid.{valid}
@@ -26,8 +23,7 @@ use Rattle.reader.specs.Described.{described, verdictOf, laidOr}
 use Rattle.reader.specs.Verdict.{accepted-valid}
 use Rattle.reader.specs.declared.Verdict.{Verdict}
 use Rattle.reader.specs.declared.Verdict.the-variants.{Accepted, Refused}
-use Rattle.reader.proofs.Verdict.{the-type as verdict-type}
-use Rattle.reader.proofs.Read.{was-got}
+use Rattle.reader.proofs.Meaning.{was-got}
 use Rattle.render.specs.Sample.{rendered}
 use Rattle.decoder.specs.Decoded.{drawn, decoded, storeAfter}
 
@@ -85,15 +81,3 @@ module _ (f : Format) (s : List ℕ) (n : ℕ) (reference : List ℕ) (size : �
   pub fit : length reference ≡ storeLength f → size ≡ storeLength f → decoded f s n reference size ≡ drawn f s n reference
   unfolding decoded
   fit e h = rw (eq-eqb (length reference) (storeLength f) e, eq-eqb size (storeLength f) h)
-
-pub accepted-tag : (v : Verdict) → tagOf verdict-type v ≡ 0 → v ≡ Accepted
-accepted-tag Accepted t = refl
-accepted-tag (Refused r) t = absurd (omega arith)
-
--- the scratch has room for either format
-pub groups-most : (f : Format) → groupCount f ≤ 12
-groups-most Qcif = omega arith
-groups-most Cif = omega arith
-
-pub part-long : {n : ℕ} (array : List ℕ) → n ≤ length array → n ≡ length (take n array)
-part-long {n} array l = sym (length-take-le n array l)

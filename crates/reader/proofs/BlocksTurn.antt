@@ -15,7 +15,7 @@ use Rattle.description.specs.Value.{Block}
 use Rattle.description.specs.Flat.{putBlock, putBlocks}
 use Rattle.reader.specs.Answer.{mapRead}
 use Rattle.reader.specs.Grammar.{intraBlock, interBlock, blocksRead}
-use Rattle.reader.proofs.Read.{map-done, was-got, was-refused, onward}
+use Rattle.reader.proofs.Meaning.{map-done, was-got, was-refused, onward}
 use Rattle.reader.specs.Layers.{block-reads}
 
 abbrev pub blockRead : Bool → Reader Block

@@ -27,7 +27,7 @@ use lib.Dec.{lit≤}
 use Rattle.words.specs.Reads.{coefficient-reads, first-meanings, later-meanings}
 use Rattle.reader.specs.Answer.{mapRead, leaving, blockEnd}
 use Rattle.reader.specs.Grammar.{coefficients}
-use Rattle.reader.proofs.Read.{map-done, length-left, some, onward}
+use Rattle.reader.proofs.Meaning.{map-done, length-left, some, onward}
 
 -- the table of the next codeword
 abbrev pub tableOf : Bool → List Entry

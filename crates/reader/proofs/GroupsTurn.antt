@@ -14,7 +14,7 @@ use Rattle.description.specs.Value.{Macroblock, Group}
 use Rattle.description.specs.Flat.{Flat, putMacroblocks, putGroups}
 use Rattle.reader.specs.Answer.{mapRead, flat}
 use Rattle.reader.specs.Grammar.{none, groupHead, group, groupsRead, macroblocksFrom}
-use Rattle.reader.proofs.Read.{map-done, was-got, was-refused}
+use Rattle.reader.proofs.Meaning.{map-done, was-got, was-refused}
 
 -- a group's macroblocks, from the first MBA place on
 abbrev pub macroblocksAt : Format → Bool → ℕ → Reader (List Macroblock)

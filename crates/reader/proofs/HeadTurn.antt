@@ -17,7 +17,7 @@ use Rattle.bits.specs.Fields.{field-got}
 use Rattle.format.specs.Format.{formatBit}
 use Rattle.format.specs.declared.Format.{Format}
 use Rattle.reader.specs.Grammar.{expect, quantiser, sparesFrom, spares, ptypeOf}
-use Rattle.reader.proofs.Read.{judged-fine, judged-against, length-left, some}
+use Rattle.reader.proofs.Meaning.{judged-fine, judged-against, length-left, some}
 
 -- ---- a field that was got
 module _ (k : ℕ) (bs : List Bit) (at v : ℕ) (cs : List Bit) (q : ℕ) (e : field k bs at ≡ got v cs q) where

@@ -19,7 +19,7 @@ use Rattle.words.specs.Words.{coefficient, forbidden}
 use Rattle.description.specs.Flat.{putBlock}
 use Rattle.reader.specs.Answer.{mapRead}
 use Rattle.reader.specs.Grammar.{coefficients, intraBlock, interBlock}
-use Rattle.reader.proofs.Read.{map-done}
+use Rattle.reader.proofs.Meaning.{map-done}
 
 -- the two forbidden codes of eight bits are the multiples of 128
 is-forbidden : (code : ℕ) → code < 256 → code % 128 ≡ 0 → forbidden code ≡ true

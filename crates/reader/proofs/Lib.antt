@@ -1,4 +1,4 @@
-pub mod Read
+pub mod Meaning
 pub mod Told
 pub mod HeadTurn
 pub mod HeaderSteps
@@ -13,3 +13,4 @@ pub mod MacroblocksTurn
 pub mod GroupsTurn
 pub mod PictureTurn
 pub mod ParseSteps
+pub mod ReadSteps

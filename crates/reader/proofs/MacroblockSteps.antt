@@ -23,7 +23,7 @@ use Rattle.reader.specs.Vector.{vectorRead}
 use Rattle.reader.specs.Layers.{typed, table2-meanings}
 use Rattle.reader.specs.Grammar.{Mba, step, stuffed, ended, mbaOf, mba, optional, patternRead}
 use Rattle.bits.specs.Logic.{reads-word}
-use Rattle.reader.proofs.Read.{judged-refused, judged-fine, judged-against, onward}
+use Rattle.reader.proofs.Meaning.{judged-refused, judged-fine, judged-against, onward}
 
 -- ---- MBA
 module _ (last : Bool) (address : ℕ) (bs : List Bit) (at : ℕ) where

@@ -25,7 +25,7 @@ use Rattle.reader.specs.Grammar.{optional, quantiser, patternRead, block
 use Rattle.description.specs.Valid.{isQuantiser}
 use Rattle.description.specs.Proper.{If, ProperVector}
 use Rattle.reader.proofs.VectorSteps.{kept-of}
-use Rattle.reader.proofs.Read.{was-got, was-refused}
+use Rattle.reader.proofs.Meaning.{was-got, was-refused}
 
 -- a kept component in a byte: one test
 abbrev byted : ℕ → Bool

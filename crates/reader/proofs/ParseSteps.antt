@@ -32,7 +32,7 @@ use Rattle.reader.specs.declared.PlaceRead.the-variants.{At, Refused}
 use Rattle.reader.proofs.PlaceRead.{the-type as place-type}
 use Rattle.reader.specs.declared.Verdict.{Verdict}
 use Rattle.reader.specs.declared.Verdict.the-variants.{Accepted, Refused as Unread}
-use Rattle.reader.proofs.Read.{map-done}
+use Rattle.reader.proofs.Meaning.{map-done}
 
 -- ---- three stores over zeros
 cleared : (c : ℕ) (tr ptype bit : ℕ) (l : List ℕ) → l ≡ replicate (3 + c) 0 → set (set (set l 0 tr) 1 ptype) 2 bit ≡ tr ∷ ptype ∷ bit ∷ replicate c 0

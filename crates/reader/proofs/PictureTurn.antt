@@ -3,14 +3,15 @@ use mathlib.Core.Path.{_≡_, refl, sym, ap, subst, _∙_}
 use mathlib.Core.Bool.{Bool, true, false}
 use mathlib.Core.List.{List, [], _∷_}
 use mathlib.Core.Logic.{_⊎_, inl, inr}
-use Prim.Native.Nat.{ℕ, zero, suc, _+_, _-_, _*_, _≤_, _<_}
+use Prim.Native.Nat.{ℕ, suc, _+_, _-_, _*_, _≤_, _<_}
 use native.Mathlib.Omega.{arith}
 use native.Mathlib.Numerals.{add-one}
 use lib.Dec.{T, eqb, leb, leb→le}
 use lib.ListN.{length, getD, set, drop, length-set}
 use lib.Seq.{drop-cons}
 use denote.Enum.Declared.{tagOf}
-use Rattle.laws.specs.Choice.{both, opposite, both-left, both-right}
+use Rattle.laws.specs.Choice.{both, both-left, both-right}
+use Rattle.laws.specs.Rows.{lt-or-ge}
 use Rattle.laws.specs.Table.{allB, all-at}
 use Rattle.refusals.specs.declared.Refusal.{Refusal}
 use Rattle.bits.specs.Bits.{Bit, bitsLeft}
@@ -37,23 +38,14 @@ use Rattle.reader.specs.declared.MacroblockRead.the-variants.{Got, Refus
 use Rattle.reader.proofs.MacroblockRead.{the-type as macroblock-type}
 use Rattle.reader.specs.Layers.{Met, mba-reads, macroblock-reads, group-head-reads}
 use Rattle.reader.specs.Grammar.{Mba, step, stuffed, ended, mbaOf, mba, macroblock, macroblocksFrom, none, groupHead, groupsRead}
-use Rattle.reader.proofs.Read.{was-got, onward}
+use Rattle.reader.proofs.Meaning.{was-got, onward}
+use Rattle.reader.proofs.TypeSays.{alike, alike-same}
 use Rattle.reader.proofs.MacroblockWhole.{vector-kept}
 use Rattle.reader.proofs.MacroblockSteps.{opened}
 use Rattle.reader.proofs.MacroblocksTurn.{MacroblocksSoFar, macroblocks-first, macroblocks-refused, macroblocks-ended, macroblocks-stuffed, macroblocks-inside, macroblocks-more}
 use Rattle.reader.proofs.GroupsTurn.{macroblocksAt, quantised, GroupsSoFar, groups-done, groups-head, groups-inside, groups-more}
 
 -- ---- the order of groups, by one test of each format
-abbrev alike : Bool → Bool → Bool
-alike true b = b
-alike false b = opposite b
-
-alike-same : (a b : Bool) → T (alike a b) → a ≡ b
-alike-same true true t = refl
-alike-same true false t = absurd t
-alike-same false true t = absurd t
-alike-same false false t = refl
-
 abbrev ordered : Format → ℕ → Bool
 ordered f g = both (alike (eqb (suc g) (groupCount f)) (none (drop (suc g) (groupNumbers f)))) (both (leb 1 (getD (groupNumbers f) g 0)) (leb (getD (groupNumbers f) g 0) 12))
 
@@ -101,15 +93,6 @@ count-small Qcif = omega arith
 count-small Cif = omega arith
 
 -- ---- where an MBA place leads
-lt-or-ge : (a b : ℕ) → (a < b) ⊎ (b ≤ a)
-lt-or-ge a zero = inr (omega arith)
-lt-or-ge zero (suc b) = inl (omega arith)
-lt-or-ge (suc a) (suc b) = up (lt-or-ge a b)
-  where
-    up : (a < b) ⊎ (b ≤ a) → (suc a < suc b) ⊎ (suc b ≤ suc a)
-    up (inl l) = inl (omega arith)
-    up (inr l) = inr (omega arith)
-
 pub record Led (last : Bool) (address n p : ℕ) (x : Mba) (q : ℕ) : Type 0 where
   pub ahead : p < q
   pub inside : q ≤ n

@@ -4,7 +4,7 @@ use mathlib.Core.List.{List}
 use Prim.Native.Nat.{ℕ, suc, _≤_}
 use lib.ListN.{length}
 use Rattle.bits.specs.Bits.{Bit}
-use Rattle.reader.proofs.Read.{onward}
+use Rattle.reader.proofs.Meaning.{onward}
 use native.Mathlib.Omega.{arith}
 use denote.Enum.Declared.{tagOf}
 use Rattle.bits.proofs.FieldRead.{the-type as field-type}

@@ -10,11 +10,12 @@ use Rattle.laws.specs.Table.{allB, all-at}
 use Rattle.words.specs.Words.{isIntra, isMC, hasMQUANT, hasCBP}
 use Rattle.reader.specs.Answer.{Typed}
 
-abbrev alike : Bool → Bool → Bool
+-- two tests that give the same
+abbrev pub alike : Bool → Bool → Bool
 alike true b = b
 alike false b = opposite b
 
-alike-same : (a b : Bool) → T (alike a b) → a ≡ b
+pub alike-same : (a b : Bool) → T (alike a b) → a ≡ b
 alike-same true true t = refl
 alike-same true false t = absurd t
 alike-same false true t = absurd t

@@ -22,7 +22,7 @@ use Rattle.format.specs.declared.Format.{Format}
 use Rattle.description.specs.Vector.{Vector, inRange, ahead, back, inside, inPicture, restarts}
 use Rattle.reader.specs.Answer.{Kept, componentOf, vectorOf}
 use Rattle.reader.specs.Vector.{pairOf, landing, component, componentRead, componentsRead, pointing, vectorRead}
-use Rattle.reader.proofs.Read.{judged-refused, judged-fine, judged-against, onward}
+use Rattle.reader.proofs.Meaning.{judged-refused, judged-fine, judged-against, onward}
 use Rattle.reader.specs.Layers.{component-reads}
 
 -- ---- where a pair lands: one test over all preceding components and all pairs

@@ -6,7 +6,7 @@ use lib.IntN.{ℤ, pos}
 use lib.ListN.{getD, replicate, getD-replicate}
 use Rattle.laws.specs.Integer.{Low}
 use Rattle.laws.specs.Block.{Is, shape-fill, is-each}
-use Rattle.transform.specs.Inverse.{Small}
+use Rattle.transform.specs.Lines.{Small}
 use Rattle.transform.specs.Filter.{Samples}
 use Rattle.transform.specs.Sample.{Sample, byte-sample}
 

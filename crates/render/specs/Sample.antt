@@ -16,7 +16,7 @@ use Rattle.description.specs.Flat.{Flat}
 use Rattle.description.specs.Fields.{typeOf, vectorOf, quantiserOf}
 use Rattle.description.specs.Moved.{moved}
 use Rattle.transform.specs.Level.{bytesFrom, coefficientAt}
-use Rattle.transform.specs.Inverse.{inverseAt}
+use Rattle.inverse.specs.Inverse.{inverseAt}
 use Rattle.transform.specs.Filter.{filterAt}
 use Rattle.transform.specs.Sample.{sampleOf}
 use Rattle.render.specs.declared.Prediction.{Prediction}

@@ -11,7 +11,7 @@ use Rattle.laws.specs.Table.{allB, all-at}
 use Rattle.laws.specs.Block.{cell}
 use Rattle.laws.specs.Tabulate.{line, made, line-at}
 use Rattle.transform.specs.Level.{levelOf, coefficient, valueAt, positionAt, coefficientAt, level-none}
-use Rattle.transform.specs.Inverse.{none-inverse}
+use Rattle.inverse.specs.Inverse.{none-inverse}
 use Rattle.render.specs.Sample.{differenceOf}
 
 -- a place of a block stands at one of its 64 positions

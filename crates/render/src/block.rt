@@ -12,7 +12,7 @@ ghost use Rattle.description.specs.Vector.{ahead, back};
 ghost use Rattle.description.specs.Flat.{numberOf};
 ghost use Rattle.description.specs.Moved.{halved, moved, Aims};
 ghost use Rattle.transform.specs.Level.{bytesFrom};
-ghost use Rattle.transform.specs.Inverse.{Small};
+ghost use Rattle.transform.specs.Lines.{Small};
 ghost use Rattle.transform.specs.Sample.{sampleOf};
 ghost use Rattle.transform.specs.Filter.{filterAt, Samples};
 ghost use Rattle.render.specs.Sample.{predicted, differenceOf, source};
@@ -74,7 +74,7 @@ fn output(levels: &[u8], at: usize, intra: bool, quantiser: u8) -> [[i32; 8]; 8]
     ensures is { λ r. ⌜ Is (pos 0) (differenceOf (bytesFrom (now (levels .entry)) at) intra quantiser) r ⌝ }
     ensures small { λ r. ⌜ Small 256 r ⌝ }
 {
-    transform::inverse::inverse(transform::dequantise::dequantise(levels, at, intra, quantiser))
+    inverse::inverse(transform::dequantise::dequantise(levels, at, intra, quantiser))
 }
 
 // The same where there may be no level but zeros.

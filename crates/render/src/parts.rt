@@ -8,7 +8,7 @@ ghost use Rattle.laws.specs.Rows.{Begins, Row, Put, Room};
 ghost use Rattle.laws.specs.Block.{Is, cell};
 ghost use Rattle.laws.specs.Table.{allB};
 ghost use Rattle.transform.specs.Level.{bytesFrom};
-ghost use Rattle.transform.specs.Inverse.{Small};
+ghost use Rattle.transform.specs.Lines.{Small};
 ghost use Rattle.transform.specs.Sample.{sampleOf};
 ghost use Rattle.transform.specs.Filter.{Samples};
 ghost use Rattle.render.specs.Turn.{rowsOf, blockFrom};

@@ -2,7 +2,7 @@
 use mathlib.Core.Path.{_≡_, sym, _∙_}
 use Prim.Native.Nat.{ℕ, _<_}
 use native.Mathlib.Omega.{arith}
-use Rattle.transform.proofs.Lines.{eight}
+use Rattle.transform.specs.Lines.{eight}
 use lib.Bits.{bitOr, or-add-and, and-le-l, and-le-r}
 
 pub or-left : (a b : ℕ) → bitOr a b ≡ 0 → a ≡ 0

@@ -1,7 +1,3 @@
 mod Placing
-mod Lines
-mod Bits
+pub mod Bits
 mod Rows
-mod Halves
-mod Bounds
-mod Split

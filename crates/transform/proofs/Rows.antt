@@ -5,7 +5,7 @@ use Prim.Native.Nat.{ℕ, _+_, _-_, _≤_, _<_}
 use lib.IntN.{ℤ, pos, _+ℤ_, _*ℤ_}
 use lib.ListN.{getD}
 use Rattle.laws.specs.Block.{cell}
-use Rattle.transform.specs.Passes.{Line, entry}
+use Rattle.transform.specs.Lines.{Line, entry}
 use Rattle.transform.specs.Filter.{weighted, roundedSixteenth, filterAt, AtEdge, weighted-edge, weighted-inside, weighted-same}
 
 module _ (t : List (List ℤ)) (row : ℕ) (g : List ℤ) {r : List ℤ} (finished : Line (λ x. roundedSixteenth (weighted (entry g) x)) r) where

@@ -1,7 +1,5 @@
 pub mod Cut
+pub mod Lines
 pub mod Level
-pub mod Inverse
-pub mod Passes
 pub mod Sample
 pub mod Filter
-pub mod Examples

@@ -4,8 +4,7 @@ ghost use Prim.Native.Nat.{ℕ, _<_, _≤_};
 ghost use lib.IntN.{ℤ, pos, _+ℤ_, _*ℤ_};
 ghost use Rattle.laws.specs.Integer.{Low};
 ghost use Rattle.laws.specs.Block.{Is};
-ghost use Rattle.transform.specs.Inverse.{SmallRow};
-ghost use Rattle.transform.specs.Passes.{Line, entry};
+ghost use Rattle.transform.specs.Lines.{SmallRow, Line, entry};
 ghost use Rattle.transform.specs.Filter.{weighted, roundedSixteenth, filterAt, AtEdge, Samples};
 
 fn inside(a: i32, b: i32, c: i32) -> i32

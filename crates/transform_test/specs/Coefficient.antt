@@ -10,7 +10,7 @@ use Rattle.laws.specs.Choice.{pick}
 use Rattle.laws.specs.Integer.{Low}
 use Rattle.laws.specs.Block.{Is, is-each}
 use Rattle.transform.specs.Cut.{cut, cut-low, pick-true, pick-false}
-use Rattle.transform.specs.Inverse.{Small}
+use Rattle.transform.specs.Lines.{Small}
 
 -- 16 bits in two's complement, cut to -2048..2047
 unfoldable pub coefficientOf : ℕ → ℤ

@@ -87,7 +87,7 @@ fn one() -> bool {
         return false;
     }
     let coefficients = block(&bytes);
-    let out = lay(transform::inverse::inverse(coefficients));
+    let out = lay(inverse::inverse(coefficients));
     io::write_all(STDOUT_FILENO, &out)
 }
 

@@ -26,7 +26,7 @@ pub enum Written {
 }
 
 // Whether the three slices have the lengths of one format's description.
-fn one_format(head: &[u8], macroblocks: &[u8], levels: &[u8]) -> bool
+pub fn one_format(head: &[u8], macroblocks: &[u8], levels: &[u8]) -> bool
     ensures { λ r. ⌜ r ≡ either (lengthsOf Qcif (flat (now (head .entry)) (now (macroblocks .entry)) (now (levels .entry)))) (lengthsOf Cif (flat (now (head .entry)) (now (macroblocks .entry)) (now (levels .entry)))) ⌝ }
 {
     if validity::lengths(head, macroblocks, levels, Format::Qcif) {

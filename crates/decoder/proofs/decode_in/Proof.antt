@@ -1,4 +1,5 @@
-use Rattle.decoder.proofs.Steps.{read-valid, drawn-verdict, drawn-store, refused-verdict, refused-store, accepted-tag}
+use Rattle.reader.proofs.ReadSteps.{accepted-tag}
+use Rattle.decoder.proofs.Steps.{read-valid, drawn-verdict, drawn-store, refused-verdict, refused-store}
 use borrow.Author.Needs.{needs}
 use Rattle.decoder.proofs.decode_in.Statement.{statement}
 use Rattle.decoder.proofs.decode_in.Tie as tie

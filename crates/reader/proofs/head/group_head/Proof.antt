@@ -8,7 +8,7 @@ use Rattle.bits.specs.Answer.{asField}
 use Rattle.reader.specs.Answer.{leaving, fieldRefusal, placeRefusal}
 use Rattle.reader.specs.declared.PlaceRead.{PlaceRead}
 use Rattle.reader.proofs.Told.{no-field, no-place}
-use Rattle.reader.proofs.Read.{onward}
+use Rattle.reader.proofs.Meaning.{onward}
 use Rattle.reader.specs.Layers.{expect-reads, quantiser-reads, spares-reads}
 use Rattle.refusals.specs.Number.{number}
 use Rattle.bits.specs.Logic.{reads-field}

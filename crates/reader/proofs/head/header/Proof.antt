@@ -6,7 +6,7 @@ use Rattle.refusals.specs.declared.Reason.the-variants.{NoStartCode, OtherGroup
 use Rattle.refusals.specs.Number.{number}
 use Rattle.bits.specs.Logic.{reads-field}
 use Rattle.reader.specs.Layers as layers
-use Rattle.reader.proofs.Read.{onward}
+use Rattle.reader.proofs.Meaning.{onward}
 use Rattle.reader.proofs.HeaderSteps.{header-no-start, header-no-reference, header-no-type, header-no-spares, header-no-group, header-whole}
 use borrow.Author.Needs.{needs}
 use Rattle.reader.proofs.head.header.Statement.{statement}

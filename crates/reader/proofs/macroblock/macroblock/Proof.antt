@@ -8,7 +8,7 @@ use Rattle.words.specs.Words.{isMC, hasMQUANT}
 use Rattle.description.specs.Vector.{zeroVector, preceding}
 use Rattle.reader.specs.Answer.{beforeOf}
 use Rattle.reader.specs.Layers as layers
-use Rattle.reader.proofs.Read.{onward}
+use Rattle.reader.proofs.Meaning.{onward}
 use Rattle.reader.proofs.Told.{no-word, is-word, no-field, is-field, no-vector, is-vector, no-place, is-place, within-next}
 use Rattle.reader.proofs.MacroblockSteps.{type-typed}
 use Rattle.reader.proofs.MacroblockWhole.{no-type, no-quantiser, no-pointing, no-pattern, no-blocks, whole-macroblock, vector-kept, quantiser-small, small-byte, fields-are}

@@ -7,9 +7,9 @@ use lib.IntN.{ℤ, pos}
 use Rattle.laws.specs.Block.{Is}
 use Rattle.laws.specs.Tabulate.{is-made}
 use Rattle.transform.specs.Level.{dequantised-small}
-use Rattle.transform.specs.Inverse.{inverseAt}
+use Rattle.inverse.specs.Inverse.{inverseAt}
 use Rattle.render.specs.Sample.{differenceOf}
-use Rattle.transform.specs.Inverse.{inverse-small}
+use Rattle.inverse.specs.Inverse.{inverse-small}
 use Rattle.render.proofs.block.output.Statement.{statement}
 use Rattle.render.proofs.block.output.Tie as tie
 

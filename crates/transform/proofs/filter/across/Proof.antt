@@ -1,5 +1,5 @@
 use mathlib.Core.Path.{_≡_, refl, _∙_}
-use Rattle.transform.proofs.Lines.{eight, back32}
+use Rattle.transform.specs.Lines.{eight, back32}
 use borrow.Author.Needs.{needs}
 use Rattle.transform.proofs.filter.across.Statement.{statement}
 use Rattle.transform.proofs.filter.across.Tie as tie

@@ -7,9 +7,8 @@ use lib.IntN.{ℤ, pos, _+ℤ_, _*ℤ_}
 use mir.Syntax.{w32}
 use mir.Val.{toZ, ofZ}
 use Rattle.laws.specs.Integer.{Low, low-up, low-mul, low-add, back}
-use Rattle.transform.specs.Passes.{entry}
+use Rattle.transform.specs.Lines.{entry, back32}
 use Rattle.transform.specs.Filter.{weighted, roundedSixteenth, weighted-edge, weighted-inside, edge-below, inside-low, edge-low}
-use Rattle.transform.proofs.Lines.{back32}
 use Rattle.transform.proofs.filter.along_edge.Statement.{statement}
 use Rattle.transform.proofs.filter.along_edge.Tie as tie
 use Rattle.transform.proofs.filter.along_edge.Reads as reads

@@ -5,10 +5,9 @@ use lib.IntN.{ℤ, pos}
 use lib.ListN.{replicate}
 use borrow.Author.Needs.{needs}
 use Rattle.laws.specs.Integer.{Low}
-use Rattle.transform.specs.Inverse.{SmallRow}
+use Rattle.transform.specs.Lines.{SmallRow, Lines, lines-none, lines-more, lines-last, line-low}
 use Rattle.transform.specs.Sample.{sample-low}
 use Rattle.transform.specs.Filter.{filterAt, edge-low, inside-low}
-use Rattle.transform.proofs.Lines.{Lines, lines-none, lines-more, lines-last, line-low}
 use Rattle.transform.proofs.Rows.{row-edge, row-inside}
 use Rattle.transform.proofs.filter.filter.Statement.{statement}
 use Rattle.transform.proofs.filter.filter.Tie as tie

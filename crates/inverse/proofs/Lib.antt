@@ -1,0 +1,3 @@
+mod Halves
+mod Bounds
+mod Split

@@ -1,0 +1,60 @@
+use mathlib.Core.Path.{_≡_, sym, ap, _∙_}
+use Prim.Native.Nat.{_+_}
+use lib.Dec.{lit≤}
+use lib.IntN.{ℤ, pos, negsuc, _+ℤ_}
+use lib.Signed.{shrZ}
+use mir.Syntax.{w32}
+use mir.Val.{SFits, toZ, ofZ}
+use mir.Facts.{toZ-ofZ}
+use borrow.Author.Needs.{needs}
+use Rattle.laws.specs.Integer.{Low, low-fits, low-shr, low-add}
+use Rattle.laws.specs.Floor.{floorDivided, floor-shift}
+use Rattle.transform.specs.Cut.{cut}
+use Rattle.inverse.specs.Passes.{finished}
+use Rattle.transform.specs.Lines.{back32}
+use Rattle.inverse.proofs.finish.Statement.{statement}
+use Rattle.inverse.proofs.finish.Tie as tie
+use Rattle.inverse.proofs.finish.Reads as reads
+use Rattle.inverse.proofs.finish.Lts as lts
+use Rattle.transform.proofs.cut.cut.Reads as cut-reads
+
+module _ (c : tie.Start) where
+  abbrev down : ℤ
+  down = shrZ (c .args .l) 8192
+
+  low-down : Low 45457 down
+  low-down = low-shr 8192 45456 (c .pre .1) (lit≤ tt)
+
+  fits-down : SFits w32 down
+  fits-down = low-fits tt low-down
+
+  low-sum : Low (372375552 + 45457) (c .args .h +ℤ down)
+  low-sum = low-add (c .pre .0) low-down
+
+  fits-sum : SFits w32 (c .args .h +ℤ down)
+  fits-sum = low-fits tt low-sum
+
+  fits-number : SFits w32 (shrZ (c .args .h +ℤ down) 4096)
+  fits-number = low-fits tt (low-shr 4096 90924 low-sum (lit≤ tt))
+
+  number-is : shrZ (c .args .h +ℤ down) 4096 ≡ floorDivided (c .args .h +ℤ floorDivided (c .args .l) 8192) 4096
+  number-is =
+      sym (floor-shift (c .args .h +ℤ down) 4096)
+      ∙ ap (λ (z : ℤ). floorDivided (c .args .h +ℤ z) 4096) (sym (floor-shift (c .args .l) 8192))
+
+add-cut : tie.Need-add-cut
+add-cut c = simp (toZ-ofZ (c .fits .l), toZ-ofZ (fits-down c), toZ-ofZ (c .fits .h)) (fits-sum c)
+
+cut-requires : tie.Need-cut-requires
+cut-requires c κs = search needs
+
+returns : tie.Need-returns
+unfolding finished
+returns c =
+    let s = c .before in
+    back32 (c .cut .result) (c .cut .ok) ∙ c .cut .ensures
+    ∙ simp (toZ-ofZ (s .fits .l), toZ-ofZ (fits-down s), toZ-ofZ (s .fits .h), toZ-ofZ (fits-sum s), toZ-ofZ (fits-number s))
+    (ap (λ (z : ℤ). cut (negsuc 255) (pos 255) z) (number-is s))
+
+pub finish-spec : {M : Type 1} → statement M
+finish-spec = tie.close (tie.spec add-cut cut-requires returns)

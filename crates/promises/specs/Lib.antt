@@ -1,0 +1,3 @@
+pub mod Sheet
+pub mod WrittenBack
+pub mod Demand2

@@ -1,0 +1,92 @@
+-- `reader::read` meets its contract: the scratch has room for either format. Assumes nothing.
+use mathlib.Core.Path.{_∙_}
+use native.Mathlib.Omega.{arith}
+use borrow.Author.Tests.{not-true, not-false}
+use lib.Seq.{length-take-le}
+use Rattle.reader.specs.Answer.{flat}
+use Rattle.reader.proofs.PictureTurn.{count-small}
+use Rattle.reader.proofs.ReadSteps.{unfit, fit, lengths-are, part-long}
+use borrow.Author.Needs.{needs}
+use Rattle.reader.proofs.read.Statement.{statement}
+use Rattle.reader.proofs.read.Tie as tie
+
+lengths-requires : tie.Need-lengths-requires
+lengths-requires c κs = search needs
+
+same-length : tie.Need-same-length
+same-length c = search needs
+
+same-length-2 : tie.Need-same-length-2
+same-length-2 c = search needs
+
+same-length-3 : tie.Need-same-length-3
+same-length-3 c = search needs
+
+returns : tie.Need-returns
+returns c = unfit (c .before .before .before .before .before .before .before .before .before .args .format) (c .before .before .before .before .before .before .before .before .before .args .bytes .now) (c .before .before .before .before .before .before .before .before .before .args .count) (flat (c .before .before .before .before .before .before .before .before .before .args .head .now) (c .before .before .before .before .before .before .before .before .before .args .macroblocks .now) (c .before .before .before .before .before .before .before .before .before .args .levels .now)) (c .before .lengths .ensures) (not-true _ (c .if1 .taken))
+
+head-length-requires : tie.Need-head-length-requires
+head-length-requires c κs = search needs
+
+macroblocks-length-requires : tie.Need-macroblocks-length-requires
+macroblocks-length-requires c κs = search needs
+
+levels-length-requires : tie.Need-levels-length-requires
+levels-length-requires c κs = search needs
+
+array-borrow-prefix-header : tie.Need-array-borrow-prefix-header
+array-borrow-prefix-header c = omega (arith, c .before .before .head-length .ensures, count-small (c .before .before .before .before .before .before .before .before .before .before .before .before .args .format))
+
+slice-aggregate-read-in : tie.Need-slice-aggregate-read-in
+slice-aggregate-read-in c = part-long _ (array-borrow-prefix-header (c .before))
+
+array-borrow-prefix-fields : tie.Need-array-borrow-prefix-fields
+array-borrow-prefix-fields c = omega (arith, c .before .before .macroblocks-length .ensures, count-small (c .before .before .before .before .before .before .before .before .before .before .before .before .before .args .format))
+
+slice-aggregate-read-in-2 : tie.Need-slice-aggregate-read-in-2
+slice-aggregate-read-in-2 c = part-long _ (array-borrow-prefix-fields (c .before))
+
+array-borrow-prefix-coefficients : tie.Need-array-borrow-prefix-coefficients
+array-borrow-prefix-coefficients c = omega (arith, c .before .before .levels-length .ensures, count-small (c .before .before .before .before .before .before .before .before .before .before .before .before .before .before .args .format))
+
+slice-aggregate-read-in-3 : tie.Need-slice-aggregate-read-in-3
+slice-aggregate-read-in-3 c = part-long _ (array-borrow-prefix-coefficients (c .before))
+
+read-in-requires : tie.Need-read-in-requires
+read-in-requires c κs = (record { head-long = length-take-le _ _ (array-borrow-prefix-header (c .before .before .before .before .before .before)) ∙ c .before .before .before .before .before .before .before .before .head-length .ensures; ms-long = length-take-le _ _ (array-borrow-prefix-fields (c .before .before .before .before .before)) ∙ c .before .before .before .before .before .before .before .macroblocks-length .ensures; ls-long = length-take-le _ _ (array-borrow-prefix-coefficients (c .before .before .before .before)) ∙ c .before .before .before .before .before .before .levels-length .ensures }, lengths-are (c .before .before .before .before .before .before .before .before .before .before .before .before .before .before .before .before .before .before .args .format) (flat (c .before .before .before .before .before .before .before .before .before .before .before .before .before .before .before .before .before .before .args .head .now) (c .before .before .before .before .before .before .before .before .before .before .before .before .before .before .before .before .before .before .args .macroblocks .now) (c .before .before .before .before .before .before .before .before .before .before .before .before .before .before .before .before .before .before .args .levels .now)) (c .before .before .before .before .before .before .before .before .before .before .lengths .ensures) (not-false _ (c .before .before .before .before .before .before .before .before .before .if1 .left)))
+
+same-length-4 : tie.Need-same-length-4
+same-length-4 c = search needs
+
+same-length-5 : tie.Need-same-length-5
+same-length-5 c = search needs
+
+same-length-6 : tie.Need-same-length-6
+same-length-6 c = search needs
+
+returns-2 : tie.Need-returns-2
+returns-2 c = fit (c .before .before .before .before .before .before .before .before .before .before .before .before .before .before .before .before .before .before .before .before .before .before .before .before .before .before .before .before .args .format) (c .before .before .before .before .before .before .before .before .before .before .before .before .before .before .before .before .before .before .before .before .before .before .before .before .before .before .before .before .args .bytes .now) (c .before .before .before .before .before .before .before .before .before .before .before .before .before .before .before .before .before .before .before .before .before .before .before .before .before .before .before .before .args .count) (flat (c .before .before .before .before .before .before .before .before .before .before .before .before .before .before .before .before .before .before .before .before .before .before .before .before .before .before .before .before .args .head .now) (c .before .before .before .before .before .before .before .before .before .before .before .before .before .before .before .before .before .before .before .before .before .before .before .before .before .before .before .before .args .macroblocks .now) (c .before .before .before .before .before .before .before .before .before .before .before .before .before .before .before .before .before .before .before .before .before .before .before .before .before .before .before .before .args .levels .now)) (c .before .before .before .before .before .before .before .before .before .before .before .before .before .before .before .before .before .before .before .before .lengths .ensures) (not-false _ (c .before .before .before .before .before .before .before .before .before .before .before .before .before .before .before .before .before .before .before .if1 .left)) (c .before .before .before .before .before .before .before .before .before .read-in .ensures .0) (c .before .before .before .before .before .before .before .before .before .read-in .ensures .1)
+
+pub read-spec : {M : Type 1} → statement M
+read-spec =
+    tie.close
+    (tie.spec
+    lengths-requires
+    same-length
+    same-length-2
+    same-length-3
+    returns
+    head-length-requires
+    macroblocks-length-requires
+    levels-length-requires
+    array-borrow-prefix-header
+    slice-aggregate-read-in
+    array-borrow-prefix-fields
+    slice-aggregate-read-in-2
+    array-borrow-prefix-coefficients
+    slice-aggregate-read-in-3
+    read-in-requires
+    same-length-4
+    same-length-5
+    same-length-6
+    returns-2)

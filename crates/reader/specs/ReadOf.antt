@@ -1,0 +1,20 @@
+-- What `read` answers and leaves in its three buffers. Assumes nothing.
+use Prim.Native.Nat.{ℕ}
+use mathlib.Core.List.{List}
+use Rattle.laws.specs.Choice.{pick}
+use Rattle.refusals.specs.declared.Reason.the-variants.{Length}
+use Rattle.bits.specs.Read.{Read, got, refused, endless, bad}
+use Rattle.format.specs.declared.Format.{Format}
+use Rattle.description.specs.Flat.{Flat}
+use Rattle.description.specs.Valid.{lengthsOf}
+use Rattle.reader.specs.Described.{described}
+
+-- refusal 1: "a lent buffer hasn't its named length", which is that of the opened format's description; else the verdict of the rules and, on acceptance, the description
+unfoldable pub readOf : Format → List ℕ → ℕ → Flat → Read Flat
+readOf f bytes n before = pick (lengthsOf f before) (described f bytes n) (bad Length 0)
+
+-- "A refusal changes no buffer"
+abbrev pub flatAfter : Flat → Read Flat → Flat
+flatAfter before (got d bs at) = d
+flatAfter before (refused r) = before
+flatAfter before endless = before
