@@ -11,6 +11,7 @@ mod block;
 mod head;
 mod kind;
 mod macroblock;
+mod opening;
 pub mod parse;
 mod picture;
 mod vector;

@@ -2,8 +2,8 @@
 use crate::HeaderRead;
 use crate::PlaceRead;
 use crate::Verdict;
-use crate::head::header;
 use crate::head::place_refusal;
+use crate::opening::header;
 use crate::picture::groups;
 use format::Format;
 use refusals::Reason;

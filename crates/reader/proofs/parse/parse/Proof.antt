@@ -16,7 +16,7 @@ use Rattle.reader.proofs.parse.parse.Tie as tie
 use Rattle.reader.proofs.parse.parse.Reads as reads
 use Rattle.reader.proofs.parse.parse.Lts as lts
 use Rattle.format.proofs.bit.Reads as bit-reads
-use Rattle.reader.proofs.head.header.Reads as header-reads
+use Rattle.reader.proofs.opening.header.Reads as header-reads
 use Rattle.reader.proofs.head.place_refusal.Reads as place-refusal-reads
 use Rattle.reader.proofs.parse.above.Reads as above-reads
 use Rattle.reader.proofs.parse.clear.Reads as clear-reads
