@@ -49,6 +49,7 @@ use Rattle.reader.specs.declared.PlaceRead.{PlaceRead}
 use Rattle.reader.specs.declared.PlaceRead.the-variants as P
 use Rattle.writer.specs.Put.{Wrote as WroteBits}
 use Rattle.render.specs.Wrote.{Values, Wrote, Macroblock}
+use Rattle.text.specs.Puts.{Puts}
 
 -- ---- an equation with the answer, with a buffer, or with both
 pub once : {A : Type 0} {a x y : A} → x ≡ a → y ≡ a → x ≡ y
@@ -301,3 +302,7 @@ rows-once h w start stride g {s} {t} {u} some fits a b = ext-getD 0 t u (a .size
     at k (inr l) =
         found k l ((k - start) / stride) ((k - start) % stride) (mod-lt (k - start) some) (sym (div-add-mod' (k - start) stride))
         (lt-or-ge ((k - start) / stride) h) (lt-or-ge ((k - start) % stride) w)
+
+-- ---- text put into a buffer
+pub text-once : {text : List ℕ} {at p q : ℕ} {out t u : List ℕ} → Puts text at out t p → Puts text at out u q → (t ≡ u) × (p ≡ q)
+text-once h k = (once (h .left-is) (k .left-is), once (h .end-is) (k .end-is))
