@@ -5,12 +5,10 @@ use mathlib.Core.List.{List, [], _∷_, _++_}
 use mathlib.Core.Option.{some}
 use Prim.Native.Nat.{ℕ, _+_}
 use lib.ListN.{length, getElem?}
-use Rattle.format.specs.declared.Format.{Format}
 use Rattle.receiver.specs.declared.Standing.the-variants as T
-use Rattle.receiver.specs.Coding.{Coding}
 use Rattle.receiver.specs.Receive as R
 use Rattle.receiver.specs.Run.{World}
-use Rattle.promises.specs.Clip.{Picture, PartOf, Right, upon}
+use Rattle.promises.specs.Clip.{Picture, PartOf, Receive, Show, Right, upon}
 
 module _ {D : Type 0} (sent : List (Picture D)) where
   -- "older blocks": blocks of the clip at places earlier than the awaited one, repeats included
@@ -37,9 +35,9 @@ inTurn [] = []
 inTurn (blocks ∷ later) = blocks ++ inTurn later
 
 -- "finishes that picture in step": with the last of these blocks the receiver stands in step at picture k, and shows the sender's store after it
-pub record InStepAt {D : Type 0} (coding : Format → Coding D) (sent : List (Picture D)) (k : ℕ) (w : World) (blocks : List (List ℕ)) : Type 0 where
+pub record InStepAt {D : Type 0} (receive : Receive) (show : Show) (sent : List (Picture D)) (k : ℕ) (w : World) (blocks : List (List ℕ)) : Type 0 where
   pub before : List (List ℕ)
   pub block : List ℕ
   pub is : blocks ≡ before ++ (block ∷ [])
-  pub stands : upon coding w before block .gave .next .standing ≡ T.InStep k
-  pub right : Right sent (upon coding w before block)
+  pub stands : upon receive w before block .gave .next .standing ≡ T.InStep k
+  pub right : Right show sent (upon receive w before block)

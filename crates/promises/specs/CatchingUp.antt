@@ -1,17 +1,17 @@
 -- Demand 3, its last sentence: "Whenever all blocks of a fully INTRA picture, none earlier than the block it wants, arrive in order with at most older blocks between, it finishes
 -- that picture in step, and so each next picture whose blocks follow on." Assumes nothing.
 use mathlib.Core.Path.{_≡_, refl, sym, ap, subst, _∙_}
-use mathlib.Core.Bool.{Bool, true, false, false≢true, true≢false}
+use mathlib.Core.Bool.{Bool, true, false}
 use mathlib.Core.Logic.{_⊎_, inl, inr, ⊎-elim}
 use mathlib.Core.List.{List, [], _∷_, _++_, append-nil}
 use mathlib.Core.Option.{some, Option·some-injective}
 use Prim.Native.Nat.{ℕ, suc, _+_, _≤_, _<_}
 use native.Mathlib.Nat.{add-zero}
 use native.Mathlib.Omega.{arith}
-use borrow.Author.Tests.{eqb-true, eqb-false, eq-eqb, ne-eqb, ltb-true, ltb-false, le-ltb, lt-ltb}
+use borrow.Author.Tests.{eqb-true, eqb-false, eq-eqb, ltb-true, le-ltb, lt-ltb}
 use lib.Dec.{eqb, ltb}
 use lib.ListN.{length, getElem?}
-use Rattle.laws.specs.Choice.{pick, both, either, opposite}
+use Rattle.laws.specs.Choice.{both, either, opposite}
 use Rattle.format.specs.declared.Format.{Format}
 use Rattle.vault.specs.Parts.{partCount}
 use Rattle.stores.specs.Stores.{shown}
@@ -20,17 +20,21 @@ use Rattle.receiver.specs.declared.Standing.{Standing}
 use Rattle.receiver.specs.declared.Standing.the-variants as T
 use Rattle.receiver.specs.declared.Receiver.{Receiver}
 use Rattle.receiver.specs.Coding.{Coding}
-use Rattle.receiver.specs.Receive.{place, earlier, same, isLost, lengths}
-use Rattle.receiver.specs.Shown.{whereShown}
-use Rattle.receiver.specs.Run.{World, after, run}
+use Rattle.receiver.specs.Receive.{place, earlier, same, isLost, step}
+use Rattle.receiver.specs.Run.{World}
+use Rattle.receiver.specs.Shown.{whereShown, shownBy}
 use Rattle.sender.specs.Coding as S
 use Rattle.promises.specs.Agree.{Agree}
-use Rattle.promises.specs.Clip.{Picture, PartOf, Clip, opening, blocksIn, picturesIn, Fresh, begin, Each, Shows, upon}
+use Rattle.promises.specs.Clip.{Picture, PartOf, opening, picturesIn, begin, afterBlock, given, upon, Shows}
+use Rattle.promises.specs.Demand3.{CatchesUp}
 use Rattle.promises.specs.Arrives as W
 use Rattle.promises.specs.Finished.{two-of, none-shown}
-use Rattle.promises.specs.Step.{Moment, receiverAt, worldAt, further, arrived, bitsOf, refreshOf, headerOf, Comes, comes-old, Takes, takes-next, takes-anew}
-use Rattle.promises.specs.Held.{Sound, Held, Fits, block-of, fits-next, fits-anew, goes-further, goes-arrived, held-further, held-drawn, line-of, Goes, step-held, after-comes, Parts, Runs, run-held}
+use Rattle.promises.specs.Step.{Moment, worldAt, bitsOf, refreshOf, Comes, comes-old, Takes, takes-next, takes-anew}
+use Rattle.promises.specs.Held.{Sound, not-lost, Held, Fits, block-of, fits-next, fits-anew, goes-further, goes-arrived, held-further, held-drawn, line-of, Goes, step-held, after-comes, Parts, Runs, run-held}
 use Rattle.promises.specs.InStep.{receiver-opened, start, sound-clip, each-part, start-held, upon-right}
+
+less-not : (a b : ℕ) → a < b → a ≡ b → ⊥
+less-not a b l e = omega arith
 
 -- ---- places
 either-false : (a b : Bool) → a ≡ false → b ≡ false → either a b ≡ false
@@ -130,10 +134,6 @@ module _ {D : Type 0} {sending : Format → S.Coding D} {receiving : Format → 
         is-refresh : both (eqb part 0) (both (refreshOf sending f x) (eqb part 0)) ≡ true
         is-refresh = λ i. both (eq-eqb part 0 z i) (both (r i) (eq-eqb part 0 z i))
 
-        not-lost : (b : Bool) → opposite b ≡ true → b ≡ false
-        not-lost true q = absurd (false≢true q)
-        not-lost false q = refl
-
         go : (b : Bool) → both (same (place p part) (m .wanted)) (opposite (isLost (m .standing))) ≡ b → Onward p (part + 1) m block
         go true q =
             let sides = two-of (same (place p part) (m .wanted)) _ q in
@@ -146,10 +146,7 @@ module _ {D : Type 0} {sending : Format → S.Coding D} {receiving : Format → 
     on-next : Ready p part m → Onward p (part + 1) m block
     on-next (awaiting l w less) = wanted-next l (sym w)
     on-next (starting z r e) = begun z (r x (h .at)) e
-    on-next (complete s w c) = absurd (never part (blockCount x) inside (c x (h .at)))
-      where
-        never : (a b : ℕ) → a < b → a ≡ b → ⊥
-        never a b l e = omega arith
+    on-next (complete s w c) = absurd (less-not part (blockCount x) inside (c x (h .at)))
 
   -- ---- an older block
   module _ {p part : ℕ} {block : List ℕ} (o : W.Older sent p part block) (m : Moment) (held : Held agree sound m) where
@@ -192,16 +189,16 @@ module _ {D : Type 0} {sending : Format → S.Coding D} {receiving : Format → 
   -- ---- a picture
   pub record Ends (p : ℕ) (m : Moment) (blocks : List (List ℕ)) : Type 0 where
     pub last : Moment
-    pub is : run receiving (worldAt clip f m) blocks ≡ worldAt clip f last
+    pub is : given (step receiving) (worldAt clip f m) blocks ≡ worldAt clip f last
     pub held : Held agree sound last
     pub stands : last .standing ≡ T.InStep p
     pub wants : last .wanted ≡ place (p + 1) 0
 
   more : (p : ℕ) (m n : Moment) (block : List ℕ) (blocks : List (List ℕ)) → Comes agree clip f m block n → Ends p n blocks → Ends p m (block ∷ blocks)
-  unfolding run
+  unfolding given
   more p m n block blocks c e = record {
     last = e .last;
-    is = ap (λ (w : World). run receiving w blocks) (after-comes agree sound m block n c) ∙ e .is;
+    is = ap (λ (w : World). given (step receiving) w blocks) (after-comes agree sound m block n c) ∙ e .is;
     held = e .held;
     stands = e .stands;
     wants = e .wants;
@@ -211,18 +208,15 @@ module _ {D : Type 0} {sending : Format → S.Coding D} {receiving : Format → 
   some-parts n l = omega arith
 
   at-end : (p part : ℕ) (m : Moment) (x : Picture D) → getElem? sent p ≡ some x → part ≡ length (x .blocks) → Held agree sound m → Ready p part m → Ends p m []
-  unfolding run
+  unfolding given
   at-end p part m x at e held r = go r
     where
       all-parts : part ≡ blockCount x
       all-parts = e ∙ sound .whole p x at .count
 
-      never : (a b : ℕ) → a < b → a ≡ b → ⊥
-      never a b l q = omega arith
-
       go : Ready p part m → Ends p m []
-      go (awaiting l w less) = absurd (never part (blockCount x) (less x at) all-parts)
-      go (starting z s n) = absurd (never 0 (blockCount x) (some-parts (length (bitsOf sending f x)) (agree .has-bits f (x .description))) (sym z ∙ all-parts))
+      go (awaiting l w less) = absurd (less-not part (blockCount x) (less x at) all-parts)
+      go (starting z s n) = absurd (less-not 0 (blockCount x) (some-parts (length (bitsOf sending f x)) (agree .has-bits f (x .description))) (sym z ∙ all-parts))
       go (complete s w c) = record { last = m; is = refl; held = held; stands = s; wants = w }
 
   ends : {p part : ℕ} {blocks : List (List ℕ)} → W.Arrives sent p part blocks → (m : Moment) → Held agree sound m → Ready p part m → Ends p m blocks
@@ -235,15 +229,15 @@ module _ {D : Type 0} {sending : Format → S.Coding D} {receiving : Format → 
       more p m (g .next) block blocks (g .comes) (ends a (g .next) (g .held) (g .ready))
 
   -- ---- pictures in a row
-  run-append : (w : World) (a b : List (List ℕ)) → run receiving w (a ++ b) ≡ run receiving (run receiving w a) b
-  unfolding run
+  run-append : (w : World) (a b : List (List ℕ)) → given (step receiving) w (a ++ b) ≡ given (step receiving) (given (step receiving) w a) b
+  unfolding given
   run-append w [] b = refl
-  run-append w (block ∷ a) b = run-append (after receiving w block) a b
+  run-append w (block ∷ a) b = run-append (afterBlock (step receiving) w block) a b
 
   joined : (p k : ℕ) (m : Moment) (first rest : List (List ℕ)) (e : Ends p m first) → Ends k (e .last) rest → Ends k m (first ++ rest)
   joined p k m first rest e r = record {
     last = r .last;
-    is = run-append (worldAt clip f m) first rest ∙ ap (λ (w : World). run receiving w rest) (e .is) ∙ r .is;
+    is = run-append (worldAt clip f m) first rest ∙ ap (λ (w : World). given (step receiving) w rest) (e .is) ∙ r .is;
     held = r .held;
     stands = r .stands;
     wants = r .wants;
@@ -286,19 +280,16 @@ module _ {D : Type 0} {sending : Format → S.Coding D} {receiving : Format → 
 
   -- no picture is without blocks
   not-none : {p part : ℕ} {blocks : List (List ℕ)} → W.Arrives sent p part blocks → part ≡ 0 → blocks ≡ [] → ⊥
-  not-none {p} (W.all x at e) z n = never (blockCount x) (some-parts (length (bitsOf sending f x)) (agree .has-bits f (x .description))) (sym (sound .whole p x at .count) ∙ sym e ∙ z)
-    where
-      never : (n : ℕ) → 0 < n → n ≡ 0 → ⊥
-      never n l q = omega arith
+  not-none {p} (W.all x at e) z n = less-not 0 (blockCount x) (some-parts (length (bitsOf sending f x)) (agree .has-bits f (x .description))) (sym z ∙ e ∙ sound .whole p x at .count)
   not-none (W.older o a) z n = let q : _≡_ {A = ℕ} 0 1 = cc in omega arith
   not-none (W.next h a) z n = let q : _≡_ {A = ℕ} 0 1 = cc in omega arith
 
-  upon-run : (w : World) (before : List (List ℕ)) (block : List ℕ) → upon receiving w before block .gave .next ≡ run receiving w (before ++ (block ∷ [])) .receiver
-  unfolding run after
+  upon-run : (w : World) (before : List (List ℕ)) (block : List ℕ) → upon (step receiving) w before block .gave .next ≡ given (step receiving) w (before ++ (block ∷ [])) .receiver
+  unfolding given
   upon-run w before block = ap (λ (v : World). v .receiver) (sym (run-append w before (block ∷ [])))
 
   at-last : (m : Moment) → Held agree sound m → (k : ℕ) (block : List ℕ) (blocks : List (List ℕ)) → Ends k m (block ∷ blocks) → Parts agree sound (block ∷ blocks)
-      → W.InStepAt receiving sent k (worldAt clip f m) (block ∷ blocks)
+      → W.InStepAt (step receiving) shownBy sent k (worldAt clip f m) (block ∷ blocks)
   at-last m held k block blocks e t =
       let l = last-of block blocks in
       let s = parts-split (l .0) (l .1 ∷ []) (subst (λ (r : List (List ℕ)). Parts agree sound r) (l .2) t) in
@@ -308,37 +299,32 @@ module _ {D : Type 0} {sending : Format → S.Coding D} {receiving : Format → 
         is = l .2;
         stands =
             ap (λ (r : Receiver). r .standing)
-            (upon-run (worldAt clip f m) (l .0) (l .1) ∙ ap (λ (r : List (List ℕ)). run receiving (worldAt clip f m) r .receiver) (sym (l .2)) ∙ ap (λ (w : World). w .receiver) (e .is))
+            (upon-run (worldAt clip f m) (l .0) (l .1) ∙ ap (λ (r : List (List ℕ)). given (step receiving) (worldAt clip f m) r .receiver) (sym (l .2)) ∙ ap (λ (w : World). w .receiver) (e .is))
             ∙ e .stands;
         right = upon-right agree sound m held (l .0) (s .0) (l .1) (s .1 .0);
       }
 
   -- from any moment of a receiver of the clip
-  pub caught-up : (m : Moment) → Held agree sound m → (p : ℕ) (x : Picture D) → getElem? sent p ≡ some x → refreshOf sending f x ≡ true → earlier (place p 0) (m .wanted) ≡ false
+  caught-up : (m : Moment) → Held agree sound m → (p : ℕ) (x : Picture D) → getElem? sent p ≡ some x → refreshOf sending f x ≡ true → earlier (place p 0) (m .wanted) ≡ false
       → (first : List (List ℕ)) (later : List (List (List ℕ))) → W.Arrives sent p 0 first → W.Follow sent (p + 1) later
-      → W.InStepAt receiving sent (p + length later) (worldAt clip f m) (first ++ W.inTurn later)
+      → W.InStepAt (step receiving) shownBy sent (p + length later) (worldAt clip f m) (first ++ W.inTurn later)
   caught-up m held p x at r e [] later a t = absurd (not-none a refl refl)
   caught-up m held p x at r e (block ∷ blocks) later a t =
       at-last m held (p + length later) block (blocks ++ W.inTurn later)
       (follow p (block ∷ blocks) later a t m held (starting refl (λ y q. subst (λ (z : Picture D). refreshOf sending f z ≡ true) (Option·some-injective x y (sym at ∙ q)) r) e))
       (parts-append (block ∷ blocks) (W.inTurn later) (arrives-parts a) (follow-parts (p + 1) later t))
 
--- THE THEOREM: after any blocks of the clip, where picture p is a refresh and its part 0 is not earlier than the block that the receiver wants, the blocks of picture p arrive, and
--- then those of any number of next pictures. Every lent buffer has its named length
+-- THE THEOREM
 module _ {D : Type 0} {sending : Format → S.Coding D} {receiving : Format → Coding D} (agree : Agree sending receiving) where
-  pub catching-up : (c : Clip D) (r : Fresh (c .number) (c .format)) → lengths (c .format) (r .lent) ≡ true → (blocks : List (List ℕ)) → Each (blocksIn sending c) blocks
-      → (p : ℕ) (picture : Picture D) → getElem? (picturesIn sending c) p ≡ some picture → sending (c .format) .refresh (picture .description) ≡ true
-      → earlier (place p 0) (run receiving (begin r) blocks .receiver .wanted) ≡ false
-      → (first : List (List ℕ)) (later : List (List (List ℕ))) → W.Arrives (picturesIn sending c) p 0 first → W.Follow (picturesIn sending c) (p + 1) later
-      → W.InStepAt receiving (picturesIn sending c) (p + length later) (run receiving (begin r) blocks) (first ++ W.inTurn later)
-  catching-up c r named blocks each p picture at refresh =
+  pub catches-up : CatchesUp sending (step receiving) shownBy
+  catches-up c r named blocks each p picture at refresh =
       let sent : List (Picture D) = picturesIn sending c in
       let sound : Sound sending (c .number) (c .format) sent = sound-clip agree c in
       let ran : Runs agree sound (start (r .lent)) blocks =
       run-held agree sound (start (r .lent)) (start-held agree sound (r .lent) named) blocks (each-part agree (opening sending c) (c .calls) sound blocks each) in
-      let is : run receiving (begin r) blocks ≡ worldAt (c .number) (c .format) (ran .last) =
-      ap (λ (x : Receiver). run receiving (record { receiver = x; lent = r .lent }) blocks) (sym (receiver-opened (c .number) (c .format) (r .receiver) (r .is-open))) ∙ ran .is in
+      let is : given (step receiving) (begin r) blocks ≡ worldAt (c .number) (c .format) (ran .last) =
+      ap (λ (x : Receiver). given (step receiving) (record { receiver = x; lent = r .lent }) blocks) (sym (receiver-opened (c .number) (c .format) (r .receiver) (r .is-open))) ∙ ran .is in
       subst
       (λ (w : World). earlier (place p 0) (w .receiver .wanted) ≡ false → (first : List (List ℕ)) (later : List (List (List ℕ))) → W.Arrives sent p 0 first → W.Follow sent (p + 1) later
-      → W.InStepAt receiving sent (p + length later) w (first ++ W.inTurn later))
+      → W.InStepAt (step receiving) shownBy sent (p + length later) w (first ++ W.inTurn later))
       (sym is) (λ e. caught-up agree sound (ran .last) (ran .held) p picture at refresh e)

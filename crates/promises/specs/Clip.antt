@@ -15,12 +15,11 @@ use Rattle.sender.specs.Send.{opened, Outcome, shownBy}
 use Rattle.sender.specs.Run.{Call, World, cut, called, after, clipOf}
 use Rattle.receiver.specs.declared.Receiver.{Receiver}
 use Rattle.receiver.specs.declared.Opened.the-variants as RO
+use Rattle.receiver.specs.declared.Received.{Received}
 use Rattle.receiver.specs.declared.Standing.{Standing}
 use Rattle.receiver.specs.declared.Standing.the-variants as T
 use Rattle.receiver.specs.Receive as R
-use Rattle.receiver.specs.Coding as C
 use Rattle.receiver.specs.Run as W
-use Rattle.receiver.specs.Shown as Q
 
 -- ---- what was sent
 -- a picture: what it was described as, its blocks, and the sender's store after it
@@ -81,7 +80,26 @@ abbrev pub Each : List (List ℕ) → List (List ℕ) → Type 0
 Each clip [] = Unit {0}
 Each clip (block ∷ blocks) = List·Memᴰ block clip × Each clip blocks
 
--- ---- what a receiver says and shows
+-- ---- a receiver, whichever: what a call of `receive` gives back and leaves in the buffers, and what `show` hands back
+abbrev pub Receive : Type 0
+Receive = Receiver → List ℕ → R.Buffers → R.Outcome
+
+abbrev pub Show : Type 0
+Show = Received → Stores → List ℕ
+
+module _ (receive : Receive) where
+  -- "each call .. gets the last state back .. and the same stores and collection buffer, untouched since"
+  abbrev pub afterBlock : W.World → List ℕ → W.World
+  afterBlock w block = let x = receive (w .receiver) block (w .lent) in record { receiver = x .gave .next; lent = x .left }
+
+  unfoldable pub given : W.World → List (List ℕ) → W.World
+  given w [] = w
+  given w (block ∷ blocks) = given (afterBlock w block) blocks
+
+  -- the call for a last block, after all those before it
+  abbrev pub upon : W.World → List (List ℕ) → List ℕ → R.Outcome
+  upon w blocks block = receive (given w blocks .receiver) block (given w blocks .lent)
+
 module _ {D : Type 0} where
   -- "whenever it says that it is in step at picture k, its shown store equals the sender's after picture k, byte for byte; otherwise it says that it isn't in step and hands out nothing"
   abbrev pub Shows : List (Picture D) → Standing → List ℕ → Type 0
@@ -89,10 +107,6 @@ module _ {D : Type 0} where
   Shows sent T.Catching shown = shown ≡ []
   Shows sent T.Lost shown = shown ≡ []
 
-  -- of what a call of `receive` gives back and leaves in the stores: how it stands, and what `show` hands back
-  abbrev pub Right : List (Picture D) → R.Outcome → Type 0
-  Right sent x = Shows sent (x .gave .next .standing) (Q.shownBy (x .gave) (x .left .both))
-
-  -- the call for a last block, after all those before it
-  abbrev pub upon : (Format → C.Coding D) → W.World → List (List ℕ) → List ℕ → R.Outcome
-  upon coding w blocks block = R.step coding (W.run coding w blocks .receiver) block (W.run coding w blocks .lent)
+  -- of a call's outcome: how the receiver stands, and what is handed back of the stores
+  abbrev pub Right : Show → List (Picture D) → R.Outcome → Type 0
+  Right show sent x = Shows sent (x .gave .next .standing) (show (x .gave) (x .left .both))

@@ -6,7 +6,7 @@ use native.Mathlib.Nat.{mul-mod-left, mul-assoc, mul-comm, pow-suc, zero-add, no
 use native.Mathlib.Omega.{arith}
 use lib.ListN.{length, getD, take, drop, length-drop, take-append-drop}
 use lib.Seq.{drop-drop, take-all}
-use Rattle.bits.specs.Bits.{Bit, num, source, bitsFrom}
+use Rattle.bits.specs.Bits.{Bit, num, bitsFrom}
 use Rattle.bits.specs.Source.{source-left}
 use Rattle.bits.specs.Write.{byteFrom, bytesOf, started, written, written-is, written-bits, length-bytesOf}
 use Rattle.vault.specs.Block.{unused}

@@ -1,6 +1,5 @@
--- H.261: the writer and the reader, the sender's store and the receiver's, agree. Assumes nothing.
+-- H.261: the writer and the reader, the sender's store and the receiver's, agree; so demand 3 holds. Assumes nothing.
 use mathlib.Core.Path.{_≡_, refl, ap, _∙_}
-use mathlib.Core.Bool.{true}
 use mathlib.Core.List.{List}
 use Prim.Native.Nat.{ℕ, _≤_, zero-le, suc-le-suc}
 use lib.Dec.{T}
@@ -22,7 +21,12 @@ use Rattle.render.specs.Reference.{refresh-same}
 use Rattle.receiver.specs.Coding.{accepted}
 use Rattle.receiver.specs.H261 as R
 use Rattle.sender.specs.H261 as S
+use Rattle.receiver.specs.Receive.{step}
+use Rattle.receiver.specs.Shown.{shownBy}
 use Rattle.promises.specs.Agree.{Agree}
+use Rattle.promises.specs.Demand3.{Demand3}
+use Rattle.promises.specs.InStep.{in-step}
+use Rattle.promises.specs.CatchingUp.{catches-up}
 
 read-found : (f : Format) (d : Flat) (bytes : List ℕ) → T (valid f d) → length (written f d) ≤ limit f → Holds bytes (written f d)
     → R.found (described f bytes (length (written f d))) ≡ accepted d
@@ -45,3 +49,7 @@ h261-agrees = record {
   rendered-long = rendered-length;
   anew = λ f d s t e. refresh-same f d s t (true-T (refresh f d) e);
 }
+
+-- what `receive` and `show` are promised to do meets demand 3, against every clip of what `send` is promised to do
+pub h261-meets : Demand3 S.h261 (step R.h261) shownBy
+h261-meets = record { in-step = in-step h261-agrees; catches-up = catches-up h261-agrees }

@@ -4,11 +4,10 @@ use mathlib.Core.Path.{_≡_, refl, sym, ap, subst, _∙_}
 use mathlib.Core.Bool.{Bool, true, false, false≢true, true≢false}
 use mathlib.Core.Logic.{_⊎_, inl, inr}
 use mathlib.Core.List.{List, [], _∷_}
-use mathlib.Core.Option.{Option, some, Option·some-injective}
-use Prim.Native.Nat.{ℕ, suc, _+_, _*_, _≤_, _<_}
-use native.Mathlib.Numerals.{add-one}
+use mathlib.Core.Option.{some, Option·some-injective}
+use Prim.Native.Nat.{ℕ, _+_, _≤_, _<_}
 use native.Mathlib.Omega.{arith}
-use borrow.Author.Tests.{eqb-true, eqb-false, eq-eqb}
+use borrow.Author.Tests.{eqb-true, eqb-false}
 use lib.Dec.{eqb}
 use lib.ListN.{length, getElem?}
 use Rattle.laws.specs.Choice.{pick, both, opposite}
@@ -17,25 +16,21 @@ use Rattle.format.specs.Format.{storeLength}
 use Rattle.vault.specs.declared.Header.{Header}
 use Rattle.vault.specs.Parts.{partCount, placed}
 use Rattle.vault.specs.Collected.{Collected, collected-none}
-use Rattle.stores.specs.declared.Holder.{Holder}
-use Rattle.stores.specs.Stores.{Stores, goesInto, reference, kept, shown}
-use Rattle.receiver.specs.declared.Place.{Place}
+use Rattle.stores.specs.Stores.{reference, kept, shown}
 use Rattle.receiver.specs.declared.Standing.{Standing}
 use Rattle.receiver.specs.declared.Standing.the-variants as T
-use Rattle.receiver.specs.declared.Receiver.{Receiver}
-use Rattle.receiver.specs.declared.Line.{Line}
 use Rattle.receiver.specs.declared.Line.the-variants.{Earlier, Next, Anew, Otherwise}
 use Rattle.receiver.specs.Coding.{Coding}
 use Rattle.receiver.specs.Receive.{place, earlier, same, isLost, lineOf, lengths, Outcome, step}
 use Rattle.receiver.specs.Shown.{whereShown}
-use Rattle.receiver.specs.Run.{World, after, run}
+use Rattle.receiver.specs.Run.{World}
 use Rattle.sender.specs.Coding as S
 use Rattle.sender.specs.Send.{bytesIn}
 use Rattle.promises.specs.Agree.{Agree}
-use Rattle.promises.specs.Clip.{Picture, PartOf, Shows}
+use Rattle.promises.specs.Clip.{Picture, PartOf, afterBlock, given, Shows}
 use Rattle.promises.specs.Finished.{two-of, kept-reference, kept-sized, kept-shown, none-shown}
 use Rattle.promises.specs.Sent.{Whole, Part}
-use Rattle.promises.specs.Step.{Moment, receiverAt, worldAt, outcomeAt, marked, astray, further, arrived, bitsOf, refreshOf, headerOf, Block, stores-are, lengths-make, Comes, after-long, comes-old, comes-lost, Takes, takes-next, takes-anew, comes-further, collected-part, comes-arrived}
+use Rattle.promises.specs.Step.{Moment, receiverAt, worldAt, marked, astray, further, arrived, bitsOf, refreshOf, headerOf, Block, stores-are, lengths-make, Comes, after-long, comes-old, comes-lost, Takes, takes-next, takes-anew, comes-further, collected-part, comes-arrived}
 
 -- what is known of the pictures that were sent
 pub record Sound {D : Type 0} (sending : Format → S.Coding D) (clip : ℕ) (f : Format) (sent : List (Picture D)) : Type 0 where
@@ -58,6 +53,10 @@ mark-is part refresh mine h = go (eqb part 0) refl
       where
         positive : (n : ℕ) → (n ≡ 0 → ⊥) → 0 < n
         positive n k = omega (arith, k)
+
+pub not-lost : (b : Bool) → opposite b ≡ true → b ≡ false
+not-lost true e = absurd (false≢true e)
+not-lost false e = refl
 
 module _ {D : Type 0} {sending : Format → S.Coding D} {receiving : Format → Coding D} (agree : Agree sending receiving) {clip : ℕ} {f : Format} {sent : List (Picture D)} (sound : Sound sending clip f sent) where
   -- ---- what holds
@@ -176,10 +175,6 @@ module _ {D : Type 0} {sending : Format → S.Coding D} {receiving : Format → 
     pub held : Held next
     pub wants : (next .wanted ≡ m .wanted) ⊎ ((next .wanted ≡ place p (part + 1)) ⊎ (next .wanted ≡ place (p + 1) 0))
 
-  not-lost : (b : Bool) → opposite b ≡ true → b ≡ false
-  not-lost true e = absurd (false≢true e)
-  not-lost false e = refl
-
   module _ {p part : ℕ} {block : List ℕ} (h : PartOf sent p part block) (m : Moment) (held : Held m) where
     pub line-of : (a b c : Bool) → earlier (place p part) (m .wanted) ≡ a → both (same (place p part) (m .wanted)) (opposite (isLost (m .standing))) ≡ b
         → both (eqb part 0) (both (refreshOf sending f (h .picture)) (eqb part 0)) ≡ c
@@ -227,19 +222,18 @@ module _ {D : Type 0} {sending : Format → S.Coding D} {receiving : Format → 
   Parts [] = Unit {0}
   Parts (block ∷ blocks) = Part sending sent block × Parts blocks
 
-  pub after-comes : (m : Moment) (block : List ℕ) (n : Moment) → Comes agree clip f m block n → after receiving (worldAt clip f m) block ≡ worldAt clip f n
-  unfolding after
+  pub after-comes : (m : Moment) (block : List ℕ) (n : Moment) → Comes agree clip f m block n → afterBlock (step receiving) (worldAt clip f m) block ≡ worldAt clip f n
   after-comes m block n c = ap (λ (x : Outcome). record { receiver = x .gave .next; lent = x .left }) (c .is)
 
   pub record Runs (m : Moment) (blocks : List (List ℕ)) : Type 0 where
     pub last : Moment
-    pub is : run receiving (worldAt clip f m) blocks ≡ worldAt clip f last
+    pub is : given (step receiving) (worldAt clip f m) blocks ≡ worldAt clip f last
     pub held : Held last
 
   pub run-held : (m : Moment) → Held m → (blocks : List (List ℕ)) → Parts blocks → Runs m blocks
-  unfolding run
+  unfolding given
   run-held m h [] t = record { last = m; is = refl; held = h }
   run-held m h (block ∷ blocks) t =
       let g : Goes (t .0 .p) (t .0 .part) m block = step-held (t .0 .is) m h in
       let rest : Runs (g .next) blocks = run-held (g .next) (g .held) blocks (t .1) in
-      record { last = rest .last; is = ap (λ (w : World). run receiving w blocks) (after-comes m block (g .next) (g .comes)) ∙ rest .is; held = rest .held }
+      record { last = rest .last; is = ap (λ (w : World). given (step receiving) w blocks) (after-comes m block (g .next) (g .comes)) ∙ rest .is; held = rest .held }

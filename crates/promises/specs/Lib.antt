@@ -5,13 +5,15 @@ pub mod Determined
 pub mod Whole
 pub mod Agree
 pub mod Clip
+pub mod Arrives
+pub mod Demand3
+pub mod Agree
 pub mod Filled
 pub mod Finished
 pub mod Sent
 pub mod Step
 pub mod Held
 pub mod InStep
-pub mod Arrives
 pub mod CatchingUp
+pub mod WholeClip
 pub mod H261
-pub mod Demand3

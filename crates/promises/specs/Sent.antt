@@ -2,12 +2,12 @@
 -- Assumes nothing.
 use mathlib.Core.Path.{_≡_, refl, sym, ap, subst, _∙_}
 use mathlib.Core.Bool.{Bool, true, false, false≢true}
-use mathlib.Core.Logic.{_⊎_, inl, inr, ⊎-elim}
+use mathlib.Core.Logic.{_⊎_, inl, inr}
 use mathlib.Core.List.{List, [], _∷_, _++_, List·Memᴰ, List·Memᴰ·head, List·Memᴰ·tail, List·Memᴰ·not-nil, List·Memᴰ·append-cases}
-use mathlib.Core.Option.{Option, none, some, Option·some-injective}
+use mathlib.Core.Option.{none, some, Option·some-injective}
 use Prim.Native.Nat.{ℕ, zero, suc, _+_, _*_, _≤_, _<_}
 use native.Mathlib.Omega.{arith}
-use borrow.Author.Tests.{eqb-true, ltb-true, leb-true}
+use borrow.Author.Tests.{ltb-true, leb-true, eq-eqb}
 use lib.Dec.{eqb, leb, ltb}
 use lib.ListN.{length, getElem?, take, drop}
 use lib.Seq.{drop-drop}
@@ -16,11 +16,9 @@ use Rattle.refusals.specs.declared.Reason.{Reason}
 use Rattle.format.specs.declared.Format.{Format}
 use Rattle.format.specs.Format.{limit, storeLength}
 use Rattle.vault.specs.Block.{pictures as mostPictures}
-use Rattle.vault.specs.Parts.{partCount, blockAt, blocksOf}
+use Rattle.vault.specs.Parts.{partCount, blockAt}
 use Rattle.vault.specs.Collected.{nth}
-use Rattle.stores.specs.declared.Holder.{Holder}
-use Rattle.stores.specs.declared.Holder.the-variants.{Neither, First, Second}
-use Rattle.stores.specs.Stores.{Stores, sized, goesInto, reference, kept, last, shown}
+use Rattle.stores.specs.Stores.{goesInto, reference, kept, shown}
 use Rattle.sender.specs.declared.Sender.{Sender}
 use Rattle.sender.specs.declared.Answer.{Answer}
 use Rattle.sender.specs.declared.Answer.the-variants as A
@@ -58,6 +56,10 @@ cut-at (suc n) out (suc i) block e =
 never : (reason : Reason) → refuses reason ≡ sends → ⊥
 never reason e = let z : _≡_ {A = ℕ} 0 1 = cc in omega arith
 
+refreshed : (first refresh : Bool) → either (opposite first) refresh ≡ true → first ≡ true → refresh ≡ true
+refreshed true refresh e z = e
+refreshed false refresh e z = absurd (false≢true z)
+
 -- a test whose failure refuses
 passed : (t : Bool) (x : Judgement) (reason : Reason) → pick t x (refuses reason) ≡ sends → (t ≡ true) × (x ≡ sends)
 passed true x reason e = (refl, e)
@@ -69,6 +71,7 @@ module _ {D : Type 0} (coding : Format → Coding D) where
     pub valid : coding f .valid (x .description) ≡ true
     pub within : length (coding f .written (x .description)) ≤ limit f
     pub number : p < mostPictures
+    pub first : p ≡ 0 → coding f .refresh (x .description) ≡ true
     pub count : length (x .blocks) ≡ partCount (length (coding f .written (x .description)))
     pub parts : (part : ℕ) (block : List ℕ) → getElem? (x .blocks) part ≡ some block
         → (part < partCount (length (coding f .written (x .description))))
@@ -79,12 +82,10 @@ module _ {D : Type 0} (coding : Format → Coding D) where
   Row clip f n before [] = Unit {0}
   Row clip f n before (x ∷ xs) = Whole clip f n x × (x .store ≡ coding f .render (x .description) before) × Row clip f (n + 1) (x .store) xs
 
-  abbrev onto : Outcome → World
-  onto x = record { sender = x .gave .next; both = x .left .both }
-
   record Passed (s : Sender) (d : D) (b : Buffers) : Type 0 where
     named : lengths (s .format) b ≡ true
     few : s .picture < mostPictures
+    first : s .picture ≡ 0 → coding (s .format) .refresh d ≡ true
     valid : coding (s .format) .valid d ≡ true
     within : length (coding (s .format) .written d) ≤ limit (s .format)
 
@@ -99,6 +100,7 @@ module _ {D : Type 0} (coding : Format → Coding D) where
       record {
         named = two-of (coding (s .format) .named d) _ (one .0) .1;
         few = ltb-true (s .picture) mostPictures (few .0);
+        first = λ z. refreshed (eqb (s .picture) 0) (coding (s .format) .refresh d) (first .0) (eq-eqb (s .picture) 0 z);
         valid = valid .0;
         within = leb-true (length (coding (s .format) .written d)) (limit (s .format)) (within .0);
       }
@@ -124,6 +126,7 @@ module _ {D : Type 0} (coding : Format → Coding D) where
             valid = p .valid;
             within = p .within;
             number = p .few;
+            first = p .first;
             count = cut-length (partCount (length bits)) _;
             parts = λ part block g.
                 let c = cut-at (partCount (length bits)) _ part block g in

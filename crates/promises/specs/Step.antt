@@ -11,7 +11,7 @@ use Rattle.laws.specs.Choice.{pick, both}
 use Rattle.bits.specs.Bits.{Bit}
 use Rattle.format.specs.declared.Format.{Format}
 use Rattle.format.specs.declared.Format.the-variants.{Qcif, Cif}
-use Rattle.format.specs.Format.{limit, storeLength, collectionLength}
+use Rattle.format.specs.Format.{limit, collectionLength}
 use Rattle.vault.specs.declared.Header.{Header}
 use Rattle.vault.specs.declared.Checked.{Checked}
 use Rattle.vault.specs.declared.Checked.the-variants.{Good}
@@ -21,7 +21,7 @@ use Rattle.vault.specs.Cut.{at-length}
 use Rattle.vault.specs.Collected as K
 use Rattle.vault.specs.Collected.{Collected, collected-more, placed-length, at-judged, at-payload, count-back}
 use Rattle.stores.specs.declared.Holder.{Holder}
-use Rattle.stores.specs.Stores.{Stores, sized, goesInto, reference, kept}
+use Rattle.stores.specs.Stores.{Stores, goesInto, reference, kept}
 use Rattle.receiver.specs.declared.Place.{Place}
 use Rattle.receiver.specs.declared.Standing.{Standing}
 use Rattle.receiver.specs.declared.Standing.the-variants as T
@@ -30,7 +30,7 @@ use Rattle.receiver.specs.declared.Line.{Line}
 use Rattle.receiver.specs.declared.Line.the-variants.{Earlier, Next, Anew, Otherwise}
 use Rattle.receiver.specs.declared.Answer.{Answer}
 use Rattle.receiver.specs.declared.Answer.the-variants as A
-use Rattle.receiver.specs.Coding.{Coding, Found, accepted}
+use Rattle.receiver.specs.Coding.{Coding, accepted}
 use Rattle.receiver.specs.Receive.{place, fresh, Event, old, taken, lost, finished, alike, Buffers, lengths, judged, lineOf, ended, tookOf, byLine, byJudgement, decide, wanting, received, Outcome, cameTo, step}
 use Rattle.receiver.specs.Shown.{refusedLength}
 use Rattle.receiver.specs.Run.{World}
@@ -39,7 +39,7 @@ use Rattle.sender.specs.Send.{bytesIn}
 use Rattle.promises.specs.Agree.{Agree}
 use Rattle.promises.specs.Clip.{Picture}
 use Rattle.promises.specs.Filled.{collected-holds}
-use Rattle.promises.specs.Finished.{two-of, bothSized, kept-sized}
+use Rattle.promises.specs.Finished.{two-of, bothSized}
 
 -- ---- a receiver of the clip, with what it is lent
 pub record Moment : Type 0 where
