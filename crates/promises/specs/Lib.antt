@@ -7,7 +7,6 @@ pub mod Agree
 pub mod Clip
 pub mod Arrives
 pub mod Demand3
-pub mod Agree
 pub mod Filled
 pub mod Finished
 pub mod Sent
