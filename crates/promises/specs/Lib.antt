@@ -1,3 +1,17 @@
 pub mod Sheet
 pub mod WrittenBack
 pub mod Demand2
+pub mod Determined
+pub mod Whole
+pub mod Agree
+pub mod Clip
+pub mod Filled
+pub mod Finished
+pub mod Sent
+pub mod Step
+pub mod Held
+pub mod InStep
+pub mod Arrives
+pub mod CatchingUp
+pub mod H261
+pub mod Demand3
