@@ -10,7 +10,7 @@ ghost use Rattle.reader.specs.Answer.{asHeader};
 ghost use Rattle.reader.specs.Grammar.{header as headerRead};
 
 // The header at the reader's place.
-fn through<'a>(reader: BitReader<'a>, format: Format) -> HeaderRead
+pub fn through<'a>(reader: BitReader<'a>, format: Format) -> HeaderRead
     requires { ⌜ Inside reader ⌝ }
     ensures { λ r. ⌜ asHeader (now (reader .entry .bytes)) (reader .entry .count) r ≡ headerRead format (left (reader .entry)) (reader .entry .place) ⌝ }
 {

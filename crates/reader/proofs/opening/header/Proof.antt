@@ -36,7 +36,6 @@ use denote.Triple.Table.{entered, cited}
 use denote.Triple.Walked.{says, needs, Stays, stay-none, stay-none-slice, walkOf, goes-none, goes-none-slice, ends-at, walked, walk-meets}
 use denote.Exit.{yes}
 use denote.Triple.Clauses.{ensured, lasts}
-use Rattle.bits.specs.Bits.{bitsLeft}
 use Rattle.bits.specs.Answer.{Within}
 use Rattle.format.specs.declared.Format.{Format}
 use Rattle.format.proofs.Format as F

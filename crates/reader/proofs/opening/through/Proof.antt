@@ -1,5 +1,6 @@
--- `reader::opening::through` meets its contract: a walk of its MIR. The struct is taken apart, and `head::header` is called, whose `requires` is this function's own; all that is known of it is its contract.
--- What the struct owns is had twice: one copy is kept whole for the exit, the other goes to the callee beside the lifetime's token, which comes back.
+-- `reader::opening::through` meets its contract: a walk of its MIR. The struct is taken apart, and `head::header` is called, whose `requires` is this
+-- function's own; all that is known of it is its contract. What the struct owns is had twice: one copy is kept whole for the exit, the other
+-- goes to the callee beside the lifetime's token, which comes back.
 -- Assumes nothing.
 use mathlib.Core.Path.{_≡_, refl}
 use Prim.Native.Nat.{_<_, _^_}
