@@ -33,20 +33,20 @@ use Rattle.format.specs.Format.{storeLength}
 use Rattle.format.specs.Place.{own, index, cellOf}
 use Rattle.format.specs.Grid.{Spot, spot}
 use Rattle.format.specs.Blocks.{On, on-at, block-six}
-use Rattle.reader.specs.Grammar.{Mba, step, stuffed, ended, Header}
+use Rattle.layers.specs.Grammar.{Mba, step, stuffed, ended, Header}
 use Rattle.description.specs.Vector.{Vector, Before}
-use Rattle.reader.specs.Answer.{asMba, asHeader, asVector, asMacroblock, leaving, componentOf, beforeOf, Sent}
-use Rattle.reader.specs.declared.MbaRead.{MbaRead}
-use Rattle.reader.specs.declared.MbaRead.the-variants as M
-use Rattle.reader.specs.declared.HeaderRead.{HeaderRead}
-use Rattle.reader.specs.declared.HeaderRead.the-variants as H
-use Rattle.reader.specs.declared.Behind.{Behind}
-use Rattle.reader.specs.declared.VectorRead.{VectorRead}
-use Rattle.reader.specs.declared.VectorRead.the-variants as VR
-use Rattle.reader.specs.declared.MacroblockRead.{MacroblockRead}
-use Rattle.reader.specs.declared.MacroblockRead.the-variants as BR
-use Rattle.reader.specs.declared.PlaceRead.{PlaceRead}
-use Rattle.reader.specs.declared.PlaceRead.the-variants as P
+use Rattle.layers.specs.Answer.{asMba, asHeader, asVector, asMacroblock, leaving, componentOf, beforeOf, Sent}
+use Rattle.layers.specs.declared.MbaRead.{MbaRead}
+use Rattle.layers.specs.declared.MbaRead.the-variants as M
+use Rattle.layers.specs.declared.HeaderRead.{HeaderRead}
+use Rattle.layers.specs.declared.HeaderRead.the-variants as H
+use Rattle.layers.specs.declared.Behind.{Behind}
+use Rattle.layers.specs.declared.VectorRead.{VectorRead}
+use Rattle.layers.specs.declared.VectorRead.the-variants as VR
+use Rattle.layers.specs.declared.MacroblockRead.{MacroblockRead}
+use Rattle.layers.specs.declared.MacroblockRead.the-variants as BR
+use Rattle.layers.specs.declared.PlaceRead.{PlaceRead}
+use Rattle.layers.specs.declared.PlaceRead.the-variants as P
 use Rattle.writer.specs.Put.{Wrote as WroteBits}
 use Rattle.render.specs.Wrote.{Values, Wrote, Macroblock}
 use Rattle.text.specs.Puts.{Puts}

@@ -12,7 +12,7 @@ use Rattle.description.specs.Value.{Picture}
 use Rattle.description.specs.Flat.{Flat, laid, pictureIn}
 use Rattle.description.specs.Valid.{valid}
 use Rattle.description.specs.Fields.{refresh}
-use Rattle.reader.specs.Answer.{mapRead}
+use Rattle.layers.specs.Answer.{mapRead}
 use Rattle.reader.specs.Described.{described}
 use Rattle.writer.specs.Write.{pictureOf}
 use Rattle.readback.specs.ReadBack.{Holds, written, ReadBack, reads-back}

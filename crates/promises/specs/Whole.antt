@@ -18,7 +18,7 @@ use Rattle.description.specs.Value.{Block, Macroblock, Group, Picture}
 use Rattle.description.specs.Flat.{Flat, laid, putBlock, putBlocks, putGroups, putMacroblocks}
 use Rattle.description.specs.Fields.{refresh}
 use Rattle.description.specs.Valid.{valid}
-use Rattle.reader.specs.Grammar.{sparesFrom, spares, coefficients, intraBlock, interBlock, blocksRead, macroblock, mba, macroblocksFrom, groupHead, group, groupsRead, header, picture, reading}
+use Rattle.layers.specs.Grammar.{sparesFrom, spares, coefficients, intraBlock, interBlock, blocksRead, macroblock, mba, macroblocksFrom, groupHead, group, groupsRead, header, picture, reading}
 use Rattle.reader.specs.Verdict.{accepted-valid}
 use Rattle.writer.specs.Write.{coefficientsOf, blocksOf, patternOf, macroblockOf, macroblocksOf, groupOf, groupsOf, pictureOf}
 

@@ -1,20 +1,20 @@
 // A picture's header, read through a bit reader. Its callers have plain parameters and see no reader.
-use crate::HeaderRead;
 use bit_reader::BitReader;
 use format::Format;
+use layers::HeaderRead;
 ghost use mathlib.Core.Path.{_≡_};
 ghost use Rattle.bits.specs.Bits.{bitsLeft};
 ghost use Rattle.bits.specs.Answer.{Within};
 ghost use Rattle.bit_reader.specs.Reader.{left, Inside};
-ghost use Rattle.reader.specs.Answer.{asHeader};
-ghost use Rattle.reader.specs.Grammar.{header as headerRead};
+ghost use Rattle.layers.specs.Answer.{asHeader};
+ghost use Rattle.layers.specs.Grammar.{header as headerRead};
 
 // The header at the reader's place.
 pub fn through<'a>(reader: BitReader<'a>, format: Format) -> HeaderRead
     requires { ⌜ Inside reader ⌝ }
     ensures { λ r. ⌜ asHeader (now (reader .entry .bytes)) (reader .entry .count) r ≡ headerRead format (left (reader .entry)) (reader .entry .place) ⌝ }
 {
-    crate::head::header(reader.bytes, reader.count, reader.place, format)
+    layers::head::header(reader.bytes, reader.count, reader.place, format)
 }
 
 // PSC, TR, PTYPE, the spares and the first GBSC of a picture: TR and PTYPE bits 1 to 3.

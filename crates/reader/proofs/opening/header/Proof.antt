@@ -47,11 +47,11 @@ use Rattle.bit_reader.proofs.new as cn
 use Rattle.bit_reader.proofs.new.Symbol as cn-def
 use Rattle.bit_reader.proofs.new.Symbol.{name as #cn}
 use Rattle.bit_reader.proofs.new.Met as cn-thm
-use Rattle.reader.specs.Grammar.{header as headerRead}
-use Rattle.reader.specs.Answer.{asHeader}
-use Rattle.reader.specs.declared.HeaderRead.{HeaderRead}
-use Rattle.reader.proofs.HeaderRead as S
-use Rattle.reader.proofs.HeaderRead.Laws as S′
+use Rattle.layers.specs.Grammar.{header as headerRead}
+use Rattle.layers.specs.Answer.{asHeader}
+use Rattle.layers.specs.declared.HeaderRead.{HeaderRead}
+use Rattle.layers.proofs.HeaderRead as S
+use Rattle.layers.proofs.HeaderRead.Laws as S′
 use Rattle.reader.proofs.opening.through as ct
 use Rattle.reader.proofs.opening.through.Symbol as ct-def
 use Rattle.reader.proofs.opening.through.Symbol.{name as #ct}

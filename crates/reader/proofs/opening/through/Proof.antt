@@ -43,19 +43,19 @@ use denote.Triple.Clauses.{ensured, lasts}
 use Rattle.format.specs.declared.Format.{Format}
 use Rattle.format.proofs.Format as F
 use Rattle.format.proofs.Format.Laws as F′
-use Rattle.reader.specs.Grammar.{header as headerRead}
-use Rattle.reader.specs.Answer.{asHeader}
-use Rattle.reader.specs.declared.HeaderRead.{HeaderRead}
-use Rattle.reader.proofs.HeaderRead as S
-use Rattle.reader.proofs.HeaderRead.Laws as S′
+use Rattle.layers.specs.Grammar.{header as headerRead}
+use Rattle.layers.specs.Answer.{asHeader}
+use Rattle.layers.specs.declared.HeaderRead.{HeaderRead}
+use Rattle.layers.proofs.HeaderRead as S
+use Rattle.layers.proofs.HeaderRead.Laws as S′
 use Rattle.bit_reader.specs.Reader.{left, Inside}
 use Rattle.bit_reader.specs.declared.BitReader.{BitReader}
 use Rattle.bit_reader.proofs.BitReader.Laws as T′
 use Rattle.bit_reader.proofs.Held.{B, D, L, lone, parts, Own, Opened, opened}
-use Rattle.reader.proofs.head.header as g
-use Rattle.reader.proofs.head.header.Symbol as g-def
-use Rattle.reader.proofs.head.header.Symbol.{name as #callee}
-use Rattle.reader.proofs.head.header.Met as g-thm
+use Rattle.layers.proofs.head.header as g
+use Rattle.layers.proofs.head.header.Symbol as g-def
+use Rattle.layers.proofs.head.header.Symbol.{name as #callee}
+use Rattle.layers.proofs.head.header.Met as g-thm
 use Rattle.reader.proofs.opening.through.Key.{name as #key}
 use Rattle.reader.proofs.opening.through as f
 use Rattle.reader.proofs.opening.through.Statement as stated
@@ -148,4 +148,4 @@ through-spec 𝓤 H 𝓜 𝓖 𝓡 =
     entered 𝓤 H (tripleOf 𝓤 H (𝓖 .A) f.signature (f.spec 𝓤 H (𝓖 .A) (𝓜 .mem) (𝓡 .run)))
     (tables 𝓤 H 𝓜 𝓡 code.env .C) (tables 𝓤 H 𝓜 𝓡 code.env .Λ) #key code.function (code.unfolded 𝓤 H 𝓜 𝓡)
     (through-meets 𝓤 H (𝓖 .A) (givenOf 𝓤 H 𝓜 𝓖) (𝓜 .mem) (𝓡 .run) (tablesOf 𝓤 H 𝓜 (tables 𝓤 H 𝓜 𝓡 code.env))
-    (cited 𝓤 H (Callee 𝓤 H (𝓖 .A) (𝓜 .mem) (𝓡 .run)) 𝓜 𝓡 code.env #callee g-def.routine code.calls-reader·head·header (g-thm.met 𝓤 H 𝓜 𝓖 𝓡)))
+    (cited 𝓤 H (Callee 𝓤 H (𝓖 .A) (𝓜 .mem) (𝓡 .run)) 𝓜 𝓡 code.env #callee g-def.routine code.calls-layers·head·header (g-thm.met 𝓤 H 𝓜 𝓖 𝓡)))
