@@ -18,13 +18,13 @@ module _ {D : Type 0} (sent : List (Picture D)) where
     pub is : PartOf sent its-picture its-part block
     pub earlier : R.earlier (R.place its-picture its-part) (R.place p part) ≡ true
 
-  -- the blocks of picture p, from this part on
+  -- these blocks, in this order, bring picture p from this part on: each next part in its turn, with older blocks between, and then all have come
   pub data Arrives (p : ℕ) : ℕ → List (List ℕ) → Type 0 where
     all : {part : ℕ} (picture : Picture D) → getElem? sent p ≡ some picture → part ≡ length (picture .blocks) → Arrives p part []
     older : {part : ℕ} {block : List ℕ} {blocks : List (List ℕ)} → Older p part block → Arrives p part blocks → Arrives p part (block ∷ blocks)
     next : {part : ℕ} {block : List ℕ} {blocks : List (List ℕ)} → PartOf sent p part block → Arrives p (part + 1) blocks → Arrives p part (block ∷ blocks)
 
-  -- "each next picture whose blocks follow on": picture p, then p + 1, and so on, the blocks that came for each
+  -- "each next picture whose blocks follow on": the blocks that bring picture p, then those that bring picture p + 1, and so on
   abbrev pub Follow : ℕ → List (List (List ℕ)) → Type 0
   Follow p [] = Unit {0}
   Follow p (blocks ∷ later) = Arrives p 0 blocks × Follow (p + 1) later

@@ -23,7 +23,7 @@ use Rattle.receiver.specs.declared.Line.the-variants.{Earlier, Next, Anew, Othe
 use Rattle.receiver.specs.Coding.{Coding}
 use Rattle.receiver.specs.Receive.{place, earlier, same, isLost, lineOf, lengths, Outcome, step}
 use Rattle.receiver.specs.Shown.{whereShown}
-use Rattle.receiver.specs.Run.{World}
+use Rattle.receiver.specs.Run.{World, after, run}
 use Rattle.sender.specs.Coding as S
 use Rattle.sender.specs.Send.{bytesIn}
 use Rattle.promises.specs.Agree.{Agree}
@@ -53,6 +53,12 @@ mark-is part refresh mine h = go (eqb part 0) refl
       where
         positive : (n : ℕ) → (n ≡ 0 → ⊥) → 0 < n
         positive n k = omega (arith, k)
+
+-- being given blocks is the receiver's own `run`
+pub given-run : {D : Type 0} (coding : Format → Coding D) (w : World) (blocks : List (List ℕ)) → given (step coding) w blocks ≡ run coding w blocks
+unfolding given run after
+given-run coding w [] = refl
+given-run coding w (block ∷ blocks) = given-run coding (after coding w block) blocks
 
 pub not-lost : (b : Bool) → opposite b ≡ true → b ≡ false
 not-lost true e = absurd (false≢true e)
