@@ -8,7 +8,7 @@ use Rattle.refusals.specs.declared.Reason.the-variants.{Length}
 use Rattle.bits.specs.Read.{Read, got, refused, endless, bad}
 use Rattle.format.specs.Format.{storeLength}
 use Rattle.format.specs.declared.Format.{Format}
-use Rattle.reader.specs.Answer.{mapRead}
+use Rattle.layers.specs.Answer.{mapRead}
 use Rattle.reader.specs.Described.{described}
 use Rattle.render.specs.Sample.{rendered}
 

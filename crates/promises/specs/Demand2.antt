@@ -24,9 +24,9 @@ use Rattle.format.specs.Format.{limit, storeLength, outputLength}
 use Rattle.description.specs.Value.{Picture}
 use Rattle.description.specs.Flat.{Flat, laid, putGroups, putMacroblocks}
 use Rattle.description.specs.Valid.{valid}
-use Rattle.reader.specs.Grammar.{sparesFrom, spares, mba, macroblocksFrom, groupHead, group, groupsRead, header, picture, reading}
+use Rattle.layers.specs.Grammar.{sparesFrom, spares, mba, macroblocksFrom, groupHead, group, groupsRead, header, picture, reading}
 use Rattle.reader.specs.Verdict.{accepted-valid, accepted-described}
-use Rattle.reader.specs.Answer.{mapRead}
+use Rattle.layers.specs.Answer.{mapRead}
 use Rattle.reader.specs.Described.{described}
 use Rattle.render.specs.Sample.{rendered}
 use Rattle.decoder.specs.Decoded.{drawn, decoded}

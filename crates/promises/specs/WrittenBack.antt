@@ -22,8 +22,8 @@ use Rattle.format.specs.Format.{limit, outputLength, storeLength}
 use Rattle.description.specs.Value.{Picture}
 use Rattle.description.specs.Flat.{Flat, laid, pictureIn}
 use Rattle.description.specs.Valid.{valid, lengthsOf}
-use Rattle.reader.specs.Grammar.{reading}
-use Rattle.reader.specs.Answer.{mapRead}
+use Rattle.layers.specs.Grammar.{reading}
+use Rattle.layers.specs.Answer.{mapRead}
 use Rattle.reader.specs.Described.{described}
 use Rattle.writer.specs.declared.Written.{Written}
 use Rattle.writer.specs.declared.Written.the-variants.{Bits, Refused}

@@ -14,8 +14,8 @@ use Rattle.description.specs.Value.{Picture}
 use Rattle.description.specs.Flat.{Flat, laid}
 use Rattle.description.specs.Valid.{valid}
 use Rattle.description.specs.Fields.{refresh}
-use Rattle.reader.specs.Grammar.{reading}
-use Rattle.reader.specs.Answer.{mapRead}
+use Rattle.layers.specs.Grammar.{reading}
+use Rattle.layers.specs.Answer.{mapRead}
 use Rattle.reader.specs.Described.{described}
 use Rattle.reader.specs.Verdict.{accepted-valid}
 use Rattle.render.specs.Sample.{rendered}

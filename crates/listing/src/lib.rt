@@ -1,0 +1,180 @@
+// The vault lister's work but reading and writing: the clip that is listed, what each block comes to, and its line.
+use format::Format;
+use receiver::Answer;
+use receiver::Opened;
+use receiver::Receiver;
+use receiver::Standing;
+use vault::Checked;
+ghost use mathlib.Core.Path.{_≡_};
+ghost use Prim.Native.Nat.{_+_, _≤_};
+ghost use lib.ListN.{length};
+ghost use Rattle.io.specs.Counts.{Counts};
+ghost use Rattle.receiver.specs.Answered.{said};
+ghost use Rattle.receiver.specs.Receive.{buffers, step};
+ghost use Rattle.receiver.specs.H261.{h261};
+ghost use Rattle.text.specs.Text.{over};
+ghost use Rattle.text.specs.Puts.{Puts};
+ghost use Rattle.listing.specs.Lines.{tickOf, placeText, pictureText, textOf, lineText, shortText, standingText};
+ghost use Rattle.listing.specs.Listed.{foundBy, came, stepped, listed as listedOf, endText};
+
+// The clip that is listed, once it is found.
+pub enum Clip {
+    Unknown,
+    Known(Receiver),
+}
+
+pub struct Listed {
+    pub answer: Answer,
+    pub next: Clip,
+}
+
+// ---- what a block comes to
+
+// A receiver for the block's clip, or 21 or 22.
+pub fn find(format: Format, block: &[u8]) -> Opened
+    ensures { λ r. ⌜ r ≡ foundBy format (now (block .entry)) ⌝ }
+{
+    match vault::check(format, block) {
+        Checked::Good(header) => receiver::open(header.clip, format),
+        Checked::Refused(why) => Opened::Refused(why),
+    }
+}
+
+fn go_on(
+    receiver: Receiver,
+    block: &[u8],
+    collection: &mut [u8],
+    first: &mut [u8],
+    second: &mut [u8],
+) -> Listed
+    ensures { λ r. ⌜ came r (now (collection .exit)) (now (first .exit)) (now (second .exit)) ≡ stepped (step h261 receiver (now (block .entry)) (buffers (now (collection .entry)) (now (first .entry)) (now (second .entry)))) ⌝ }
+{
+    let received = receiver::receive(receiver, block, collection, first, second);
+    let answer = received.answer;
+    let next = received.next;
+    Listed {
+        answer,
+        next: Clip::Known(next),
+    }
+}
+
+// A block comes: the answer, and the clip afterwards. The first good block opens its clip's receiver.
+pub fn list(
+    format: Format,
+    clip: Clip,
+    block: &[u8],
+    collection: &mut [u8],
+    first: &mut [u8],
+    second: &mut [u8],
+) -> Listed
+    ensures { λ r. ⌜ came r (now (collection .exit)) (now (first .exit)) (now (second .exit)) ≡ listedOf format clip (now (block .entry)) (buffers (now (collection .entry)) (now (first .entry)) (now (second .entry))) ⌝ }
+{
+    match clip {
+        Clip::Known(receiver) => go_on(receiver, block, collection, first, second),
+        Clip::Unknown => match find(format, block) {
+            Opened::Open(receiver) => go_on(receiver, block, collection, first, second),
+            Opened::Refused(why) => Listed {
+                answer: Answer::Refused(why),
+                next: Clip::Unknown,
+            },
+        },
+    }
+}
+
+// ---- the lines
+
+fn tick_of(picture: u32) -> u32
+    ensures { λ r. ⌜ r ≡ tickOf picture ⌝ }
+{
+    picture
+}
+
+fn put_place(word: &[u8], picture: u32, part: u8, at: usize, out: &mut [u8]) -> usize
+    requires { ⌜ at + length (now word) + 41 ≤ length (now out) ⌝ }
+    ensures { λ r. ⌜ r ≤ at + length (now (word .entry)) + 41 ⌝ }
+    ensures { λ r. ⌜ Puts (placeText (now (word .entry)) picture part) at (now (out .entry)) (now (out .exit)) r ⌝ }
+{
+    let named = text::put(word, at, out);
+    let pictured = text::put_number(picture as u64, named, out);
+    let dotted = text::put(b".", pictured, out);
+    text::put_number(part as u64, dotted, out)
+}
+
+fn put_picture(picture: u32, at: usize, out: &mut [u8]) -> usize
+    requires { ⌜ at + 55 ≤ length (now out) ⌝ }
+    ensures { λ r. ⌜ r ≤ at + 55 ⌝ }
+    ensures { λ r. ⌜ Puts (pictureText picture) at (now (out .entry)) (now (out .exit)) r ⌝ }
+{
+    let named = text::put(b" picture ", at, out);
+    let pictured = text::put_number(picture as u64, named, out);
+    let ticking = text::put(b" tick ", pictured, out);
+    text::put_number(tick_of(picture) as u64, ticking, out)
+}
+
+fn put_answer(answer: Answer, at: usize, out: &mut [u8]) -> usize
+    requires { ⌜ at + 60 ≤ length (now out) ⌝ }
+    ensures { λ r. ⌜ r ≤ at + 60 ⌝ }
+    ensures { λ r. ⌜ Puts (textOf (said answer)) at (now (out .entry)) (now (out .exit)) r ⌝ }
+{
+    match answer {
+        Answer::Old(picture, part) => put_place(b" old ", picture, part, at, out),
+        Answer::Taken(picture, part) => put_place(b" taken ", picture, part, at, out),
+        Answer::Lost => text::put(b" lost", at, out),
+        Answer::Picture(picture) => put_picture(picture, at, out),
+        Answer::Refused(why) => text::put_refusal(why, at, out),
+    }
+}
+
+// The line of block n: it stands at the start of `out`, and its length is given back.
+pub fn line(n: u64, answer: Answer, out: &mut [u8; 128]) -> usize
+    ensures { λ r. ⌜ Counts r (now (out .exit)) ⌝ }
+    ensures { λ r. ⌜ r ≡ length (lineText n answer) ⌝ }
+    ensures { λ r. ⌜ now (out .exit) ≡ over (lineText n answer) (now (out .entry)) ⌝ }
+{
+    let numbered = text::put_number(n, 0, out);
+    let answered = put_answer(answer, numbered, out);
+    text::put(b"\n", answered, out)
+}
+
+// The line of a short last block.
+pub fn short(n: u64, out: &mut [u8; 128]) -> usize
+    ensures { λ r. ⌜ Counts r (now (out .exit)) ⌝ }
+    ensures { λ r. ⌜ r ≡ length (shortText n) ⌝ }
+    ensures { λ r. ⌜ now (out .exit) ≡ over (shortText n) (now (out .entry)) ⌝ }
+{
+    let numbered = text::put_number(n, 0, out);
+    text::put(b" short\n", numbered, out)
+}
+
+fn put_standing(standing: Standing, at: usize, out: &mut [u8]) -> usize
+    requires { ⌜ at + 32 ≤ length (now out) ⌝ }
+    ensures { λ r. ⌜ r ≤ at + 32 ⌝ }
+    ensures { λ r. ⌜ Puts (standingText standing) at (now (out .entry)) (now (out .exit)) r ⌝ }
+{
+    match standing {
+        Standing::Lost => text::put(b" lost", at, out),
+        Standing::Catching => text::put(b" catching", at, out),
+        Standing::InStep(picture) => {
+            let named = text::put(b" in step at ", at, out);
+            text::put_number(picture as u64, named, out)
+        }
+    }
+}
+
+// The last line.
+pub fn end(clip: Clip, out: &mut [u8; 128]) -> usize
+    ensures { λ r. ⌜ Counts r (now (out .exit)) ⌝ }
+    ensures { λ r. ⌜ r ≡ length (endText clip) ⌝ }
+    ensures { λ r. ⌜ now (out .exit) ≡ over (endText clip) (now (out .entry)) ⌝ }
+{
+    match clip {
+        Clip::Unknown => text::put(b"end none\n", 0, out),
+        Clip::Known(receiver) => {
+            let standing = receiver.standing;
+            let named = text::put(b"end clip ", 0, out);
+            let clipped = text::put_number(receiver.clip as u64, named, out);
+            let stood = put_standing(standing, clipped, out);
+            text::put(b"\n", stood, out)
+        }
+    }
+}

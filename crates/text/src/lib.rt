@@ -1,0 +1,49 @@
+// Words and decimal numbers, put into a lent buffer one after another.
+use refusals::Refusal;
+ghost use mathlib.Core.Path.{_≡_};
+ghost use Prim.Native.Nat.{_+_, _≤_};
+ghost use lib.ListN.{length};
+ghost use Rattle.refusals.specs.Number.{number};
+ghost use Rattle.text.specs.Text.{decimal, refusalText};
+ghost use Rattle.text.specs.Puts.{Puts};
+
+// Puts words into `out` at a place, and answers the place after them.
+pub fn put(words: &[u8], at: usize, out: &mut [u8]) -> usize
+    requires { ⌜ at + length (now words) ≤ length (now out) ⌝ }
+    ensures { λ r. ⌜ r ≡ at + length (now (words .entry)) ⌝ }
+    ensures { λ r. ⌜ Puts (now (words .entry)) at (now (out .entry)) (now (out .exit)) r ⌝ }
+{
+    let end = at + words.len();
+    bytes::copy(words, &mut out[at..end]);
+    end
+}
+
+pub fn put_number(n: u64, at: usize, out: &mut [u8]) -> usize
+    requires { ⌜ at + 20 ≤ length (now out) ⌝ }
+    ensures { λ r. ⌜ r ≤ at + 20 ⌝ }
+    ensures { λ r. ⌜ Puts (decimal n) at (now (out .entry)) (now (out .exit)) r ⌝ }
+{
+    let mut digits = [0u8; 20];
+    let count = io::decimal(n, &mut digits);
+    put(&digits[..count], at, out)
+}
+
+// " refused 21", " refused 8 at 311".
+pub fn put_refusal(why: Refusal, at: usize, out: &mut [u8]) -> usize
+    requires { ⌜ at + 53 ≤ length (now out) ⌝ }
+    ensures { λ r. ⌜ r ≤ at + 53 ⌝ }
+    ensures { λ r. ⌜ Puts (refusalText (number (why .reason)) (why .place)) at (now (out .entry)) (now (out .exit)) r ⌝ }
+{
+    let reason = why.reason;
+    let numbered = numbers::number_of(reason);
+    let named = put(b" refused ", at, out);
+    let told = put_number(numbered as u64, named, out);
+    if numbered < 3 {
+        return told;
+    }
+    if 13 < numbered {
+        return told;
+    }
+    let placing = put(b" at ", told, out);
+    put_number(why.place as u64, placing, out)
+}
