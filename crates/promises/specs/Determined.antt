@@ -50,10 +50,47 @@ use Rattle.layers.specs.declared.PlaceRead.the-variants as P
 use Rattle.writer.specs.Put.{Wrote as WroteBits}
 use Rattle.render.specs.Wrote.{Values, Wrote, Macroblock}
 use Rattle.text.specs.Puts.{Puts}
+use Rattle.description.specs.Flat.{Flat}
+use Rattle.reader.specs.declared.Verdict.{Verdict}
+use Rattle.reader.specs.ReadOf.{ReadSays, ReadLeaves}
+use Rattle.decoder.specs.Decoded.{DecodeSays, DecodeLeaves}
+use Rattle.writer.specs.declared.Written.{Written}
+use Rattle.writer.specs.Output.{WriteSays, WriteLeaves}
+use Rattle.receiver.specs.declared.Receiver.{Receiver}
+use Rattle.receiver.specs.Receive as R
+use Rattle.receiver.specs.H261.{ReceiveDoes}
+use Rattle.sender.specs.declared.Sender.{Sender}
+use Rattle.sender.specs.Send as S
+use Rattle.sender.specs.H261.{SendDoes}
 
 -- ---- an equation with the answer, with a buffer, or with both
 pub once : {A : Type 0} {a x y : A} → x ≡ a → y ≡ a → x ≡ y
 once e f = e ∙ sym f
+
+-- ---- the entry points: what each promises of its answer, of the buffers that it leaves, or of both at once
+pub read-says-once : (f : Format) (bytes : List ℕ) (n : ℕ) (before : Flat) {x y : Verdict} → ReadSays f bytes n before x → ReadSays f bytes n before y → x ≡ y
+read-says-once f bytes n before = once
+
+pub read-leaves-once : (f : Format) (bytes : List ℕ) (n : ℕ) (before : Flat) {x y : Flat} → ReadLeaves f bytes n before x → ReadLeaves f bytes n before y → x ≡ y
+read-leaves-once f bytes n before = once
+
+pub decode-says-once : (f : Format) (bytes : List ℕ) (n : ℕ) (reference store : List ℕ) {x y : Verdict} → DecodeSays f bytes n reference store x → DecodeSays f bytes n reference store y → x ≡ y
+decode-says-once f bytes n reference store = once
+
+pub decode-leaves-once : (f : Format) (bytes : List ℕ) (n : ℕ) (reference store : List ℕ) {x y : List ℕ} → DecodeLeaves f bytes n reference store x → DecodeLeaves f bytes n reference store y → x ≡ y
+decode-leaves-once f bytes n reference store = once
+
+pub write-says-once : (f : Format) (d : Flat) (out : List ℕ) {x y : Written} → WriteSays f d out x → WriteSays f d out y → x ≡ y
+write-says-once f d out = once
+
+pub write-leaves-once : (f : Format) (d : Flat) (out : List ℕ) {x y : List ℕ} → WriteLeaves f d out x → WriteLeaves f d out y → x ≡ y
+write-leaves-once f d out = once
+
+pub receive-once : (r : Receiver) (block : List ℕ) (b : R.Buffers) {x y : R.Outcome} → ReceiveDoes r block b x → ReceiveDoes r block b y → x ≡ y
+receive-once r block b = once
+
+pub send-once : (s : Sender) (d : Flat) (b : S.Buffers) {x y : S.Outcome} → SendDoes s d b x → SendDoes s d b y → x ≡ y
+send-once s d b = once
 
 -- ---- an equation with what the answer says: nothing of the answer is lost by that
 through : {A B : Type 0} (says : A → B) (of : B → A) → ((x : A) → of (says x) ≡ x) → {b : B} {x y : A} → says x ≡ b → says y ≡ b → x ≡ y

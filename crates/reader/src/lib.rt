@@ -5,7 +5,7 @@ use refusals::Refusal;
 ghost use mathlib.Core.Path.{_≡_};
 ghost use Rattle.layers.specs.Answer.{flat};
 ghost use Rattle.reader.specs.Described.{Lengths, described, verdictOf};
-ghost use Rattle.reader.specs.ReadOf.{readOf, flatAfter};
+ghost use Rattle.reader.specs.ReadOf.{flatAfter, ReadSays, ReadLeaves};
 
 mod opening;
 pub mod parse;
@@ -54,8 +54,8 @@ pub fn read(
     macroblocks: &mut [u8],
     levels: &mut [u8],
 ) -> Verdict
-    ensures verdict { λ r. ⌜ r ≡ verdictOf (readOf format (now (bytes .entry)) count (flat (now (head .entry)) (now (macroblocks .entry)) (now (levels .entry)))) ⌝ }
-    ensures buffers { λ _. ⌜ flat (now (head .exit)) (now (macroblocks .exit)) (now (levels .exit)) ≡ flatAfter (flat (now (head .entry)) (now (macroblocks .entry)) (now (levels .entry))) (readOf format (now (bytes .entry)) count (flat (now (head .entry)) (now (macroblocks .entry)) (now (levels .entry)))) ⌝ }
+    ensures verdict { λ r. ⌜ ReadSays format (now (bytes .entry)) count (flat (now (head .entry)) (now (macroblocks .entry)) (now (levels .entry))) r ⌝ }
+    ensures buffers { λ _. ⌜ ReadLeaves format (now (bytes .entry)) count (flat (now (head .entry)) (now (macroblocks .entry)) (now (levels .entry))) (flat (now (head .exit)) (now (macroblocks .exit)) (now (levels .exit))) ⌝ }
 {
     if !validity::lengths(head, macroblocks, levels, format) {
         return Verdict::Refused(Refusal {
