@@ -12,6 +12,7 @@ use receiver::Answer;
 use receiver::Received;
 use receiver::Standing;
 ghost use mathlib.Core.Path.{_≡_};
+ghost use Prim.Native.Nat.{_+_, _≤_, _<_};
 ghost use lib.ListN.{length};
 ghost use Rattle.io.specs.Counts.{Counts};
 ghost use Rattle.text.specs.Text.{over};
@@ -215,6 +216,16 @@ fn one(
     }
 }
 
+fn counted(pictures: u64, shown: bool) -> u64
+    requires { ⌜ pictures < 18446744073709551615 ⌝ }
+    ensures { λ r. ⌜ r ≤ pictures + 1 ⌝ }
+{
+    if shown {
+        return pictures + 1;
+    }
+    pictures
+}
+
 // Nothing says that the input ends, so the loop counts its turns.
 fn all(format: Format, collection: &mut [u8], first: &mut [u8], second: &mut [u8]) {
     let mut clip = Clip::Unknown;
@@ -231,9 +242,7 @@ fn all(format: Format, collection: &mut [u8], first: &mut [u8], second: &mut [u8
         clip = turn.clip;
         stretch = turn.stretch;
         more = turn.more;
-        if turn.shown {
-            pictures += 1;
-        }
+        pictures = counted(pictures, turn.shown);
         n += 1;
     }
     say_stretch(stretch);

@@ -1,28 +1,29 @@
 -- `frames::all` ends: its turns are counted, and no turn writes more than a picture. Assumes nothing.
 use Prim.Native.Nat.{_-_, _≤_}
+use mathlib.Core.Path.{_≡_}
+use lib.ListN.{length}
 use borrow.Author.Needs.{needs}
 use Rattle.frames.proofs.all.Statement.{statement}
 use Rattle.frames.proofs.all.Tie as tie
 
 abbrev Inv-loop : tie.InvT-loop
 Inv-loop format collection₀ first₀ second₀ clip₀ stretch₀ pictures₀ more₀ n₀ collection first second clip stretch pictures more n =
-    ?
+    (n ≤ 18446744073709551615) × ((pictures ≤ n) × ((length collection ≡ length collection₀) × ((length first ≡ length first₀) × (length second ≡ length second₀))))
 
 abbrev μ-loop : tie.MeasureT-loop
-μ-loop format collection₀ first₀ second₀ clip₀ stretch₀ pictures₀ more₀ n₀ collection first second clip stretch pictures more n =
-    ?
+μ-loop format collection₀ first₀ second₀ clip₀ stretch₀ pictures₀ more₀ n₀ collection first second clip stretch pictures more n = 18446744073709551615 - n
 
 begin-requires : tie.Need-begin-requires Inv-loop μ-loop
 begin-requires c κs = search needs
 
 loop-holds : tie.Need-loop-holds Inv-loop μ-loop
-loop-holds c = search needs
+loop-holds c = (search needs, (search needs, (search needs, (search needs, search needs))))
 
 one-requires : tie.Need-one-requires Inv-loop μ-loop
 one-requires c κs = search needs
 
-add-pictures : tie.Need-add-pictures Inv-loop μ-loop
-add-pictures c = search needs
+counted-requires : tie.Need-counted-requires Inv-loop μ-loop
+counted-requires c κs = search needs
 
 add-n : tie.Need-add-n Inv-loop μ-loop
 add-n c = search needs
@@ -31,7 +32,7 @@ loop-less : tie.Need-loop-less Inv-loop μ-loop
 loop-less c = search needs
 
 loop-again : tie.Need-loop-again Inv-loop μ-loop
-loop-again c = search needs
+loop-again c = (search needs, (search needs, (search needs, (search needs, search needs))))
 
 say-stretch-requires : tie.Need-say-stretch-requires Inv-loop μ-loop
 say-stretch-requires c κs = search needs
@@ -60,7 +61,7 @@ all-spec =
     begin-requires
     loop-holds
     one-requires
-    add-pictures
+    counted-requires
     add-n
     loop-less
     loop-again
