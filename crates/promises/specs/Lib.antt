@@ -3,6 +3,7 @@ pub mod WrittenBack
 pub mod Demand2
 pub mod Determined
 pub mod Whole
+pub mod Single
 pub mod Agree
 pub mod Clip
 pub mod Arrives
@@ -15,4 +16,6 @@ pub mod Held
 pub mod InStep
 pub mod CatchingUp
 pub mod WholeClip
+pub mod Example
 pub mod H261
+pub mod WrongReceivers

@@ -1,6 +1,6 @@
 -- A fully INTRA picture whose samples are all alike, for examples: each block has its DC code alone. Assumes nothing.
 use Prim.Native.Nat.{ℕ, zero, suc, _+_}
-use mathlib.Core.Path.{_≡_, refl}
+use mathlib.Core.Path.{_≡_, refl, ap, _∙_}
 use mathlib.Core.Bool.{Bool, true}
 use mathlib.Core.List.{List, [], _∷_}
 use lib.Dec.{T}
@@ -15,14 +15,14 @@ use Rattle.words.specs.Words.{coefficient, tcoeff, coefficientRead}
 use Rattle.format.specs.declared.Format.the-variants.{Qcif}
 use Rattle.description.specs.Vector.{Vector}
 use Rattle.description.specs.Value.{Block, Macroblock, Group, Picture}
-use Rattle.description.specs.Flat.{Flat, laid, putBlock, putBlocks, putGroups, putMacroblocks}
+use Rattle.description.specs.Flat.{Flat, laid, pictureIn, putBlock, putBlocks, putGroups, putMacroblocks}
 use Rattle.description.specs.Fields.{refresh}
 use Rattle.description.specs.Valid.{valid}
 use Rattle.layers.specs.Grammar.{sparesFrom, spares, coefficients, intraBlock, interBlock, blocksRead, macroblock, mba, macroblocksFrom, groupHead, group, groupsRead, header, picture, reading}
-use Rattle.reader.specs.Verdict.{accepted-valid}
+use Rattle.reader.specs.Verdict.{accepted-valid, accepted-described}
 use Rattle.writer.specs.Write.{coefficientsOf, blocksOf, patternOf, macroblockOf, macroblocksOf, groupOf, groupsOf, pictureOf}
 
-abbrev intra : ℕ → ℕ → Macroblock
+abbrev pub intra : ℕ → ℕ → Macroblock
 intra code address = record {
   address = address;
   type = 1;
@@ -59,3 +59,7 @@ whole-valid = accepted-valid Qcif (wholeBytes 1) 6545 (whole 1) [] 6545 whole-re
 pub whole-refresh : T (refresh Qcif (laid Qcif (whole 1)))
 unfolding refresh laid putGroups putMacroblocks
 whole-refresh = tt
+
+-- its bits are those it is written with
+pub whole-written : length (pictureOf Qcif (pictureIn (laid Qcif (whole 1)))) ≡ 6545
+whole-written = ap (λ (p : Picture). length (pictureOf Qcif p)) (accepted-described Qcif (wholeBytes 1) 6545 (whole 1) [] 6545 whole-read) ∙ whole-long

@@ -1,4 +1,4 @@
--- What demand 3 comes to where nothing is missing: each picture's own blocks arrive in order, so with all blocks of a clip, as they were written, a receiver is in step at the
+-- What demand 3's last sentence comes to where nothing is missing: each picture's own blocks arrive in order, so with all blocks of a clip, as they were written, a receiver is in step at the
 -- last picture. Assumes nothing.
 use mathlib.Core.Path.{_≡_, refl, sym, ap, subst, _∙_}
 use mathlib.Core.Bool.{true, false}
@@ -19,7 +19,7 @@ use Rattle.receiver.specs.Coding.{Coding}
 use Rattle.receiver.specs.Receive.{place, earlier, lengths}
 use Rattle.promises.specs.Clip.{Picture, sentAs, pictures, Clip, opening, blocksIn, picturesIn, Fresh, begin, Receive, Show, given}
 use Rattle.promises.specs.Arrives.{Arrives, all, next, Follow, inTurn, InStepAt}
-use Rattle.promises.specs.Demand3.{Demand3}
+use Rattle.promises.specs.Demand3.{CatchesUp}
 use Rattle.promises.specs.Agree.{Agree}
 use Rattle.promises.specs.InStep.{receiver-opened, sound-clip}
 
@@ -28,7 +28,7 @@ shift p i = omega arith
 
 module _ {D : Type 0} where
   -- the blocks of each picture
-  abbrev blocksEach : List (Picture D) → List (List (List ℕ))
+  abbrev pub blocksEach : List (Picture D) → List (List (List ℕ))
   blocksEach [] = []
   blocksEach (x ∷ xs) = x .blocks ∷ blocksEach xs
 
@@ -58,14 +58,14 @@ module _ {D : Type 0} where
   in-turn (A.Blocks n) call x rest blocks e = ap (λ (l : List (List ℕ)). added (A.Blocks n) (x .left .out) ++ l) e
   in-turn (A.Refused why) call x rest blocks e = e
 
-  clip-in-turn : (coding : Format → S.Coding D) (w : World) (calls : List (Call D)) → clipOf coding w calls ≡ inTurn (blocksEach (pictures coding w calls))
+  pub clip-in-turn : (coding : Format → S.Coding D) (w : World) (calls : List (Call D)) → clipOf coding w calls ≡ inTurn (blocksEach (pictures coding w calls))
   unfolding clipOf pictures
   clip-in-turn coding w [] = refl
   clip-in-turn coding w (call ∷ calls) =
       in-turn (called coding w call .gave .answer) call (called coding w call) (pictures coding (after coding w call) calls) (clipOf coding (after coding w call) calls)
       (clip-in-turn coding (after coding w call) calls)
 
-module _ {D : Type 0} {sending : Format → S.Coding D} {receiving : Format → Coding D} (agree : Agree sending receiving) {receive : Receive} {show : Show} (demand : Demand3 sending receive show) where
+module _ {D : Type 0} {sending : Format → S.Coding D} {receiving : Format → Coding D} (agree : Agree sending receiving) {receive : Receive} {show : Show} (catches : CatchesUp sending receive show) where
   -- with all blocks of a clip of one picture or more, as they were written
   pub whole-clip : (c : Clip D) (r : Fresh (c .number) (c .format)) → lengths (c .format) (r .lent) ≡ true → (x : Picture D) (xs : List (Picture D)) → picturesIn sending c ≡ x ∷ xs
       → InStepAt receive show (picturesIn sending c) (length xs) (begin r) (blocksIn sending c)
@@ -73,7 +73,7 @@ module _ {D : Type 0} {sending : Format → S.Coding D} {receiving : Format → 
   whole-clip c r named x xs e =
       subst (λ (k : ℕ). InStepAt receive show (picturesIn sending c) k (begin r) (blocksIn sending c)) (zero-add (length (blocksEach xs)) ∙ each-length xs)
       (subst (λ (blocks : List (List ℕ)). InStepAt receive show (picturesIn sending c) (0 + length (blocksEach xs)) (begin r) blocks) (sym all-blocks)
-      (demand .catches-up c r named [] tt 0 x at (sound-clip agree c .whole 0 x at .first refl) not-past (x .blocks) (blocksEach xs)
+      (catches c r named [] tt 0 x at (sound-clip agree c .whole 0 x at .first refl) not-past (x .blocks) (blocksEach xs)
       (own-arrive (picturesIn sending c) 0 x at) (own-follow (picturesIn sending c) (0 + 1) xs later)))
     where
       at : getElem? (picturesIn sending c) 0 ≡ some x

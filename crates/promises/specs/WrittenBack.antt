@@ -75,7 +75,7 @@ wrote f d room n e =
     }
 
 -- and the other way: every valid description that is not above the limit is written, into an output of its length
-one-of : (f : Format) (d : Flat) → T (lengthsOf f d) → either (lengthsOf Qcif d) (lengthsOf Cif d) ≡ true
+pub one-of : (f : Format) (d : Flat) → T (lengthsOf f d) → either (lengthsOf Qcif d) (lengthsOf Cif d) ≡ true
 one-of Qcif d t = ap (λ (b : Bool). either b (lengthsOf Cif d)) (T-true (lengthsOf Qcif d) t)
 one-of Cif d t = ap (either (lengthsOf Qcif d)) (T-true (lengthsOf Cif d) t) ∙ any (lengthsOf Qcif d)
   where
