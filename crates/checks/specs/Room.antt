@@ -7,7 +7,7 @@ use lib.ListN.{length, take}
 use lib.Seq.{length-take-le}
 use Rattle.format.specs.declared.Format.{Format}
 use Rattle.format.specs.declared.Format.the-variants.{Qcif, Cif}
-use Rattle.format.specs.Format.{groupCount}
+use Rattle.format.specs.Format.{groupCount, storeLength, collectionLength}
 
 pub part-long : {n : ℕ} (array : List ℕ) → n ≤ length array → n ≡ length (take n array)
 part-long {n} array l = sym (length-take-le n array l)
@@ -15,3 +15,11 @@ part-long {n} array l = sym (length-take-le n array l)
 pub groups-most : (f : Format) → groupCount f ≤ 12
 groups-most Qcif = omega arith
 groups-most Cif = omega arith
+
+pub store-most : (f : Format) → storeLength f ≤ 152064
+store-most Qcif = omega arith
+store-most Cif = omega arith
+
+pub collection-most : (f : Format) → collectionLength f ≤ 33000
+collection-most Qcif = omega arith
+collection-most Cif = omega arith

@@ -85,3 +85,17 @@ pub fn fill(buffer: &mut [u8], value: u8)
         i += 1;
     }
 }
+
+// Whether every byte is still what `fill` made it.
+pub fn is_filled(buffer: &[u8], value: u8) -> bool
+    ensures { λ r. ⌜ r ≡ alike (now (buffer .entry)) (replicate (length (now (buffer .entry))) value) ⌝ }
+{
+    let mut i: usize = 0;
+    while i < buffer.len() {
+        if buffer[i] != value {
+            return false;
+        }
+        i += 1;
+    }
+    true
+}

@@ -17,13 +17,13 @@ use Rattle.format.specs.Format.{storeLength}
 use Rattle.format.specs.declared.Format.{Format}
 use Rattle.description.specs.Flat.{Flat, laid}
 use Rattle.description.specs.Valid.{valid}
-use Rattle.reader.specs.Answer.{mapRead}
-use Rattle.reader.specs.Grammar.{reading}
+use Rattle.layers.specs.Answer.{mapRead}
+use Rattle.layers.specs.Grammar.{reading}
 use Rattle.reader.specs.Described.{described, verdictOf, laidOr}
 use Rattle.reader.specs.Verdict.{accepted-valid}
 use Rattle.reader.specs.declared.Verdict.{Verdict}
 use Rattle.reader.specs.declared.Verdict.the-variants.{Accepted, Refused}
-use Rattle.reader.proofs.Meaning.{was-got}
+use Rattle.layers.proofs.Meaning.{was-got}
 use Rattle.render.specs.Sample.{rendered}
 use Rattle.decoder.specs.Decoded.{drawn, decoded, storeAfter}
 

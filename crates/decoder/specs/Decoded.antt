@@ -1,5 +1,6 @@
 -- The store that bits give over a reference. Assumes nothing.
 use Prim.Native.Nat.{ℕ}
+use mathlib.Core.Path.{_≡_}
 use mathlib.Core.List.{List}
 use lib.Dec.{eqb}
 use lib.ListN.{length}
@@ -8,8 +9,9 @@ use Rattle.refusals.specs.declared.Reason.the-variants.{Length}
 use Rattle.bits.specs.Read.{Read, got, refused, endless, bad}
 use Rattle.format.specs.Format.{storeLength}
 use Rattle.format.specs.declared.Format.{Format}
-use Rattle.reader.specs.Answer.{mapRead}
-use Rattle.reader.specs.Described.{described}
+use Rattle.layers.specs.Answer.{mapRead}
+use Rattle.reader.specs.declared.Verdict.{Verdict}
+use Rattle.reader.specs.Described.{described, verdictOf}
 use Rattle.render.specs.Sample.{rendered}
 
 -- the verdict of the rules and, on acceptance, every sample
@@ -26,3 +28,11 @@ abbrev pub storeAfter : List ℕ → Read (List ℕ) → List ℕ
 storeAfter old (got store bs at) = store
 storeAfter old (refused r) = old
 storeAfter old endless = old
+
+-- ---- what `decode` promises
+-- of its answer, and of the store that it leaves
+abbrev pub DecodeSays : Format → List ℕ → ℕ → List ℕ → List ℕ → Verdict → Type 0
+DecodeSays f bytes n reference store verdict = verdict ≡ verdictOf (decoded f bytes n reference (length store))
+
+abbrev pub DecodeLeaves : Format → List ℕ → ℕ → List ℕ → List ℕ → List ℕ → Type 0
+DecodeLeaves f bytes n reference store left = left ≡ storeAfter store (decoded f bytes n reference (length store))

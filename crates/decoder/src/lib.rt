@@ -7,7 +7,7 @@ ghost use mathlib.Core.Path.{_≡_};
 ghost use lib.ListN.{length};
 ghost use Rattle.format.specs.Format.{storeLength};
 ghost use Rattle.reader.specs.Described.{Lengths, verdictOf};
-ghost use Rattle.decoder.specs.Decoded.{drawn, decoded, storeAfter};
+ghost use Rattle.decoder.specs.Decoded.{drawn, storeAfter, DecodeSays, DecodeLeaves};
 
 // The description is read into lent scratch, then rendered.
 fn decode_in(
@@ -42,8 +42,8 @@ pub fn decode(
     reference: &[u8],
     store: &mut [u8],
 ) -> Verdict
-    ensures verdict { λ r. ⌜ r ≡ verdictOf (decoded format (now (bytes .entry)) count (now (reference .entry)) (length (now (store .entry)))) ⌝ }
-    ensures samples { λ _. ⌜ now (store .exit) ≡ storeAfter (now (store .entry)) (decoded format (now (bytes .entry)) count (now (reference .entry)) (length (now (store .entry)))) ⌝ }
+    ensures verdict { λ r. ⌜ DecodeSays format (now (bytes .entry)) count (now (reference .entry)) (now (store .entry)) r ⌝ }
+    ensures samples { λ _. ⌜ DecodeLeaves format (now (bytes .entry)) count (now (reference .entry)) (now (store .entry)) (now (store .exit)) ⌝ }
 {
     let size = format::store_length(format);
     let unfit = Refusal {

@@ -24,9 +24,9 @@ use Rattle.format.specs.Format.{limit, storeLength, outputLength}
 use Rattle.description.specs.Value.{Picture}
 use Rattle.description.specs.Flat.{Flat, laid, putGroups, putMacroblocks}
 use Rattle.description.specs.Valid.{valid}
-use Rattle.reader.specs.Grammar.{sparesFrom, spares, mba, macroblocksFrom, groupHead, group, groupsRead, header, picture, reading}
+use Rattle.layers.specs.Grammar.{sparesFrom, spares, mba, macroblocksFrom, groupHead, group, groupsRead, header, picture, reading}
 use Rattle.reader.specs.Verdict.{accepted-valid, accepted-described}
-use Rattle.reader.specs.Answer.{mapRead}
+use Rattle.layers.specs.Answer.{mapRead}
 use Rattle.reader.specs.Described.{described}
 use Rattle.render.specs.Sample.{rendered}
 use Rattle.decoder.specs.Decoded.{drawn, decoded}
@@ -205,7 +205,7 @@ write-refused = record {
 }
 
 -- ---- the P1 picture's description, and another with TR 2
-abbrev first : Flat
+abbrev pub first : Flat
 first = laid Qcif picture1
 
 abbrev picture2 : Picture
@@ -218,7 +218,7 @@ second-read : reading Qcif bytes2 110 ≡ got picture2 [] 110
 unfolding pictureOf groupsOf groupOf macroblocksOf bytesOf byteFrom bitsIn fieldFrom longer lookup word table1 sparesFrom spares mba macroblocksFrom groupHead group groupsRead header picture reading
 second-read = refl
 
-first-valid : T (valid Qcif first)
+pub first-valid : T (valid Qcif first)
 first-valid = accepted-valid Qcif bytes1 110 picture1 [] 110 (shown P1 .2)
 
 second-valid : T (valid Qcif (laid Qcif picture2))
@@ -229,10 +229,10 @@ first-bits : written Qcif first ≡ pictureOf Qcif picture1
 unfolding written
 first-bits = ap (pictureOf Qcif) (accepted-described Qcif bytes1 110 picture1 [] 110 (shown P1 .2))
 
-first-long : length (written Qcif first) ≡ 110
+pub first-long : length (written Qcif first) ≡ 110
 first-long = ap length first-bits ∙ shown P1 .0
 
-first-below : length (written Qcif first) ≤ limit Qcif
+pub first-below : length (written Qcif first) ≤ limit Qcif
 first-below = let e : length (written Qcif first) ≡ 110 = first-long in omega arith
 
 first-written : (out : List ℕ) → length out ≡ outputLength Qcif → writeOf Qcif first (length out) ≡ Bits 110

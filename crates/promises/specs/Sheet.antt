@@ -28,8 +28,8 @@ use Rattle.transform.specs.Cut.{cut, atLeast, atMost}
 use Rattle.transform.specs.Level.{magnitude, coefficient}
 use Rattle.inverse.specs.Inverse.{A, S, cosine, output, inverseAt}
 use Rattle.transform.specs.Filter.{weighted, roundedSixteenth, filterAt}
-use Rattle.reader.specs.Grammar.{sparesFrom, spares, mba, macroblocksFrom, groupHead, group, groupsRead, header, picture, reading}
-use Rattle.reader.specs.Vector.{componentRead}
+use Rattle.layers.specs.Grammar.{sparesFrom, spares, mba, macroblocksFrom, groupHead, group, groupsRead, header, picture, reading}
+use Rattle.layers.specs.Vector.{componentRead}
 use Rattle.writer.specs.Write.{macroblocksOf, groupOf, groupsOf, pictureOf}
 use Rattle.render.specs.Sample.{rendered}
 use Rattle.render.specs.Reference.{nothing-same}

@@ -22,8 +22,8 @@ use Rattle.format.specs.Format.{limit, outputLength, storeLength}
 use Rattle.description.specs.Value.{Picture}
 use Rattle.description.specs.Flat.{Flat, laid, pictureIn}
 use Rattle.description.specs.Valid.{valid, lengthsOf}
-use Rattle.reader.specs.Grammar.{reading}
-use Rattle.reader.specs.Answer.{mapRead}
+use Rattle.layers.specs.Grammar.{reading}
+use Rattle.layers.specs.Answer.{mapRead}
 use Rattle.reader.specs.Described.{described}
 use Rattle.writer.specs.declared.Written.{Written}
 use Rattle.writer.specs.declared.Written.the-variants.{Bits, Refused}
@@ -75,7 +75,7 @@ wrote f d room n e =
     }
 
 -- and the other way: every valid description that is not above the limit is written, into an output of its length
-one-of : (f : Format) (d : Flat) → T (lengthsOf f d) → either (lengthsOf Qcif d) (lengthsOf Cif d) ≡ true
+pub one-of : (f : Format) (d : Flat) → T (lengthsOf f d) → either (lengthsOf Qcif d) (lengthsOf Cif d) ≡ true
 one-of Qcif d t = ap (λ (b : Bool). either b (lengthsOf Cif d)) (T-true (lengthsOf Qcif d) t)
 one-of Cif d t = ap (either (lengthsOf Qcif d)) (T-true (lengthsOf Cif d) t) ∙ any (lengthsOf Qcif d)
   where

@@ -20,7 +20,7 @@ use Rattle.words.specs.Reads.{isCode}
 use Rattle.words.specs.Back.{Sendable}
 use Rattle.description.specs.Value.{Block}
 use Rattle.description.specs.Proper.{If, Each, Fits, Begins, allEmpty, ProperBlocks}
-use Rattle.reader.specs.Grammar.{optional, fits, coefficientsAfter, coefficients, dcRead, intraBlock, interBlock, blocksRead, patternRead}
+use Rattle.layers.specs.Grammar.{optional, fits, coefficientsAfter, coefficients, dcRead, intraBlock, interBlock, blocksRead, patternRead}
 use Rattle.writer.specs.Write.{given, coefficientsOf, blockOf, blocksOf, present, patternOf}
 use Rattle.readback.specs.Words.{back-cbp, back-first, back-later, back-over, length-coefficient}
 

@@ -18,7 +18,7 @@ use Rattle.description.specs.Vector.{atStart}
 use Rattle.description.specs.Value.{Group}
 use Rattle.description.specs.Valid.{all, isQuantiser}
 use Rattle.description.specs.Proper.{Rising, ProperGroups}
-use Rattle.reader.specs.Grammar.{expect, spares, sparesFrom, sparesAfter, macroblocksFrom, groupHead, group, none, groupsRead}
+use Rattle.layers.specs.Grammar.{expect, spares, sparesFrom, sparesAfter, macroblocksFrom, groupHead, group, none, groupsRead}
 use Rattle.writer.specs.Write.{macroblocksOf, groupOf, groupsOf}
 use Rattle.readback.specs.Vectors.{ranged-zero}
 use Rattle.readback.specs.Macroblocks.{back-quantiser, ending, Ending, back-macroblocks, more-bits}

@@ -20,7 +20,7 @@ use Rattle.description.specs.Vector.{Before, preceding}
 use Rattle.description.specs.Value.{Macroblock, after}
 use Rattle.description.specs.Valid.{isQuantiser}
 use Rattle.description.specs.Proper.{If, ProperMacroblock, Rising}
-use Rattle.reader.specs.Grammar.{quantiser, optional, macroblock, step, ended, mbaOf, mba, macroblocksAfter, macroblocksFrom}
+use Rattle.layers.specs.Grammar.{quantiser, optional, macroblock, step, ended, mbaOf, mba, macroblocksAfter, macroblocksFrom}
 use Rattle.writer.specs.Write.{given, vectorOf, patternOf, blocksOf, macroblockOf, macroblocksOf}
 use Rattle.readback.specs.Words.{back-mba, length-mba, back-mtype}
 use Rattle.readback.specs.Blocks.{back-blocks, back-pattern}

@@ -16,7 +16,7 @@ use Rattle.format.specs.declared.Format.the-variants.{Qcif, Cif}
 use Rattle.description.specs.Value.{Picture}
 use Rattle.description.specs.Valid.{all}
 use Rattle.description.specs.Proper.{Proper}
-use Rattle.reader.specs.Grammar.{none, ptypeOf, header, picture}
+use Rattle.layers.specs.Grammar.{none, ptypeOf, header, picture}
 use Rattle.writer.specs.Write.{groupsOf, pictureOf}
 use Rattle.readback.specs.Macroblocks.{ending}
 use Rattle.readback.specs.Groups.{back-expected, back-spares, unstarted, started, back-groups}

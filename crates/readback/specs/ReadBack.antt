@@ -16,7 +16,7 @@ use Rattle.description.specs.Valid.{valid}
 use Rattle.description.specs.Proper.{Proper}
 use Rattle.description.specs.Pictured.{picture-proper}
 use Rattle.description.specs.Relaid.{laid-back}
-use Rattle.reader.specs.Grammar.{picture, reading}
+use Rattle.layers.specs.Grammar.{picture, reading}
 use Rattle.writer.specs.Write.{pictureOf}
 use Rattle.readback.specs.Pictures.{back-picture}
 

@@ -14,8 +14,8 @@ use Rattle.bits.specs.ReadBack.{Back, back-done, back-next, back-end, back-judg
 use Rattle.format.specs.declared.Format.{Format}
 use Rattle.description.specs.Vector.{Vector, zeroVector, inRange, inPicture, Before, preceding}
 use Rattle.description.specs.Proper.{If, ProperVector}
-use Rattle.reader.specs.Vector.{pairOf, component, componentRead, componentsRead, pointing, vectorRead}
-use Rattle.reader.specs.Grammar.{optional}
+use Rattle.layers.specs.Vector.{pairOf, component, componentRead, componentsRead, pointing, vectorRead}
+use Rattle.layers.specs.Grammar.{optional}
 use Rattle.writer.specs.Write.{given, componentOf, vectorOf}
 use Rattle.readback.specs.Words.{back-mvd}
 

@@ -12,9 +12,9 @@ use Rattle.format.specs.declared.Format.{Format}
 use Rattle.description.specs.Vector.{Before, atStart}
 use Rattle.description.specs.Value.{Macroblock, Group}
 use Rattle.description.specs.Flat.{Flat, putMacroblocks, putGroups}
-use Rattle.reader.specs.Answer.{mapRead, flat}
-use Rattle.reader.specs.Grammar.{none, groupHead, group, groupsRead, macroblocksFrom}
-use Rattle.reader.proofs.Meaning.{map-done, was-got, was-refused}
+use Rattle.layers.specs.Answer.{mapRead, flat}
+use Rattle.layers.specs.Grammar.{none, groupHead, group, groupsRead, macroblocksFrom}
+use Rattle.layers.proofs.Meaning.{map-done, was-got, was-refused}
 
 -- a group's macroblocks, from the first MBA place on
 abbrev pub macroblocksAt : Format → Bool → ℕ → Reader (List Macroblock)

@@ -13,9 +13,9 @@ use Rattle.format.specs.declared.Format.{Format}
 use Rattle.description.specs.Vector.{Before}
 use Rattle.description.specs.Value.{Macroblock, after}
 use Rattle.description.specs.Flat.{Flat, index, fieldsOf, putBlocks, putMacroblocks}
-use Rattle.reader.specs.Answer.{mapRead, flat, Sent, putSent}
-use Rattle.reader.specs.Grammar.{Mba, step, stuffed, ended, mba, macroblock, macroblocksFrom}
-use Rattle.reader.proofs.Meaning.{map-done, was-got, was-refused, length-left, some}
+use Rattle.layers.specs.Answer.{mapRead, flat, Sent, putSent}
+use Rattle.layers.specs.Grammar.{Mba, step, stuffed, ended, mba, macroblock, macroblocksFrom}
+use Rattle.layers.proofs.Meaning.{map-done, was-got, was-refused, length-left, some}
 
 -- the buffers with a macroblock more
 abbrev put : ℕ → Flat → Macroblock → Flat

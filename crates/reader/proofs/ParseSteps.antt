@@ -21,18 +21,18 @@ use Rattle.bits.specs.Read.{Read, got, refused, bad}
 use Rattle.format.specs.Format.{limit, formatBit, groupCount, groupNumbers}
 use Rattle.format.specs.declared.Format.{Format}
 use Rattle.description.specs.Flat.{Flat, putGroups, laid}
-use Rattle.reader.specs.Answer.{mapRead, flat, leaving, asHeader, headerRefusal, placeRefusal}
-use Rattle.reader.specs.Grammar.{Header, header, groupsRead, picture, reading}
+use Rattle.layers.specs.Answer.{mapRead, flat, leaving, asHeader, headerRefusal, placeRefusal}
+use Rattle.layers.specs.Grammar.{Header, header, groupsRead, picture, reading}
 use Rattle.reader.specs.Described.{Lengths, described, verdictOf, zeros, laidOr}
-use Rattle.reader.specs.declared.HeaderRead.{HeaderRead}
-use Rattle.reader.specs.declared.HeaderRead.the-variants.{Got, Refused as NoHeader}
-use Rattle.reader.proofs.HeaderRead.{the-type as header-type}
-use Rattle.reader.specs.declared.PlaceRead.{PlaceRead}
-use Rattle.reader.specs.declared.PlaceRead.the-variants.{At, Refused}
-use Rattle.reader.proofs.PlaceRead.{the-type as place-type}
+use Rattle.layers.specs.declared.HeaderRead.{HeaderRead}
+use Rattle.layers.specs.declared.HeaderRead.the-variants.{Got, Refused as NoHeader}
+use Rattle.layers.proofs.HeaderRead.{the-type as header-type}
+use Rattle.layers.specs.declared.PlaceRead.{PlaceRead}
+use Rattle.layers.specs.declared.PlaceRead.the-variants.{At, Refused}
+use Rattle.layers.proofs.PlaceRead.{the-type as place-type}
 use Rattle.reader.specs.declared.Verdict.{Verdict}
 use Rattle.reader.specs.declared.Verdict.the-variants.{Accepted, Refused as Unread}
-use Rattle.reader.proofs.Meaning.{map-done}
+use Rattle.layers.proofs.Meaning.{map-done}
 
 -- ---- three stores over zeros
 cleared : (c : ℕ) (tr ptype bit : ℕ) (l : List ℕ) → l ≡ replicate (3 + c) 0 → set (set (set l 0 tr) 1 ptype) 2 bit ≡ tr ∷ ptype ∷ bit ∷ replicate c 0

@@ -29,19 +29,19 @@ use Rattle.description.specs.Value.{Macroblock, after}
 use Rattle.description.specs.Flat.{Flat, putMacroblocks, putGroups}
 use Rattle.description.specs.Proper.{If, ProperVector, ProperMacroblock}
 use Rattle.description.specs.Valid.{isQuantiser}
-use Rattle.reader.specs.Answer.{Kept, KeptBehind, componentOf, vectorOf, beforeOf, asMba, asMacroblock, mapRead, leaving, flat, Sent, putSent, macroblockRefusal}
-use Rattle.reader.specs.declared.Behind.{Behind}
-use Rattle.reader.specs.declared.MbaRead.{MbaRead}
-use Rattle.reader.specs.declared.MbaRead.the-variants.{Step, Stuffing, Ended, Refused as NoMba}
-use Rattle.reader.specs.declared.MacroblockRead.{MacroblockRead}
-use Rattle.reader.specs.declared.MacroblockRead.the-variants.{Got, Refused}
-use Rattle.reader.proofs.MacroblockRead.{the-type as macroblock-type}
-use Rattle.reader.specs.Layers.{Met, mba-reads, macroblock-reads, group-head-reads}
-use Rattle.reader.specs.Grammar.{Mba, step, stuffed, ended, mbaOf, mba, macroblock, macroblocksFrom, none, groupHead, groupsRead}
-use Rattle.reader.proofs.Meaning.{was-got, onward}
-use Rattle.reader.proofs.TypeSays.{alike, alike-same}
-use Rattle.reader.proofs.MacroblockWhole.{vector-kept}
-use Rattle.reader.proofs.MacroblockSteps.{opened}
+use Rattle.layers.specs.Answer.{Kept, KeptBehind, componentOf, vectorOf, beforeOf, asMba, asMacroblock, mapRead, leaving, flat, Sent, putSent, macroblockRefusal}
+use Rattle.layers.specs.declared.Behind.{Behind}
+use Rattle.layers.specs.declared.MbaRead.{MbaRead}
+use Rattle.layers.specs.declared.MbaRead.the-variants.{Step, Stuffing, Ended, Refused as NoMba}
+use Rattle.layers.specs.declared.MacroblockRead.{MacroblockRead}
+use Rattle.layers.specs.declared.MacroblockRead.the-variants.{Got, Refused}
+use Rattle.layers.proofs.MacroblockRead.{the-type as macroblock-type}
+use Rattle.layers.specs.Layers.{Met, mba-reads, macroblock-reads, group-head-reads}
+use Rattle.layers.specs.Grammar.{Mba, step, stuffed, ended, mbaOf, mba, macroblock, macroblocksFrom, none, groupHead, groupsRead}
+use Rattle.layers.proofs.Meaning.{was-got, onward}
+use Rattle.layers.proofs.TypeSays.{alike, alike-same}
+use Rattle.layers.proofs.MacroblockWhole.{vector-kept}
+use Rattle.layers.proofs.MacroblockSteps.{opened}
 use Rattle.reader.proofs.MacroblocksTurn.{MacroblocksSoFar, macroblocks-first, macroblocks-refused, macroblocks-ended, macroblocks-stuffed, macroblocks-inside, macroblocks-more}
 use Rattle.reader.proofs.GroupsTurn.{macroblocksAt, quantised, GroupsSoFar, groups-done, groups-head, groups-inside, groups-more}
 

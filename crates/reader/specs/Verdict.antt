@@ -26,8 +26,8 @@ use Rattle.description.specs.Valid.{valid}
 use Rattle.description.specs.Proper.{Proper}
 use Rattle.description.specs.Described.{proper-described}
 use Rattle.description.specs.LaidOut.{proper-valid}
-use Rattle.reader.specs.Grammar.{picture, reading}
-use Rattle.reader.specs.Layers.{picture-reads}
+use Rattle.layers.specs.Grammar.{picture, reading}
+use Rattle.layers.specs.Layers.{picture-reads}
 
 -- the reasons that reading a picture gives: numbers 2 to 13 of document 01's table
 abbrev pub ofReading : Reason → Bool

@@ -1,62 +1,15 @@
-// Picture, group, macroblock and block layers: from bits to a description, or the refusal.
+// A picture's bits to its description, or the refusal: the picture and its groups, over the layers below.
 use format::Format;
 use refusals::Reason;
 use refusals::Refusal;
 ghost use mathlib.Core.Path.{_≡_};
-ghost use Rattle.reader.specs.Answer.{flat};
+ghost use Rattle.layers.specs.Answer.{flat};
 ghost use Rattle.reader.specs.Described.{Lengths, described, verdictOf};
-ghost use Rattle.reader.specs.ReadOf.{readOf, flatAfter};
+ghost use Rattle.reader.specs.ReadOf.{flatAfter, ReadSays, ReadLeaves};
 
-mod block;
-mod head;
-mod kind;
-mod macroblock;
+mod opening;
 pub mod parse;
 mod picture;
-mod vector;
-
-// Where a layer ended, or the refusal.
-pub enum PlaceRead {
-    At(usize),
-    Refused(Refusal),
-}
-
-// A component of a vector, kept as 16 more than it is: 1 to 31.
-pub enum ComponentRead {
-    Got(u8, usize),
-    Refused(Refusal),
-}
-
-pub enum VectorRead {
-    Got(u8, u8, usize),
-    Refused(Refusal),
-}
-
-// What stands at an MBA place.
-pub enum MbaRead {
-    Step(usize, usize),
-    Stuffing(usize),
-    Ended(usize),
-    Refused(Refusal),
-}
-
-// What the last macroblock of a group leaves behind: its address, 0 before the first, and its vector, zero where it isn't MC.
-pub struct Behind {
-    pub address: usize,
-    pub horizontal: u8,
-    pub vertical: u8,
-}
-
-pub enum MacroblockRead {
-    Got(Behind, usize),
-    Refused(Refusal),
-}
-
-// TR and PTYPE bits 1 to 3.
-pub enum HeaderRead {
-    Got(u8, u8, usize),
-    Refused(Refusal),
-}
 
 // The verdict of the rules.
 pub enum Verdict {
@@ -101,8 +54,8 @@ pub fn read(
     macroblocks: &mut [u8],
     levels: &mut [u8],
 ) -> Verdict
-    ensures verdict { λ r. ⌜ r ≡ verdictOf (readOf format (now (bytes .entry)) count (flat (now (head .entry)) (now (macroblocks .entry)) (now (levels .entry)))) ⌝ }
-    ensures buffers { λ _. ⌜ flat (now (head .exit)) (now (macroblocks .exit)) (now (levels .exit)) ≡ flatAfter (flat (now (head .entry)) (now (macroblocks .entry)) (now (levels .entry))) (readOf format (now (bytes .entry)) count (flat (now (head .entry)) (now (macroblocks .entry)) (now (levels .entry)))) ⌝ }
+    ensures verdict { λ r. ⌜ ReadSays format (now (bytes .entry)) count (flat (now (head .entry)) (now (macroblocks .entry)) (now (levels .entry))) r ⌝ }
+    ensures buffers { λ _. ⌜ ReadLeaves format (now (bytes .entry)) count (flat (now (head .entry)) (now (macroblocks .entry)) (now (levels .entry))) (flat (now (head .exit)) (now (macroblocks .exit)) (now (levels .exit))) ⌝ }
 {
     if !validity::lengths(head, macroblocks, levels, format) {
         return Verdict::Refused(Refusal {

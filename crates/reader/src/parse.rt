@@ -1,11 +1,11 @@
 // A picture's bits to its description, or the refusal, in buffers of the format's lengths.
-use crate::HeaderRead;
-use crate::PlaceRead;
 use crate::Verdict;
-use crate::head::header;
-use crate::head::place_refusal;
+use crate::opening::header;
 use crate::picture::groups;
 use format::Format;
+use layers::HeaderRead;
+use layers::PlaceRead;
+use layers::head::place_refusal;
 use refusals::Reason;
 use refusals::Refusal;
 ghost use mathlib.Core.Path.{_≡_};
@@ -14,7 +14,7 @@ ghost use lib.Dec.{ltb};
 ghost use lib.ListN.{length, replicate};
 ghost use Rattle.laws.specs.Choice.{either};
 ghost use Rattle.format.specs.Format.{limit, groupCount};
-ghost use Rattle.reader.specs.Answer.{flat, headerRefusal};
+ghost use Rattle.layers.specs.Answer.{flat, headerRefusal};
 ghost use Rattle.reader.specs.Described.{Lengths, described, verdictOf, laidOr};
 
 fn header_refusal(read: HeaderRead) -> Refusal

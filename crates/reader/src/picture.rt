@@ -1,14 +1,14 @@
 // A picture: its groups and their macroblocks, laid out as they are read.
-use crate::Behind;
-use crate::MacroblockRead;
-use crate::MbaRead;
-use crate::PlaceRead;
-use crate::head::field_refusal;
-use crate::head::group_head;
-use crate::macroblock::macroblock;
-use crate::macroblock::mba;
 use bits::FieldRead;
 use format::Format;
+use layers::Behind;
+use layers::MacroblockRead;
+use layers::MbaRead;
+use layers::PlaceRead;
+use layers::head::field_refusal;
+use layers::head::group_head;
+use layers::macroblock::macroblock;
+use layers::macroblock::mba;
 use refusals::Reason;
 use refusals::Refusal;
 ghost use mathlib.Core.Path.{_≡_};
@@ -19,8 +19,8 @@ ghost use Rattle.bits.specs.Answer.{Within};
 ghost use Rattle.words.specs.Lookup.{Tables};
 ghost use Rattle.format.specs.Format.{groupCount, groupNumbers};
 ghost use Rattle.description.specs.Flat.{putGroups};
-ghost use Rattle.reader.specs.Answer.{mapRead, leaving, flat, macroblockRefusal};
-ghost use Rattle.reader.specs.Grammar.{groupsRead};
+ghost use Rattle.layers.specs.Answer.{mapRead, leaving, flat, macroblockRefusal};
+ghost use Rattle.layers.specs.Grammar.{groupsRead};
 
 fn macroblock_refusal(read: MacroblockRead) -> Refusal
     ensures { λ r. ⌜ r ≡ macroblockRefusal read ⌝ }

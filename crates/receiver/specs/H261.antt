@@ -14,12 +14,14 @@ use Rattle.description.specs.Value.{Picture}
 use Rattle.description.specs.Flat.{Flat, laid}
 use Rattle.description.specs.Valid.{valid}
 use Rattle.description.specs.Fields.{refresh}
-use Rattle.reader.specs.Grammar.{reading}
-use Rattle.reader.specs.Answer.{mapRead}
+use Rattle.layers.specs.Grammar.{reading}
+use Rattle.layers.specs.Answer.{mapRead}
 use Rattle.reader.specs.Described.{described}
 use Rattle.reader.specs.Verdict.{accepted-valid}
 use Rattle.render.specs.Sample.{rendered}
+use Rattle.receiver.specs.declared.Receiver.{Receiver}
 use Rattle.receiver.specs.Coding.{Found, accepted, refused, Coding}
+use Rattle.receiver.specs.Receive.{Buffers, Outcome, step}
 
 -- no reading is endless (`never-endless` of the reader)
 abbrev pub found : Read Flat → Found Flat
@@ -29,6 +31,10 @@ found endless = refused (refusal Length 0)
 
 abbrev pub h261 : Format → Coding Flat
 h261 f = record { read = λ bytes n. found (described f bytes n); refresh = refresh f; render = rendered f }
+
+-- what `receive` promises of a call: what it gives back and leaves in the buffers
+abbrev pub ReceiveDoes : Receiver → List ℕ → Buffers → Outcome → Type 0
+ReceiveDoes r block b x = x ≡ step h261 r block b
 
 -- what is found is a valid description
 pub found-valid : (f : Format) (bytes : List ℕ) (n : ℕ) (d : Flat) → accepted d ≡ h261 f .read bytes n → T (valid f d)

@@ -15,9 +15,9 @@ ghost use Rattle.vault.specs.Parts.{placed};
 ghost use Rattle.description.specs.Valid.{valid};
 ghost use Rattle.description.specs.Fields.{flat};
 ghost use Rattle.receiver.specs.Coding.{accepted};
-ghost use Rattle.receiver.specs.H261.{h261};
+ghost use Rattle.receiver.specs.H261.{h261, ReceiveDoes};
 ghost use Rattle.receiver.specs.Laws.{Ready, Settles};
-ghost use Rattle.receiver.specs.Receive.{alike, countOf, ended, tookOf, byLine, received as receivedOf, buffers, outcome, cameTo, step};
+ghost use Rattle.receiver.specs.Receive.{alike, countOf, ended, tookOf, byLine, received as receivedOf, buffers, outcome, cameTo};
 ghost use lib.Dec.{eqb};
 ghost use Rattle.laws.specs.Choice.{both, opposite};
 ghost use Rattle.refusals.specs.Number.{number};
@@ -465,7 +465,7 @@ pub fn receive(
     first: &mut [u8],
     second: &mut [u8],
 ) -> Received
-    ensures { λ r. ⌜ outcome r (now (collection .exit)) (now (first .exit)) (now (second .exit)) ≡ step h261 receiver (now (block .entry)) (buffers (now (collection .entry)) (now (first .entry)) (now (second .entry))) ⌝ }
+    ensures { λ r. ⌜ ReceiveDoes receiver (now (block .entry)) (buffers (now (collection .entry)) (now (first .entry)) (now (second .entry))) (outcome r (now (collection .exit)) (now (first .exit)) (now (second .exit))) ⌝ }
 {
     let format = receiver.format;
     let clip = receiver.clip;

@@ -5,25 +5,8 @@ use format::Format;
 use libc::STDIN_FILENO;
 use libc::STDOUT_FILENO;
 ghost use mathlib.Core.Path.{_≡_};
-ghost use Prim.Native.Nat.{_≤_};
 ghost use lib.ListN.{length};
 ghost use Rattle.format.specs.Format.{storeLength};
-
-fn wide(x: u8) -> u64
-    ensures { λ r. ⌜ (r ≡ x) × (r ≤ 255) ⌝ }
-{
-    x as u64
-}
-
-fn check(bytes: &[u8]) -> u64 {
-    let mut h: u64 = 1;
-    let mut i: usize = 0;
-    while i < bytes.len() {
-        h = (65599 * h + wide(bytes[i])) % 4294967291;
-        i += 1;
-    }
-    h
-}
 
 fn say(
     format: Format,
@@ -37,7 +20,7 @@ fn say(
 {
     if validity::valid(head, macroblocks, levels, format) {
         render::render(format, head, macroblocks, levels, reference, store);
-        io::print_decimal(STDOUT_FILENO, check(store));
+        io::print_decimal(STDOUT_FILENO, checks::check(store));
         io::write_all(STDOUT_FILENO, b"\n");
     } else {
         io::write_all(STDOUT_FILENO, b"invalid\n");

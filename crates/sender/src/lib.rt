@@ -14,7 +14,7 @@ ghost use Rattle.format.specs.Format.{outputLength};
 ghost use Rattle.description.specs.Fields.{flat};
 ghost use Rattle.vault.specs.Block.{pictures};
 ghost use Rattle.stores.specs.Stores.{stores};
-ghost use Rattle.sender.specs.H261.{h261};
+ghost use Rattle.sender.specs.H261.{h261, SendDoes};
 ghost use Rattle.sender.specs.Laws.{Passed, Encoded};
 ghost use Rattle.sender.specs.Send.{opened, buffers, lengths, sent, sends, onward, outcome, cameTo, step, shownBy};
 
@@ -159,7 +159,7 @@ fn send_in(
     second: &mut [u8],
 ) -> Sent
     requires { ⌜ (Passed h261 sender refresh (flat (now head) (now macroblocks) (now levels)) (buffers (now out) (now first) (now second))) × (length (now scratch) ≡ outputLength (sender .format)) ⌝ }
-    ensures { λ r. ⌜ outcome r (now (out .exit)) (now (first .exit)) (now (second .exit)) ≡ step h261 sender (flat (now (head .entry)) (now (macroblocks .entry)) (now (levels .entry))) (buffers (now (out .entry)) (now (first .entry)) (now (second .entry))) ⌝ }
+    ensures { λ r. ⌜ SendDoes sender (flat (now (head .entry)) (now (macroblocks .entry)) (now (levels .entry))) (buffers (now (out .entry)) (now (first .entry)) (now (second .entry))) (outcome r (now (out .exit)) (now (first .exit)) (now (second .exit))) ⌝ }
 {
     let format = sender.format;
     let written = writer::write(head, macroblocks, levels, format, scratch);
@@ -196,7 +196,7 @@ pub fn send(
     first: &mut [u8],
     second: &mut [u8],
 ) -> Sent
-    ensures { λ r. ⌜ outcome r (now (out .exit)) (now (first .exit)) (now (second .exit)) ≡ step h261 sender (flat (now (head .entry)) (now (macroblocks .entry)) (now (levels .entry))) (buffers (now (out .entry)) (now (first .entry)) (now (second .entry))) ⌝ }
+    ensures { λ r. ⌜ SendDoes sender (flat (now (head .entry)) (now (macroblocks .entry)) (now (levels .entry))) (buffers (now (out .entry)) (now (first .entry)) (now (second .entry))) (outcome r (now (out .exit)) (now (first .exit)) (now (second .exit))) ⌝ }
 {
     let format = sender.format;
     if !named(format, head, macroblocks, levels, out, first, second) {

@@ -15,32 +15,6 @@ ghost use Prim.Native.Nat.{_+_, _*_, _≤_};
 ghost use Rattle.bits.specs.Answer.{Within};
 ghost use Rattle.words.specs.Lookup.{Tables};
 
-fn number_of(reason: Reason) -> u64 {
-    match reason {
-        Reason::Length => 1,
-        Reason::Count => 2,
-        Reason::BitsEnd => 3,
-        Reason::NoStartCode => 4,
-        Reason::OtherFormat => 5,
-        Reason::OtherGroup => 6,
-        Reason::QuantiserZero => 7,
-        Reason::NoCodeword => 8,
-        Reason::AddressPast => 9,
-        Reason::Forbidden => 10,
-        Reason::CoefficientPast => 11,
-        Reason::VectorOut => 12,
-        Reason::StartCodeLast => 13,
-        Reason::BlockCheck => 21,
-        Reason::BlockField => 22,
-        Reason::OtherClip => 23,
-        Reason::UntrueMark => 24,
-        Reason::Invalid => 31,
-        Reason::AboveLimit => 32,
-        Reason::NotRefresh => 33,
-        Reason::AllSent => 34,
-    }
-}
-
 fn say(n: u64) {
     io::write_all(STDOUT_FILENO, b" ");
     io::print_decimal(STDOUT_FILENO, n);
@@ -53,7 +27,7 @@ fn line() {
 fn say_refused(r: Refusal) {
     io::write_all(STDOUT_FILENO, b"refused");
     let reason = r.reason;
-    say(number_of(reason));
+    say(numbers::number_of(reason) as u64);
     say(r.place as u64);
     line();
 }

@@ -9,7 +9,6 @@ use libc::STDOUT_FILENO;
 use reader::Verdict;
 use refusals::Refusal;
 use writer::Written;
-ghost use Rattle.reader.specs.Described.{Lengths};
 
 // What every byte of the output is before.
 const BEFORE: u8 = 165;
@@ -44,10 +43,8 @@ fn gives(
     head_read: &mut [u8],
     macroblocks_read: &mut [u8],
     levels_read: &mut [u8],
-) -> bool
-    requires { ⌜ Lengths format (now «head_read») (now «macroblocks_read») (now «levels_read») ⌝ }
-{
-    let verdict = reader::parse::parse(
+) -> bool {
+    let verdict = reader::read(
         bytes,
         count,
         format,

@@ -1,5 +1,6 @@
 -- What `write` answers and leaves in its output. Assumes nothing.
 use Prim.Native.Nat.{ℕ, _+_}
+use mathlib.Core.Path.{_≡_}
 use mathlib.Core.Bool.{Bool}
 use mathlib.Core.List.{List, _++_}
 use lib.Dec.{ltb, eqb}
@@ -42,6 +43,13 @@ leaves out bits (Refused r) = out
 
 abbrev pub outputOf : Format → Flat → List ℕ → List ℕ
 outputOf f d out = leaves out (written f d) (writeOf f d (length out))
+
+-- what `write` promises of its answer, and of what it leaves in the output
+abbrev pub WriteSays : Format → Flat → List ℕ → Written → Type 0
+WriteSays f d out answer = answer ≡ writeOf f d (length out)
+
+abbrev pub WriteLeaves : Format → Flat → List ℕ → List ℕ → Type 0
+WriteLeaves f d out left = left ≡ outputOf f d out
 
 -- document 01's number for each answer: 0 where the picture is written; and its value, the number of bits or the place
 abbrev pub toldBy : Written → ℕ

@@ -11,7 +11,7 @@ ghost use Rattle.refusals.specs.Number.{refusal};
 ghost use Rattle.description.specs.Spread.{flat};
 ghost use Rattle.description.specs.Valid.{lengthsOf};
 ghost use Rattle.format.specs.declared.Format.the-variants.{Qcif, Cif};
-ghost use Rattle.writer.specs.Output.{writeOf, outputOf};
+ghost use Rattle.writer.specs.Output.{WriteSays, WriteLeaves};
 
 mod block;
 mod group;
@@ -62,8 +62,8 @@ pub fn write(
     format: Format,
     out: &mut [u8],
 ) -> Written
-    ensures { λ r. ⌜ r ≡ writeOf format (flat (now (head .entry)) (now (macroblocks .entry)) (now (levels .entry))) (length (now (out .entry))) ⌝ }
-    ensures { λ r. ⌜ now (out .exit) ≡ outputOf format (flat (now (head .entry)) (now (macroblocks .entry)) (now (levels .entry))) (now (out .entry)) ⌝ }
+    ensures { λ r. ⌜ WriteSays format (flat (now (head .entry)) (now (macroblocks .entry)) (now (levels .entry))) (now (out .entry)) r ⌝ }
+    ensures { λ r. ⌜ WriteLeaves format (flat (now (head .entry)) (now (macroblocks .entry)) (now (levels .entry))) (now (out .entry)) (now (out .exit)) ⌝ }
 {
     if !one_format(head, macroblocks, levels) {
         return refused(Reason::Length);

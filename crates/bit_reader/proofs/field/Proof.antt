@@ -1,5 +1,6 @@
--- `bit_reader::field` meets its contract: a walk of its MIR. The struct is taken apart, and `bits::field` is called, whose `requires` is this function's own; all that is known of it is its contract.
--- What the struct owns is had twice: one copy is kept whole for the exit, the other goes to the callee beside the lifetime's token, which comes back.
+-- `bit_reader::field` meets its contract: a walk of its MIR. The struct is taken apart, and `bits::field` is called, whose `requires` is this
+-- function's own; all that is known of it is its contract. What the struct owns is had twice: one copy is kept whole for the exit, the other
+-- goes to the callee beside the lifetime's token, which comes back.
 -- Assumes nothing.
 use mathlib.Core.Path.{_≡_, refl}
 use Prim.Native.Nat.{ℕ, _≤_, _<_, _^_}

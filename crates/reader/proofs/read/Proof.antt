@@ -3,7 +3,7 @@ use mathlib.Core.Path.{_∙_}
 use native.Mathlib.Omega.{arith}
 use borrow.Author.Tests.{not-true, not-false}
 use lib.Seq.{length-take-le}
-use Rattle.reader.specs.Answer.{flat}
+use Rattle.layers.specs.Answer.{flat}
 use Rattle.reader.proofs.PictureTurn.{count-small}
 use Rattle.reader.proofs.ReadSteps.{unfit, fit, lengths-are, part-long}
 use borrow.Author.Needs.{needs}

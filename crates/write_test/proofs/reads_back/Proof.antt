@@ -1,7 +1,5 @@
 -- `write_test::reads_back` meets its contract: the scratch has room for either format. Assumes nothing.
-use mathlib.Core.Path.{_∙_}
 use native.Mathlib.Omega.{arith}
-use lib.Seq.{length-take-le}
 use borrow.Author.Needs.{needs}
 use Rattle.checks.specs.Room.{part-long, groups-most}
 use Rattle.write_test.proofs.reads_back.Statement.{statement}
@@ -35,7 +33,7 @@ slice-aggregate-gives-3 : tie.Need-slice-aggregate-gives-3
 slice-aggregate-gives-3 c = part-long _ (array-borrow-prefix-levels-read (c .before))
 
 gives-requires : tie.Need-gives-requires
-gives-requires c κs = record { head-long = length-take-le _ _ (array-borrow-prefix-head-read (c .before .before .before)) ∙ c .before .before .before .before .before .head-length .ensures; ms-long = length-take-le _ _ (array-borrow-prefix-macroblocks-read (c .before .before)) ∙ c .before .before .before .before .macroblocks-length .ensures; ls-long = length-take-le _ _ (array-borrow-prefix-levels-read (c .before)) ∙ c .before .before .before .levels-length .ensures }
+gives-requires c κs = search needs
 
 returns : tie.Need-returns
 returns c = search needs

@@ -1,5 +1,5 @@
 use mathlib.Core.Path.{sym, ap}
-use Rattle.reader.specs.Answer.{headerRefusal}
+use Rattle.layers.specs.Answer.{headerRefusal}
 use borrow.Author.Needs.{needs}
 use Rattle.reader.proofs.parse.header_refusal.Statement.{statement}
 use Rattle.reader.proofs.parse.header_refusal.Tie as tie

@@ -7,8 +7,8 @@ use lib.ListN.{length-set}
 use Rattle.refusals.specs.declared.Refusal.{Refusal}
 use Rattle.reader.specs.Described.{described}
 use Rattle.reader.specs.declared.Verdict.the-variants.{Refused}
-use Rattle.reader.specs.Layers as layers
-use Rattle.reader.proofs.Told.{within-next}
+use Rattle.layers.specs.Layers as layers
+use Rattle.layers.proofs.Told.{within-next}
 use Rattle.reader.proofs.ParseSteps.{described-count, lent-is, described-no-header, header-is, groups-described, cleared-as, long-cleared, refused-verdict, refused-buffers, read-verdict, read-buffers, unread}
 use borrow.Author.Needs.{needs}
 use Rattle.reader.proofs.parse.parse.Statement.{statement}
@@ -16,8 +16,8 @@ use Rattle.reader.proofs.parse.parse.Tie as tie
 use Rattle.reader.proofs.parse.parse.Reads as reads
 use Rattle.reader.proofs.parse.parse.Lts as lts
 use Rattle.format.proofs.bit.Reads as bit-reads
-use Rattle.reader.proofs.head.header.Reads as header-reads
-use Rattle.reader.proofs.head.place_refusal.Reads as place-refusal-reads
+use Rattle.reader.proofs.opening.header.Reads as header-reads
+use Rattle.layers.proofs.head.place_refusal.Reads as place-refusal-reads
 use Rattle.reader.proofs.parse.above.Reads as above-reads
 use Rattle.reader.proofs.parse.clear.Reads as clear-reads
 use Rattle.reader.proofs.parse.header_refusal.Reads as header-refusal-reads

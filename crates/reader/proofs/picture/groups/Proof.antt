@@ -10,10 +10,10 @@ use Rattle.bits.specs.Bits.{bitsLeft}
 use Rattle.bits.specs.Read.{Read, refused}
 use Rattle.format.specs.Format.{groupCount, groupNumbers}
 use Rattle.description.specs.Flat.{Flat, putGroups}
-use Rattle.reader.specs.Answer.{mapRead, flat}
-use Rattle.reader.specs.Grammar.{groupsRead}
-use Rattle.reader.proofs.Told.{no-field, is-field}
-use Rattle.reader.proofs.MacroblockWhole.{quantiser-small, small-byte}
+use Rattle.layers.specs.Answer.{mapRead, flat}
+use Rattle.layers.specs.Grammar.{groupsRead}
+use Rattle.layers.proofs.Told.{no-field, is-field}
+use Rattle.layers.proofs.MacroblockWhole.{quantiser-small, small-byte}
 use Rattle.reader.proofs.PictureTurn.{InGroup, PictureSoFar, Left, less-count, last-found, number-low, number-high, count-small, head-led, step-led, stuffing-led, macroblock-led, group-first, group-stuffed, group-more, group-no-macroblock, group-no-mba, group-ended, picture-first, picture-done, picture-no-head, picture-inside, picture-more, left-as, left-refused, left-done}
 use Rattle.reader.proofs.picture.groups.Statement.{statement}
 use Rattle.reader.proofs.picture.groups.Tie as tie
@@ -21,10 +21,10 @@ use Rattle.reader.proofs.picture.groups.Reads as reads
 use Rattle.reader.proofs.picture.groups.Lts as lts
 use Rattle.format.proofs.order.group_count.Reads as group-count-reads
 use Rattle.format.proofs.order.group_number.Reads as group-number-reads
-use Rattle.reader.proofs.head.field_refusal.Reads as field-refusal-reads
-use Rattle.reader.proofs.head.group_head.Reads as group-head-reads
-use Rattle.reader.proofs.macroblock.macroblock.Reads as macroblock-reads
-use Rattle.reader.proofs.macroblock.mba.Reads as mba-reads
+use Rattle.layers.proofs.head.field_refusal.Reads as field-refusal-reads
+use Rattle.layers.proofs.head.group_head.Reads as group-head-reads
+use Rattle.layers.proofs.macroblock.macroblock.Reads as macroblock-reads
+use Rattle.layers.proofs.macroblock.mba.Reads as mba-reads
 use Rattle.reader.proofs.picture.macroblock_refusal.Reads as macroblock-refusal-reads
 
 abbrev Inv-group : tie.InvT-group

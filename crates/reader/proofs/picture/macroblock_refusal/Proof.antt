@@ -1,5 +1,5 @@
 use mathlib.Core.Path.{sym, ap}
-use Rattle.reader.specs.Answer.{macroblockRefusal}
+use Rattle.layers.specs.Answer.{macroblockRefusal}
 use borrow.Author.Needs.{needs}
 use Rattle.reader.proofs.picture.macroblock_refusal.Statement.{statement}
 use Rattle.reader.proofs.picture.macroblock_refusal.Tie as tie
