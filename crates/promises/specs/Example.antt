@@ -30,7 +30,7 @@ zeros-long n = length-replicate n 0
 abbrev pub blank : Format → Stores
 blank f = stores (zeros (storeLength f)) (zeros (storeLength f))
 
-blank-sized : (f : Format) → bothSized f (blank f) ≡ true
+pub blank-sized : (f : Format) → bothSized f (blank f) ≡ true
 blank-sized f =
     let e = eq-eqb (length (zeros (storeLength f))) (storeLength f) (zeros-long (storeLength f)) in
     rw e

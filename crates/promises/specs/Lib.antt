@@ -18,4 +18,5 @@ pub mod CatchingUp
 pub mod WholeClip
 pub mod Example
 pub mod H261
+pub mod Renumbering
 pub mod WrongReceivers

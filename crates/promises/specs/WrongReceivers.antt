@@ -2,7 +2,7 @@
 use mathlib.Core.Path.{_≡_, refl, sym, ap, subst, _∙_}
 use mathlib.Core.Bool.{Bool, true, false, true≢false}
 use mathlib.Core.Logic.{_⊎_, inl, inr}
-use mathlib.Core.List.{List, [], _∷_, _++_}
+use mathlib.Core.List.{List, [], _∷_, _++_, List·Memᴰ, List·Memᴰ·head, List·Memᴰ·tail, Memᴰ·append-left, Memᴰ·append-right}
 use mathlib.Core.Option.{some, Option·some-injective}
 use Prim.Native.Nat.{ℕ, zero, suc, _≤_, _<_}
 use native.Mathlib.Omega.{arith}
@@ -37,13 +37,13 @@ use Rattle.receiver.specs.declared.Line.the-variants.{Earlier, Next, Anew, Othe
 use Rattle.receiver.specs.declared.Answer.{Answer}
 use Rattle.receiver.specs.declared.Answer.the-variants as A
 use Rattle.receiver.specs.Coding.{Found, accepted, refused, Coding}
-use Rattle.receiver.specs.Receive.{fresh, lineOf, Event, refusing, old, taken, lost, failed, finished, countOf, markOf, alike, Buffers, lengths, judged, ended, tookOf, byLine, byJudgement, decide, wanting, losing, answerOf, received, Outcome, cameTo, step}
+use Rattle.receiver.specs.Receive.{fresh, lineOf, Event, refusing, old, taken, lost, failed, finished, countOf, markOf, alike, Buffers, lengths, judged, ended, tookOf, byLine, byJudgement, decide, losing, answerOf, received, Outcome, cameTo, step}
 use Rattle.receiver.specs.H261 as R
 use Rattle.receiver.specs.Shown.{whereShown, refusedLength, shownBy}
 use Rattle.receiver.specs.Run.{World}
-use Rattle.promises.specs.Clip.{Picture, Clip, opening, picturesIn, blocksIn, begin, Receive, Show, afterBlock, given, upon, Shows, Right}
+use Rattle.promises.specs.Clip.{Picture, Clip, opening, picturesIn, blocksIn, begin, Each, Receive, Show, afterBlock, given, upon, Shows, Right}
 use Rattle.promises.specs.Arrives.{inTurn, InStepAt}
-use Rattle.promises.specs.Demand3.{CatchesUp, Demand3}
+use Rattle.promises.specs.Demand3.{InStep, CatchesUp}
 use Rattle.promises.specs.Demand2.{first, first-valid, first-long, first-below}
 use Rattle.promises.specs.WrittenBack.{one-of}
 use Rattle.promises.specs.Finished.{none-shown}
@@ -51,10 +51,11 @@ use Rattle.promises.specs.Step.{bitsOf, headerOf, Block, block-judged}
 use Rattle.promises.specs.Held.{block-of}
 use Rattle.promises.specs.InStep.{sound-clip}
 use Rattle.promises.specs.WholeClip.{blocksEach, clip-in-turn, whole-clip}
-use Rattle.promises.specs.H261.{h261-agrees}
+use Rattle.promises.specs.H261.{h261-agrees, h261-meets}
+use Rattle.promises.specs.Renumbering.{renumbered, renumbering, Beside, beside-run}
 use Rattle.promises.specs.Whole.{whole, whole-valid, whole-refresh, whole-written}
 use Rattle.promises.specs.Single.{single, Code, one, two, codeOf, single-valid, single-written, single-sample}
-use Rattle.promises.specs.Example.{newcomer, newcomer-named, clip, Sendable, firstSent, secondSent, one-picture, two-pictures}
+use Rattle.promises.specs.Example.{blank-sized, newcomer, newcomer-named, clip, Sendable, firstSent, secondSent, one-picture, two-pictures}
 
 -- ---- a run
 -- of each of them
@@ -65,6 +66,10 @@ Every Q (block ∷ blocks) = Q block × Every Q blocks
 every-all : (Q : List ℕ → Type 0) → ((block : List ℕ) → Q block) → (blocks : List (List ℕ)) → Every Q blocks
 every-all Q h [] = tt
 every-all Q h (block ∷ blocks) = (h block, every-all Q h blocks)
+
+each-of : (clip blocks : List (List ℕ)) → ((block : List ℕ) → List·Memᴰ block blocks → List·Memᴰ block clip) → Each clip blocks
+each-of clip [] h = tt
+each-of clip (block ∷ blocks) h = (h block (List·Memᴰ·head refl), each-of clip blocks (λ a m. h a (List·Memᴰ·tail m)))
 
 module _ (receive : Receive) where
   given-append : (w : World) (before after : List (List ℕ)) → given receive w (before ++ after) ≡ given receive (given receive w before) after
@@ -207,21 +212,6 @@ every-head c p x at P h =
     record { header = headerOf S.h261 (c .format) x (c .number) p part; judged-as = block-judged S.h261 (c .format) x b; is = h part (b .part-is .part-is) })
 
 -- ---- wrong: "one that decodes picture 0 and then only renumbers it"
--- ours, but where a later picture is finished, both stores stay as they were, and so does which of them is shown
-abbrev renumbered : Answer → Receiver → Buffers → Outcome → Outcome
-renumbered (A.Picture (suc k)) r b x = record {
-  gave = received (A.Picture (suc k)) (wanting r (x .gave .next .wanted) (x .gave .next .standing) (r .holder) (x .gave .next .refresh));
-  left = record { collection = x .left .collection; both = b .both };
-}
-renumbered (A.Picture zero) r b x = x
-renumbered (A.Old n part) r b x = x
-renumbered (A.Taken n part) r b x = x
-renumbered A.Lost r b x = x
-renumbered (A.Refused why) r b x = x
-
-abbrev pub renumbering : {D : Type 0} → (Format → Coding D) → Receive
-renumbering coding r block b = renumbered (step coding r block b .gave .answer) r b (step coding r block b)
-
 -- a receiver of this clip
 record Ours (f : Format) (clip : ℕ) (r : Receiver) : Type 0 where
   clip-is : r .clip ≡ clip
@@ -330,7 +320,7 @@ module _ (d : Flat) (can : Sendable S.h261 Qcif d) where
       (drawn .0, drawn .1 ∙ ap (λ (y : Picture Flat). rendered Qcif (y .description) (drawn .0)) (Option·some-injective p (picture1 d) (sym e ∙ pair-second)))
 
 -- what it shows after picture 1 is what it had after picture 0, whichever picture 1 is
-module _ (demand : Demand3 S.h261 (renumbering R.h261) shownBy) where
+module _ (meets : InStep S.h261 (renumbering R.h261) shownBy) where
   abbrev receive : Receive
   receive = renumbering R.h261
 
@@ -359,12 +349,38 @@ module _ (demand : Demand3 S.h261 (renumbering R.h261) shownBy) where
           always receive (Still began) (Heads Qcif 1 Later) (λ u block h s. still-call R.h261 Qcif 1 began u block ours h s) began
           (record { clip-is = refl; format-is = refl; holder-is = refl; both-is = refl }) (picture1 d .blocks ++ []) (every-append (Heads Qcif 1 Later) (picture1 d .blocks) [] heads tt)
 
+  -- it ends in step, as ours does, and so it must show the second picture
+  ends-so : (d : Flat) → Sendable S.h261 Qcif d → Ends receive shownBy (picturesIn S.h261 (pair d)) 1 fresh1 (blocksIn S.h261 (pair d))
+  unfolding given
+  ends-so d can = record {
+    last = upon receive fresh1 (so .before) (so .block);
+    is = run;
+    stands =
+        sym (ap (λ (u : World). u .receiver .standing) run) ∙ ap (λ (q : Receiver). q .standing) (beside .same) ∙ ap (λ (u : World). u .receiver .standing) (theirs .is) ∙ theirs .stands;
+    right =
+        meets (pair d) (newcomer Qcif) (so .before) (so .block)
+        (each-of (blocksIn S.h261 (pair d)) (so .before) (λ a m. subst (List·Memᴰ a) (sym (so .is)) (Memᴰ·append-left (so .block ∷ []) m)))
+        (subst (List·Memᴰ (so .block)) (sym (so .is)) (Memᴰ·append-right (so .before) (List·Memᴰ·head refl)));
+  }
+    where
+      so : InStepAt (step R.h261) shownBy (picturesIn S.h261 (pair d)) 1 fresh1 (blocksIn S.h261 (pair d))
+      so = whole-clip h261-agrees (h261-meets .catches-up) (pair d) (newcomer Qcif) (newcomer-named Qcif) picture0 (picture1 d ∷ []) (pair-is d can)
+
+      theirs : Ends (step R.h261) shownBy (picturesIn S.h261 (pair d)) 1 fresh1 (blocksIn S.h261 (pair d))
+      theirs = ends (step R.h261) so
+
+      beside : Beside (given (step R.h261) fresh1 (blocksIn S.h261 (pair d))) (given receive fresh1 (blocksIn S.h261 (pair d)))
+      beside =
+          beside-run R.h261 rendered-length fresh1 fresh1 (record { same = refl; collection-is = refl; sized = blank-sized Qcif; also-sized = blank-sized Qcif }) (blocksIn S.h261 (pair d))
+
+      run : given receive fresh1 (blocksIn S.h261 (pair d)) ≡ afterBlock receive (given receive fresh1 (so .before)) (so .block)
+      run = ap (given receive fresh1) (so .is) ∙ given-append receive fresh1 (so .before) (so .block ∷ [])
+
   shows : (c : Code) (n : ℕ) → codeOf c ≡ suc n → sample began ≡ suc n
   shows c n k =
       let d : Flat = later c in
       let can : Sendable S.h261 Qcif d = later-sendable c in
-      let e : Ends receive shownBy (picturesIn S.h261 (pair d)) 1 fresh1 (blocksIn S.h261 (pair d)) =
-      ends receive (whole-clip h261-agrees (demand .catches-up) (pair d) (newcomer Qcif) (newcomer-named Qcif) picture0 (picture1 d ∷ []) (pair-is d can)) in
+      let e : Ends receive shownBy (picturesIn S.h261 (pair d)) 1 fresh1 (blocksIn S.h261 (pair d)) = ends-so d can in
       let run : given receive fresh1 (blocksIn S.h261 (pair d)) ≡ given receive began (picture1 d .blocks ++ []) =
       ap (given receive fresh1) (pair-blocks d can) ∙ given-append receive fresh1 (picture0 .blocks) (picture1 d .blocks ++ []) in
       sym (still-shown d can) ∙ ap (λ (u : World). sample u) (sym run ∙ e .is)
@@ -372,9 +388,9 @@ module _ (demand : Demand3 S.h261 (renumbering R.h261) shownBy) where
       (λ p q. let drawn = pair-drawn d can p q in ap (λ (l : List ℕ). getD l 0 0) (drawn .1) ∙ single-sample c (drawn .0) ∙ k)
 
 -- but two of them differ in a sample
-pub renumbering-wrong : Demand3 S.h261 (renumbering R.h261) shownBy → ⊥
-renumbering-wrong demand =
-    let z : _≡_ {A = ℕ} 1 2 = sym (shows demand one 0 refl) ∙ shows demand two 1 refl in
+pub renumbering-wrong : InStep S.h261 (renumbering R.h261) shownBy → ⊥
+renumbering-wrong meets =
+    let z : _≡_ {A = ℕ} 1 2 = sym (shows meets one 0 refl) ∙ shows meets two 1 refl in
     omega arith
 
 -- ---- wrong: one that "finishes only refresh pictures"
