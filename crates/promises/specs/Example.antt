@@ -6,14 +6,14 @@ use Prim.Native.Nat.{ℕ, _≤_, _<_}
 use borrow.Author.Tests.{eq-eqb}
 use lib.Dec.{eqb, lit<}
 use lib.ListN.{length, replicate, length-replicate}
-use Rattle.laws.specs.Choice.{both, either, opposite}
+use Rattle.laws.specs.Choice.{either, opposite}
 use Rattle.format.specs.declared.Format.{Format}
 use Rattle.format.specs.Format.{limit, storeLength, collectionLength, blocksLength}
 use Rattle.vault.specs.Block.{pictures as mostPictures}
 use Rattle.stores.specs.Stores.{Stores, stores, reference, kept}
 use Rattle.sender.specs.Coding.{Coding}
 use Rattle.sender.specs.Send.{Buffers, Judgement, sends, Outcome, judge, onward, countSent, shownBy, cameTo, step, fresh}
-use Rattle.sender.specs.Laws.{Passed, below}
+use Rattle.sender.specs.Laws.{below}
 use Rattle.sender.specs.Run.{Call, World, cut, called, after}
 use Rattle.receiver.specs.Receive as R
 use Rattle.promises.specs.Clip.{Picture, sentAs, pictures, Clip, opening, picturesIn, Fresh}

@@ -18,5 +18,6 @@ pub mod CatchingUp
 pub mod WholeClip
 pub mod Example
 pub mod H261
+pub mod Calls
 pub mod Renumbering
 pub mod WrongReceivers

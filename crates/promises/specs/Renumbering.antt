@@ -3,6 +3,7 @@ use mathlib.Core.Path.{_≡_, refl, sym, ap, subst, _∙_}
 use mathlib.Core.Bool.{true}
 use mathlib.Core.List.{List, [], _∷_}
 use Prim.Native.Nat.{ℕ, zero, suc}
+use native.Mathlib.Omega.{arith}
 use lib.Dec.{eqb}
 use lib.ListN.{length}
 use Rattle.laws.specs.Choice.{pick, both}
@@ -28,6 +29,7 @@ use Rattle.receiver.specs.Receive.{lineOf, Event, refusing, old, taken, lost, f
 use Rattle.receiver.specs.Run.{World}
 use Rattle.promises.specs.Clip.{Receive, afterBlock, given}
 use Rattle.promises.specs.Finished.{bothSized, kept-sized}
+use Rattle.promises.specs.Calls.{Within, decide-within, Heads}
 
 -- ours, but where a later picture is finished, both stores stay as they were, and so does which of them is shown
 abbrev pub renumbered : Answer → Receiver → Buffers → Outcome → Outcome
@@ -127,3 +129,59 @@ module _ {D : Type 0} (coding : Format → Coding D) (long : (f : Format) (d : D
   unfolding given
   beside-run v w s [] = s
   beside-run v w s (block ∷ blocks) = beside-run (afterBlock (step coding) v block) (afterBlock (renumbering coding) w block) (beside-call v w block s) blocks
+
+-- ---- over the blocks of a later picture its stores stay
+-- a receiver of this clip
+pub record Ours (f : Format) (clip : ℕ) (r : Receiver) : Type 0 where
+  pub clip-is : r .clip ≡ clip
+  pub format-is : r .format ≡ f
+
+-- with the stores and the holder of v
+pub record Still (v w : World) : Type 0 where
+  pub clip-is : w .receiver .clip ≡ v .receiver .clip
+  pub format-is : w .receiver .format ≡ v .receiver .format
+  pub holder-is : w .receiver .holder ≡ v .receiver .holder
+  pub both-is : w .lent .both ≡ v .lent .both
+
+module _ {D : Type 0} (coding : Format → Coding D) where
+  ours-event : (f : Format) (clip : ℕ) (r : Receiver) (block : List ℕ) (b : Buffers) (e : Event D) → Ours f clip r → Ours f clip (renumbered (answerOf e) r b (cameTo coding r block b e) .gave .next)
+  unfolding cameTo
+  ours-event f clip r block b (refusing why) o = record { clip-is = o .clip-is; format-is = o .format-is }
+  ours-event f clip r block b (old h) o = record { clip-is = o .clip-is; format-is = o .format-is }
+  ours-event f clip r block b (taken h standing) o = record { clip-is = o .clip-is; format-is = o .format-is }
+  ours-event f clip r block b lost o = record { clip-is = o .clip-is; format-is = o .format-is }
+  ours-event f clip r block b (failed h why) o = record { clip-is = o .clip-is; format-is = o .format-is }
+  ours-event f clip r block b (finished h d) o = go (h .picture)
+    where
+      go : (n : ℕ) → Ours f clip (renumbered (A.Picture n) r b (cameTo coding r block b (finished h d)) .gave .next)
+      go zero = record { clip-is = o .clip-is; format-is = o .format-is }
+      go (suc n) = record { clip-is = o .clip-is; format-is = o .format-is }
+
+  pub ours-call : (f : Format) (clip : ℕ) (w : World) (block : List ℕ) → Ours f clip (w .receiver) → Ours f clip (afterBlock (renumbering coding) w block .receiver)
+  unfolding step cameTo
+  ours-call f clip w block o = ours-event f clip (w .receiver) block (w .lent) (decide coding (w .receiver) block (w .lent)) o
+
+  still-event : (v : World) (r : Receiver) (block : List ℕ) (b : Buffers) (e : Event D) (header : Header) (k : ℕ) → Within coding r header e → header .picture ≡ suc k
+      → Still v (record { receiver = r; lent = b })
+      → (let x = renumbered (answerOf e) r b (cameTo coding r block b e) in Still v (record { receiver = x .gave .next; lent = x .left }))
+  unfolding cameTo
+  still-event v r block b (refusing why) header k i p s = record { clip-is = s .clip-is; format-is = s .format-is; holder-is = s .holder-is; both-is = s .both-is }
+  still-event v r block b (old h) header k i p s = record { clip-is = s .clip-is; format-is = s .format-is; holder-is = s .holder-is; both-is = s .both-is }
+  still-event v r block b (taken h standing) header k i p s = record { clip-is = s .clip-is; format-is = s .format-is; holder-is = s .holder-is; both-is = s .both-is }
+  still-event v r block b lost header k i p s = record { clip-is = s .clip-is; format-is = s .format-is; holder-is = s .holder-is; both-is = s .both-is }
+  still-event v r block b (failed h why) header k i p s = record { clip-is = s .clip-is; format-is = s .format-is; holder-is = s .holder-is; both-is = s .both-is }
+  still-event v r block b (finished h d) header k i p s = go (h .picture) (ap (λ (g : Header). g .picture) i ∙ p)
+    where
+      go : (n : ℕ) → n ≡ suc k
+          → (let x = renumbered (A.Picture n) r b (cameTo coding r block b (finished h d)) in Still v (record { receiver = x .gave .next; lent = x .left }))
+      go zero e = absurd (omega arith)
+      go (suc n) e = record { clip-is = s .clip-is; format-is = s .format-is; holder-is = s .holder-is; both-is = s .both-is }
+
+  pub still-call : (f : Format) (clip : ℕ) (v w : World) (block : List ℕ) → Ours f clip (v .receiver) → Heads f clip (λ (h : Header). h .picture ≡ 1) block → Still v w
+      → Still v (afterBlock (renumbering coding) w block)
+  unfolding step cameTo
+  still-call f clip v w block o h s =
+      still-event v (w .receiver) block (w .lent) (decide coding (w .receiver) block (w .lent)) (h .header) 0
+      (decide-within coding (w .receiver) block (w .lent) (h .header)
+      ((λ i. judgeOf ((s .format-is ∙ o .format-is) i) ((s .clip-is ∙ o .clip-is) i) block) ∙ h .judged-as))
+      (h .is) s

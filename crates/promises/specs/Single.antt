@@ -1,7 +1,7 @@
 -- A picture with one macroblock, an INTRA one whose blocks have their DC code alone, for examples. Its first sample is that code. Assumes nothing.
 use Prim.Native.Nat.{ℕ}
 use mathlib.Core.Path.{_≡_, refl, sym, ap, _∙_}
-use mathlib.Core.Bool.{Bool, true}
+use mathlib.Core.Bool.{true}
 use mathlib.Core.List.{List, [], _∷_, _++_}
 use lib.Dec.{T, eqb, lit<}
 use lib.IntN.{pos}
@@ -14,7 +14,7 @@ use Rattle.words.specs.Tables.{table1, table2, pairs, laterTable5}
 use Rattle.words.specs.Words.{tcoeff, coefficientRead, isIntra}
 use Rattle.format.specs.declared.Format.the-variants.{Qcif}
 use Rattle.format.specs.Place.{cellOf}
-use Rattle.description.specs.Value.{Group, Picture}
+use Rattle.description.specs.Value.{Picture}
 use Rattle.description.specs.Flat.{Flat, laid, pictureIn, putBlock, putBlocks, putGroups, putMacroblocks}
 use Rattle.description.specs.Fields.{typeOf, vectorOf, quantiserOf}
 use Rattle.description.specs.Valid.{valid}

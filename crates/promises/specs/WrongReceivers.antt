@@ -2,15 +2,13 @@
 use mathlib.Core.Path.{_≡_, refl, sym, ap, subst, _∙_}
 use mathlib.Core.Bool.{Bool, true, false, true≢false}
 use mathlib.Core.Logic.{_⊎_, inl, inr}
-use mathlib.Core.List.{List, [], _∷_, _++_, List·Memᴰ, List·Memᴰ·head, List·Memᴰ·tail, Memᴰ·append-left, Memᴰ·append-right}
+use mathlib.Core.List.{List, [], _∷_, _++_, List·Memᴰ, List·Memᴰ·head, Memᴰ·append-left, Memᴰ·append-right}
 use mathlib.Core.Option.{some, Option·some-injective}
-use Prim.Native.Nat.{ℕ, zero, suc, _≤_, _<_}
+use Prim.Native.Nat.{ℕ, suc, _≤_, _<_}
 use native.Mathlib.Omega.{arith}
 use lib.Dec.{T, eqb}
 use lib.ListN.{length, getElem?, getD}
 use Rattle.laws.specs.Choice.{pick, both, T-true, both-left}
-use Rattle.refusals.specs.declared.Reason.the-variants.{Length, UntrueMark}
-use Rattle.refusals.specs.Number.{refusal}
 use Rattle.format.specs.declared.Format.{Format}
 use Rattle.format.specs.declared.Format.the-variants.{Qcif}
 use Rattle.format.specs.Format.{limit}
@@ -22,83 +20,35 @@ use Rattle.writer.specs.Output.{written}
 use Rattle.render.specs.Sample.{rendered}
 use Rattle.render.specs.Rendered.{rendered-length}
 use Rattle.vault.specs.declared.Header.{Header}
-use Rattle.vault.specs.declared.Checked.{Checked}
-use Rattle.vault.specs.declared.Checked.the-variants.{Good}
-use Rattle.vault.specs.Block.{judgeOf, refusedBy}
-use Rattle.vault.specs.Parts.{partCount, placed}
+use Rattle.vault.specs.Block.{judgeOf}
+use Rattle.vault.specs.Parts.{partCount}
 use Rattle.stores.specs.declared.Holder.the-variants.{Neither}
 use Rattle.stores.specs.Stores.{shown}
 use Rattle.sender.specs.H261 as S
 use Rattle.receiver.specs.declared.Receiver.{Receiver}
 use Rattle.receiver.specs.declared.Standing.{Standing}
 use Rattle.receiver.specs.declared.Standing.the-variants as T
-use Rattle.receiver.specs.declared.Line.{Line}
-use Rattle.receiver.specs.declared.Line.the-variants.{Earlier, Next, Anew, Otherwise}
 use Rattle.receiver.specs.declared.Answer.{Answer}
 use Rattle.receiver.specs.declared.Answer.the-variants as A
-use Rattle.receiver.specs.Coding.{Found, accepted, refused, Coding}
-use Rattle.receiver.specs.Receive.{fresh, lineOf, Event, refusing, old, taken, lost, failed, finished, countOf, markOf, alike, Buffers, lengths, judged, ended, tookOf, byLine, byJudgement, decide, losing, answerOf, received, Outcome, cameTo, step}
+use Rattle.receiver.specs.Coding.{Coding}
+use Rattle.receiver.specs.Receive.{fresh, Event, refusing, old, taken, lost, failed, finished, markOf, Buffers, decide, losing, answerOf, received, Outcome, cameTo, step}
 use Rattle.receiver.specs.H261 as R
 use Rattle.receiver.specs.Shown.{whereShown, refusedLength, shownBy}
 use Rattle.receiver.specs.Run.{World}
-use Rattle.promises.specs.Clip.{Picture, Clip, opening, picturesIn, blocksIn, begin, Each, Receive, Show, afterBlock, given, upon, Shows, Right}
+use Rattle.promises.specs.Clip.{Picture, Clip, opening, picturesIn, blocksIn, begin, Receive, Show, afterBlock, given, upon, Shows, Right}
 use Rattle.promises.specs.Arrives.{inTurn, InStepAt}
 use Rattle.promises.specs.Demand3.{InStep, CatchesUp}
 use Rattle.promises.specs.Demand2.{first, first-valid, first-long, first-below}
 use Rattle.promises.specs.WrittenBack.{one-of}
 use Rattle.promises.specs.Finished.{none-shown}
-use Rattle.promises.specs.Step.{bitsOf, headerOf, Block, block-judged}
-use Rattle.promises.specs.Held.{block-of}
 use Rattle.promises.specs.InStep.{sound-clip}
 use Rattle.promises.specs.WholeClip.{blocksEach, clip-in-turn, whole-clip}
 use Rattle.promises.specs.H261.{h261-agrees, h261-meets}
-use Rattle.promises.specs.Renumbering.{renumbered, renumbering, Beside, beside-run}
+use Rattle.promises.specs.Renumbering.{renumbering, Ours, Still, ours-call, still-call, Beside, beside-run}
 use Rattle.promises.specs.Whole.{whole, whole-valid, whole-refresh, whole-written}
 use Rattle.promises.specs.Single.{single, Code, one, two, codeOf, single-valid, single-written, single-sample}
 use Rattle.promises.specs.Example.{blank-sized, newcomer, newcomer-named, clip, Sendable, firstSent, secondSent, one-picture, two-pictures}
-
--- ---- a run
--- of each of them
-abbrev Every : (List ℕ → Type 0) → List (List ℕ) → Type 0
-Every Q [] = Unit {0}
-Every Q (block ∷ blocks) = Q block × Every Q blocks
-
-every-all : (Q : List ℕ → Type 0) → ((block : List ℕ) → Q block) → (blocks : List (List ℕ)) → Every Q blocks
-every-all Q h [] = tt
-every-all Q h (block ∷ blocks) = (h block, every-all Q h blocks)
-
-each-of : (clip blocks : List (List ℕ)) → ((block : List ℕ) → List·Memᴰ block blocks → List·Memᴰ block clip) → Each clip blocks
-each-of clip [] h = tt
-each-of clip (block ∷ blocks) h = (h block (List·Memᴰ·head refl), each-of clip blocks (λ a m. h a (List·Memᴰ·tail m)))
-
-module _ (receive : Receive) where
-  given-append : (w : World) (before after : List (List ℕ)) → given receive w (before ++ after) ≡ given receive (given receive w before) after
-  unfolding given
-  given-append w [] after = refl
-  given-append w (block ∷ before) after = given-append (afterBlock receive w block) before after
-
-  -- what each call keeps, the run keeps
-  always : (P : World → Type 0) (Q : List ℕ → Type 0) → ((w : World) (block : List ℕ) → Q block → P w → P (afterBlock receive w block))
-      → (w : World) → P w → (blocks : List (List ℕ)) → Every Q blocks → P (given receive w blocks)
-  unfolding given
-  always P Q h w p [] q = p
-  always P Q h w p (block ∷ blocks) q = always P Q h (afterBlock receive w block) (h w block (q .0) p) blocks (q .1)
-
-  -- the last call of a run, which ends in step
-  record Ends {D : Type 0} (show : Show) (sent : List (Picture D)) (k : ℕ) (w : World) (blocks : List (List ℕ)) : Type 0 where
-    last : Outcome
-    is : given receive w blocks ≡ record { receiver = last .gave .next; lent = last .left }
-    stands : last .gave .next .standing ≡ T.InStep k
-    right : Right show sent last
-
-  ends : {D : Type 0} {show : Show} {sent : List (Picture D)} {k : ℕ} {w : World} {blocks : List (List ℕ)} → InStepAt receive show sent k w blocks → Ends show sent k w blocks
-  unfolding given
-  ends {D} {show} {sent} {k} {w} {blocks} h = record {
-    last = upon receive w (h .before) (h .block);
-    is = ap (given receive w) (h .is) ∙ given-append w (h .before) (h .block ∷ []);
-    stands = h .stands;
-    right = h .right;
-  }
+use Rattle.promises.specs.Calls.{Every, every-all, every-append, each-of, given-append, always, Ends, ends, Within, decide-within, Heads, every-head}
 
 -- ---- a fully INTRA picture, which can be sent
 abbrev start : Flat
@@ -144,159 +94,16 @@ pub lost-wrong : (receive : Receive) (show : Show) → ((r : Receiver) (block : 
     → CatchesUp S.h261 receive show → ⊥
 lost-wrong receive show stays catches = staying catches (λ (r : Receiver). r .standing ≡ T.Lost) refl stays (λ r e s. lost-in-step 0 (sym e ∙ s))
 
--- ---- what a call comes to, by the block's header
--- a part that is taken leaves the standing or begins to catch up; a finished picture is the block's own
-module _ {D : Type 0} (coding : Format → Coding D) where
-  abbrev Within : Receiver → Header → Event D → Type 0
-  Within r header (refusing why) = Unit {0}
-  Within r header (old h) = Unit {0}
-  Within r header (taken h standing) = (standing ≡ r .standing) ⊎ (standing ≡ T.Catching)
-  Within r header lost = Unit {0}
-  Within r header (failed h why) = Unit {0}
-  Within r header (finished h d) = h ≡ header
+-- one that is never in step after a call
+pub never-in-step-wrong : (receive : Receive) (show : Show) → ((r : Receiver) (block : List ℕ) (b : Buffers) (k : ℕ) → receive r block b .gave .next .standing ≡ T.InStep k → ⊥)
+    → CatchesUp S.h261 receive show → ⊥
+never-in-step-wrong receive show never catches =
+    staying catches (λ (r : Receiver). r .standing ≡ T.InStep 0 → ⊥) (lost-in-step 0) (λ r block b _ e. never r block b 0 e) (λ r p e. p e)
 
-  module _ (r : Receiver) (header : Header) where
-    ended-within : (found : Found D) → Within r header (ended coding r header found)
-    unfolding ended
-    ended-within (refused why) = tt
-    ended-within (accepted d) = go (alike (coding (r .format) .refresh d) (markOf r header))
-      where
-        go : (t : Bool) → Within r header (pick t (finished header d) (failed header (refusal UntrueMark 0)))
-        go true = refl
-        go false = tt
-
-    took-within : (standing : Standing) (collection : List ℕ) → (standing ≡ r .standing) ⊎ (standing ≡ T.Catching) → Within r header (tookOf coding r header standing collection)
-    unfolding tookOf
-    took-within standing collection s = go (header .last)
-      where
-        go : (t : Bool) → Within r header (pick t (ended coding r header (coding (r .format) .read collection (countOf header))) (taken header standing))
-        go true = ended-within (coding (r .format) .read collection (countOf header))
-        go false = s
-
-    line-within : (line : Line) (block collection : List ℕ) → Within r header (byLine coding line r header block collection)
-    unfolding byLine
-    line-within Earlier block collection = tt
-    line-within Next block collection = took-within (r .standing) (placed block (header .part) collection) (inl refl)
-    line-within Anew block collection = took-within T.Catching (placed block (header .part) collection) (inr refl)
-    line-within Otherwise block collection = tt
-
-  decide-within : (r : Receiver) (block : List ℕ) (b : Buffers) (header : Header) → judgeOf (r .format) (r .clip) block ≡ Good header → Within r header (decide coding r block b)
-  unfolding decide judged byJudgement
-  decide-within r block b header g =
-      subst (λ (c : Checked). Within r header (byJudgement coding (pick (lengths (r .format) b) c (refusedBy Length)) r block (b .collection))) (sym g) (go (lengths (r .format) b))
-    where
-      go : (t : Bool) → Within r header (byJudgement coding (pick t (Good header) (refusedBy Length)) r block (b .collection))
-      go true = line-within r header (lineOf r header) block (b .collection)
-      go false = tt
-
--- ---- the blocks of a picture, by their headers
-record Heads (f : Format) (clip : ℕ) (P : Header → Type 0) (block : List ℕ) : Type 0 where
-  header : Header
-  judged-as : judgeOf f clip block ≡ Good header
-  is : P header
-
-every-from : (Q : List ℕ → Type 0) (blocks : List (List ℕ)) → ((i : ℕ) (block : List ℕ) → getElem? blocks i ≡ some block → Q block) → Every Q blocks
-every-from Q [] h = tt
-every-from Q (block ∷ blocks) h = (h 0 block refl, every-from Q blocks (λ i. h (suc i)))
-
-every-append : (Q : List ℕ → Type 0) (before after : List (List ℕ)) → Every Q before → Every Q after → Every Q (before ++ after)
-every-append Q [] after b a = a
-every-append Q (block ∷ before) after b a = (b .0, every-append Q before after (b .1) a)
-
-every-head : (c : Clip Flat) (p : ℕ) (x : Picture Flat) → getElem? (picturesIn S.h261 c) p ≡ some x → (P : Header → Type 0)
-    → ((part : ℕ) → part < partCount (length (bitsOf S.h261 (c .format) x)) → P (headerOf S.h261 (c .format) x (c .number) p part)) → Every (Heads (c .format) (c .number) P) (x .blocks)
-every-head c p x at P h =
-    every-from (Heads (c .format) (c .number) P) (x .blocks)
-    (λ part block has.
-    let b : Block S.h261 (c .format) x (c .number) p part block = block-of h261-agrees (sound-clip h261-agrees c) (record { picture = x; at = at; has = has }) in
-    record { header = headerOf S.h261 (c .format) x (c .number) p part; judged-as = block-judged S.h261 (c .format) x b; is = h part (b .part-is .part-is) })
-
--- ---- wrong: "one that decodes picture 0 and then only renumbers it"
--- a receiver of this clip
-record Ours (f : Format) (clip : ℕ) (r : Receiver) : Type 0 where
-  clip-is : r .clip ≡ clip
-  format-is : r .format ≡ f
-
--- with the stores and the holder of v
-record Still (v w : World) : Type 0 where
-  clip-is : w .receiver .clip ≡ v .receiver .clip
-  format-is : w .receiver .format ≡ v .receiver .format
-  holder-is : w .receiver .holder ≡ v .receiver .holder
-  both-is : w .lent .both ≡ v .lent .both
-
-module _ {D : Type 0} (coding : Format → Coding D) where
-  ours-event : (f : Format) (clip : ℕ) (r : Receiver) (block : List ℕ) (b : Buffers) (e : Event D) → Ours f clip r → Ours f clip (renumbered (answerOf e) r b (cameTo coding r block b e) .gave .next)
-  unfolding cameTo
-  ours-event f clip r block b (refusing why) o = record { clip-is = o .clip-is; format-is = o .format-is }
-  ours-event f clip r block b (old h) o = record { clip-is = o .clip-is; format-is = o .format-is }
-  ours-event f clip r block b (taken h standing) o = record { clip-is = o .clip-is; format-is = o .format-is }
-  ours-event f clip r block b lost o = record { clip-is = o .clip-is; format-is = o .format-is }
-  ours-event f clip r block b (failed h why) o = record { clip-is = o .clip-is; format-is = o .format-is }
-  ours-event f clip r block b (finished h d) o = go (h .picture)
-    where
-      go : (n : ℕ) → Ours f clip (renumbered (A.Picture n) r b (cameTo coding r block b (finished h d)) .gave .next)
-      go zero = record { clip-is = o .clip-is; format-is = o .format-is }
-      go (suc n) = record { clip-is = o .clip-is; format-is = o .format-is }
-
-  ours-call : (f : Format) (clip : ℕ) (w : World) (block : List ℕ) → Ours f clip (w .receiver) → Ours f clip (afterBlock (renumbering coding) w block .receiver)
-  unfolding step cameTo
-  ours-call f clip w block o = ours-event f clip (w .receiver) block (w .lent) (decide coding (w .receiver) block (w .lent)) o
-
-  still-event : (v : World) (r : Receiver) (block : List ℕ) (b : Buffers) (e : Event D) (header : Header) (k : ℕ) → Within coding r header e → header .picture ≡ suc k
-      → Still v (record { receiver = r; lent = b })
-      → (let x = renumbered (answerOf e) r b (cameTo coding r block b e) in Still v (record { receiver = x .gave .next; lent = x .left }))
-  unfolding cameTo
-  still-event v r block b (refusing why) header k i p s = record { clip-is = s .clip-is; format-is = s .format-is; holder-is = s .holder-is; both-is = s .both-is }
-  still-event v r block b (old h) header k i p s = record { clip-is = s .clip-is; format-is = s .format-is; holder-is = s .holder-is; both-is = s .both-is }
-  still-event v r block b (taken h standing) header k i p s = record { clip-is = s .clip-is; format-is = s .format-is; holder-is = s .holder-is; both-is = s .both-is }
-  still-event v r block b lost header k i p s = record { clip-is = s .clip-is; format-is = s .format-is; holder-is = s .holder-is; both-is = s .both-is }
-  still-event v r block b (failed h why) header k i p s = record { clip-is = s .clip-is; format-is = s .format-is; holder-is = s .holder-is; both-is = s .both-is }
-  still-event v r block b (finished h d) header k i p s = go (h .picture) (ap (λ (g : Header). g .picture) i ∙ p)
-    where
-      go : (n : ℕ) → n ≡ suc k
-          → (let x = renumbered (A.Picture n) r b (cameTo coding r block b (finished h d)) in Still v (record { receiver = x .gave .next; lent = x .left }))
-      go zero e = absurd (omega arith)
-      go (suc n) e = record { clip-is = s .clip-is; format-is = s .format-is; holder-is = s .holder-is; both-is = s .both-is }
-
-  still-call : (f : Format) (clip : ℕ) (v w : World) (block : List ℕ) → Ours f clip (v .receiver) → Heads f clip (λ (h : Header). h .picture ≡ 1) block → Still v w
-      → Still v (afterBlock (renumbering coding) w block)
-  unfolding step cameTo
-  still-call f clip v w block o h s =
-      still-event v (w .receiver) block (w .lent) (decide coding (w .receiver) block (w .lent)) (h .header) 0
-      (decide-within coding (w .receiver) block (w .lent) (h .header)
-      ((λ i. judgeOf ((s .format-is ∙ o .format-is) i) ((s .clip-is ∙ o .clip-is) i) block) ∙ h .judged-as))
-      (h .is) s
-
--- the first sample of what a receiver in step shows
-abbrev sample : World → ℕ
-sample w = getD (shown (w .receiver .format) (w .receiver .holder) (w .lent .both)) 0 0
-
-sample-shown : {D : Type 0} (sent : List (Picture D)) (k n : ℕ) (x : Outcome) → x .gave .next .standing ≡ T.InStep k → Right shownBy sent x
-    → ((p : Picture D) → getElem? sent k ≡ some p → getD (p .store) 0 0 ≡ suc n) → sample (record { receiver = x .gave .next; lent = x .left }) ≡ suc n
-unfolding shownBy
-sample-shown {D} sent k n x stands right h = go (refusedLength (x .gave .answer)) (ap (λ (l : List ℕ). getD l 0 0) (shows .2) ∙ h (shows .0) (shows .1))
-  where
-    shows : Shows sent (T.InStep k) (shownBy (x .gave) (x .left .both))
-    shows = subst (λ (t : Standing). Shows sent t (shownBy (x .gave) (x .left .both))) stands right
-
-    go : (t : Bool) → getD (shown (x .gave .next .format) (pick t Neither (whereShown (x .gave .next .standing) (x .gave .next .holder))) (x .left .both)) 0 0 ≡ suc n
-        → getD (shown (x .gave .next .format) (x .gave .next .holder) (x .left .both)) 0 0 ≡ suc n
-    go true e =
-        let z : 0 ≡ suc n = sym (ap (λ (l : List ℕ). getD l 0 0) (none-shown (x .gave .next .format) (x .left .both))) ∙ e in
-        absurd (omega arith)
-    go false e = sym (ap (λ (t : Standing). getD (shown (x .gave .next .format) (whereShown t (x .gave .next .holder)) (x .left .both)) 0 0) stands) ∙ e
-
--- ---- the P1 picture's like, with one macroblock
-abbrev later : Code → Flat
-later c = laid Qcif (single (codeOf c))
-
-later-sendable : (c : Code) → Sendable S.h261 Qcif (later c)
-later-sendable c = sendable (later c) (single-valid c) (let l : length (pictureOf Qcif (pictureIn (later c))) ≡ 175 = single-written c in omega arith)
-
+-- ---- picture 0, and a picture after it
 abbrev picture1 : Flat → Picture Flat
 picture1 d = secondSent S.h261 rendered-length Qcif start d
 
--- picture 0, and a picture after it
 abbrev pair : Flat → Clip Flat
 pair d = clip Qcif (start ∷ d ∷ [])
 
@@ -318,6 +125,33 @@ module _ (d : Flat) (can : Sendable S.h261 Qcif d) where
   pair-drawn p e =
       let drawn = sound-clip h261-agrees (pair d) .drawn 1 p e in
       (drawn .0, drawn .1 ∙ ap (λ (y : Picture Flat). rendered Qcif (y .description) (drawn .0)) (Option·some-injective p (picture1 d) (sym e ∙ pair-second)))
+
+-- ---- wrong: "one that decodes picture 0 and then only renumbers it"
+-- the first sample of what a receiver in step shows
+abbrev sample : World → ℕ
+sample w = getD (shown (w .receiver .format) (w .receiver .holder) (w .lent .both)) 0 0
+
+sample-shown : {D : Type 0} (sent : List (Picture D)) (k n : ℕ) (x : Outcome) → x .gave .next .standing ≡ T.InStep k → Right shownBy sent x
+    → ((p : Picture D) → getElem? sent k ≡ some p → getD (p .store) 0 0 ≡ suc n) → sample (record { receiver = x .gave .next; lent = x .left }) ≡ suc n
+unfolding shownBy
+sample-shown {D} sent k n x stands right h = go (refusedLength (x .gave .answer)) (ap (λ (l : List ℕ). getD l 0 0) (shows .2) ∙ h (shows .0) (shows .1))
+  where
+    shows : Shows sent (T.InStep k) (shownBy (x .gave) (x .left .both))
+    shows = subst (λ (t : Standing). Shows sent t (shownBy (x .gave) (x .left .both))) stands right
+
+    go : (t : Bool) → getD (shown (x .gave .next .format) (pick t Neither (whereShown (x .gave .next .standing) (x .gave .next .holder))) (x .left .both)) 0 0 ≡ suc n
+        → getD (shown (x .gave .next .format) (x .gave .next .holder) (x .left .both)) 0 0 ≡ suc n
+    go true e =
+        let z : 0 ≡ suc n = sym (ap (λ (l : List ℕ). getD l 0 0) (none-shown (x .gave .next .format) (x .left .both))) ∙ e in
+        absurd (omega arith)
+    go false e = sym (ap (λ (t : Standing). getD (shown (x .gave .next .format) (whereShown t (x .gave .next .holder)) (x .left .both)) 0 0) stands) ∙ e
+
+-- a picture with one macroblock, to follow it
+abbrev later : Code → Flat
+later c = laid Qcif (single (codeOf c))
+
+later-sendable : (c : Code) → Sendable S.h261 Qcif (later c)
+later-sendable c = sendable (later c) (single-valid c) (let l : length (pictureOf Qcif (pictureIn (later c))) ≡ 175 = single-written c in omega arith)
 
 -- what it shows after picture 1 is what it had after picture 0, whichever picture 1 is
 module _ (meets : InStep S.h261 (renumbering R.h261) shownBy) where
@@ -402,8 +236,8 @@ marked (A.Taken n part) r b x = x
 marked A.Lost r b x = x
 marked (A.Refused why) r b x = x
 
-abbrev pub onlyRefreshes : {D : Type 0} → (Format → Coding D) → Receive
-onlyRefreshes coding r block b = marked (step coding r block b .gave .answer) r b (step coding r block b)
+abbrev pub onlyRefresh : {D : Type 0} → (Format → Coding D) → Receive
+onlyRefresh coding r block b = marked (step coding r block b .gave .answer) r b (step coding r block b)
 
 -- a block of picture 0, or one that is a whole picture and is no refresh
 abbrev Unmarked : Header → Type 0
@@ -445,7 +279,7 @@ module _ {D : Type 0} (coding : Format → Coding D) where
           first a c = omega arith
       go true e (inr z) = absurd (true≢false (sym e ∙ (λ j. pick (eqb (z .0 j) 0) (z .1 j) (r .refresh))))
 
-  before-call : (f : Format) (clip : ℕ) (w : World) (block : List ℕ) → Heads f clip Unmarked block → Before f clip (w .receiver) → Before f clip (afterBlock (onlyRefreshes coding) w block .receiver)
+  before-call : (f : Format) (clip : ℕ) (w : World) (block : List ℕ) → Heads f clip Unmarked block → Before f clip (w .receiver) → Before f clip (afterBlock (onlyRefresh coding) w block .receiver)
   unfolding step cameTo
   before-call f clip w block h s =
       before-event f clip (w .receiver) block (w .lent) (decide coding (w .receiver) block (w .lent)) (h .header)
@@ -468,9 +302,9 @@ first-one part l =
     let less : part < 1 = subst (λ (n : ℕ). part < partCount n) e l in
     omega arith
 
-pub only-refreshes-wrong : (show : Show) → CatchesUp S.h261 (onlyRefreshes R.h261) show → ⊥
-only-refreshes-wrong show catches =
-    let receive : Receive = onlyRefreshes R.h261 in
+pub only-refresh-wrong : (show : Show) → CatchesUp S.h261 (onlyRefresh R.h261) show → ⊥
+only-refresh-wrong show catches =
+    let receive : Receive = onlyRefresh R.h261 in
     let c : Clip Flat = pair first in
     let x : Picture Flat = picture1 first in
     let is : picturesIn S.h261 c ≡ picture0 ∷ x ∷ [] = pair-is first first-sendable in
