@@ -1,5 +1,5 @@
 -- Demand 2: "What our writer writes for a valid description is read back as that description, and its samples agree." Both formats by one proof, about the very
--- definitions that the promises of `write` and `decode` cite. Assumes nothing.
+-- definitions that the promises of `write`, `read` and `decode` cite. Assumes nothing.
 use Prim.Native.Nat.{ℕ, _+_, _*_, _-_, _≤_, _<_}
 use mathlib.Core.Path.{_≡_, refl, sym, ap, subst, _∙_}
 use mathlib.Core.Bool.{Bool, true, false}
@@ -25,6 +25,7 @@ use Rattle.description.specs.Valid.{valid, lengthsOf}
 use Rattle.layers.specs.Grammar.{reading}
 use Rattle.layers.specs.Answer.{mapRead}
 use Rattle.reader.specs.Described.{described}
+use Rattle.reader.specs.ReadOf.{readOf}
 use Rattle.writer.specs.declared.Written.{Written}
 use Rattle.writer.specs.declared.Written.the-variants.{Bits, Refused}
 use Rattle.writer.specs.Output.{written, lengths, writeOf, leaves, outputOf}
@@ -103,19 +104,22 @@ written-held f d out n e =
 
 -- ---- the theorem
 pub record ReadAgain (f : Format) (d : Flat) (out : List ℕ) (n : ℕ) : Type 0 where
-  -- "`read` .. is accepted, gives that very description, and takes exactly N bits": none is left, and the place is N
+  -- what the bits say is that very description, in exactly N bits: none is left, and the place is N
   pub read : described f (outputOf f d out) n ≡ got d [] n
+  -- so `read`, into any buffers of their lengths, is accepted and gives it
+  pub reads : (before : Flat) → lengthsOf f before ≡ true → readOf f (outputOf f d out) n before ≡ got d [] n
   -- "`decode` gives the samples that rendering the description gives"
   pub samples : (reference : List ℕ) → length reference ≡ storeLength f → decoded f (outputOf f d out) n reference (storeLength f) ≡ got (rendered f d reference) [] n
 
 -- whenever `write` answers N bits. "A longer or shorter N is not what was written": N is `Wrote`'s
 pub written-back : (f : Format) (d : Flat) (out : List ℕ) (n : ℕ) → writeOf f d (length out) ≡ Bits n → ReadAgain f d out n
-unfolding described drawn decoded written
+unfolding described drawn decoded readOf written
 written-back f d out n e =
     let w-is = wrote f d (length out) n e in
     let back : ReadBack f d (outputOf f d out) = reads-back f d (outputOf f d out) (w-is .is-valid) (w-is .below) (written-held f d out n e) in
     let again : mapRead (laid f) (reading f (outputOf f d out) n) ≡ got d [] n = rw (w-is .count, back .read, back .laidOut) refl in
     record {
       read = again;
+      reads = λ before l. rw (l, again) refl;
       samples = λ reference h. rw (eq-eqb (length reference) (storeLength f) h, eq-eqb (storeLength f) (storeLength f) refl, again) refl;
     }
