@@ -10,6 +10,7 @@ use lib.Dec.{T, lit<, lit≤}
 use lib.Seq.{take-take}
 use lib.ListN.{length, take, replicate, getD, length-replicate, getD-replicate}
 use Rattle.laws.specs.Choice.{pick, both}
+use Rattle.laws.specs.Zeros.{zeros, length-zeros}
 use Rattle.refusals.specs.declared.Refusal.{Refusal}
 use Rattle.refusals.specs.declared.Reason.the-variants.{Length, BitsEnd, Invalid, AboveLimit}
 use Rattle.refusals.specs.Number.{refusal}
@@ -29,6 +30,7 @@ use Rattle.reader.specs.Verdict.{accepted-valid, accepted-described}
 use Rattle.layers.specs.Answer.{mapRead}
 use Rattle.reader.specs.Described.{described}
 use Rattle.render.specs.Sample.{rendered}
+use Rattle.receiver.specs.Coding.{Found, accepted, refused}
 use Rattle.decoder.specs.Decoded.{drawn, decoded}
 use Rattle.writer.specs.declared.Written.{Written}
 use Rattle.writer.specs.declared.Written.the-variants.{Bits, Refused}
@@ -39,15 +41,11 @@ use Rattle.promises.specs.WrittenBack.{writes, written-held, written-bac
 use Rattle.promises.specs.Sheet.{picture1, bytes1, P1, says, shown}
 
 -- ---- a decoder: the first N bits of bytes and a reference store to a store, or a refusal
-pub data Answer (A : Type 0) : Type 0 where
-  accepted : A → Answer A
-  refused : Refusal → Answer A
-
 abbrev pub Decoder : Type 0
-Decoder = Format → List ℕ → ℕ → List ℕ → Answer (List ℕ)
+Decoder = Format → List ℕ → ℕ → List ℕ → Found (List ℕ)
 
 -- what `decode`'s promise says, for stores of their length
-abbrev pub answered : {A : Type 0} → Read A → Answer A
+abbrev pub answered : {A : Type 0} → Read A → Found A
 answered (got a left at) = accepted a
 answered (unread why) = refused why
 answered endless = refused (refusal Length 0)
@@ -62,7 +60,7 @@ pub record Follows (f : Format) (bytes : List ℕ) (n : ℕ) : Type 0 where
   pub at : ℕ
   pub reads : reading f bytes n ≡ got picture left at
 
-pub record Accepts (x : Answer (List ℕ)) : Type 0 where
+pub record Accepts (x : Found (List ℕ)) : Type 0 where
   pub store : List ℕ
   pub is : x ≡ accepted store
 
@@ -90,30 +88,24 @@ unfolding decoded drawn described
 decode-is f bytes n reference e = rw (eq-eqb (length reference) (storeLength f) e, eq-eqb (storeLength f) (storeLength f) refl) refl
 
 module _ (f : Format) (bytes : List ℕ) (n : ℕ) (reference : List ℕ) (e : length reference ≡ storeLength f) where
-  given : (p : Picture) (left : List Bit) (at : ℕ) → reading f bytes n ≡ got p left at → decode f bytes n reference ≡ accepted (rendered f (laid f p) reference)
-  given p left at r =
-      decode-is f bytes n reference e ∙ ap (λ (x : Read Picture). answered (mapRead (λ d. rendered f d reference) (mapRead (laid f) x))) r
+  -- what it answers where this is read
+  by : {x : Read Picture} → reading f bytes n ≡ x → decode f bytes n reference ≡ answered (mapRead (λ d. rendered f d reference) (mapRead (laid f) x))
+  by r = decode-is f bytes n reference e ∙ ap (λ (x : Read Picture). answered (mapRead (λ d. rendered f d reference) (mapRead (laid f) x))) r
 
   follows-if : (x : Read Picture) → reading f bytes n ≡ x → Accepts (decode f bytes n reference) → Follows f bytes n
   follows-if (got p left at) r a = record { picture = p; left = left; at = at; reads = r }
   follows-if (unread why) r a = absurd (refused-accepted why (a .store) (sym (by r) ∙ a .is))
-    where
-      by : reading f bytes n ≡ unread why → decode f bytes n reference ≡ refused why
-      by r = decode-is f bytes n reference e ∙ ap (λ (x : Read Picture). answered (mapRead (λ d. rendered f d reference) (mapRead (laid f) x))) r
   follows-if endless r a = absurd (refused-accepted (refusal Length 0) (a .store) (sym (by r) ∙ a .is))
-    where
-      by : reading f bytes n ≡ endless → decode f bytes n reference ≡ refused (refusal Length 0)
-      by r = decode-is f bytes n reference e ∙ ap (λ (x : Read Picture). answered (mapRead (λ d. rendered f d reference) (mapRead (laid f) x))) r
 
 pub decode-exactly : AcceptedExactly decode
 decode-exactly = record {
-  then = λ f bytes n reference e h. record { store = rendered f (laid f (h .picture)) reference; is = given f bytes n reference e (h .picture) (h .left) (h .at) (h .reads) };
+  then = λ f bytes n reference e h. record { store = rendered f (laid f (h .picture)) reference; is = by f bytes n reference e (h .reads) };
   only = λ f bytes n reference e a. follows-if f bytes n reference e (reading f bytes n) refl a;
 }
 
 pub decode-samples : EverySample decode
 decode-samples = record {
-  samples = λ f bytes n reference store h e a. accepted-same store _ (sym a ∙ given f bytes n reference e (h .picture) (h .left) (h .at) (h .reads));
+  samples = λ f bytes n reference store h e a. accepted-same store _ (sym a ∙ by f bytes n reference e (h .reads));
 }
 
 -- ---- wrong: "a reader that refuses everything"
@@ -168,12 +160,12 @@ fixed-samples-wrong d store same h =
     omega arith
 
 -- ---- a writer: a description and what the output holds before, to the answer and what it holds after
-pub record Wrote : Type 0 where
+pub record Output : Type 0 where
   pub answer : Written
   pub output : List ℕ
 
 abbrev pub Writer : Type 0
-Writer = Format → Flat → List ℕ → Wrote
+Writer = Format → Flat → List ℕ → Output
 
 -- what `write`'s promise says
 abbrev pub write : Writer
@@ -239,12 +231,11 @@ first-written : (out : List ℕ) → length out ≡ outputLength Qcif → writeO
 first-written out e = writes Qcif first out first-valid first-below e ∙ ap Bits first-long
 
 -- an output of its length
-unfoldable outputBefore : List ℕ
-outputBefore = replicate (outputLength Qcif) 0
+abbrev outputBefore : List ℕ
+outputBefore = zeros (outputLength Qcif)
 
 output-long : length outputBefore ≡ outputLength Qcif
-unfolding outputBefore
-output-long = length-replicate {A = ℕ} (outputLength Qcif) 0
+output-long = length-zeros (outputLength Qcif)
 
 -- ---- wrong: "a writer that writes the P1 picture for all"
 abbrev pub firstForAll : Writer

@@ -5,8 +5,9 @@ use mathlib.Core.List.{List, [], _∷_, _++_}
 use Prim.Native.Nat.{ℕ, _≤_, _<_}
 use borrow.Author.Tests.{eq-eqb}
 use lib.Dec.{eqb, lit<}
-use lib.ListN.{length, replicate, length-replicate}
+use lib.ListN.{length}
 use Rattle.laws.specs.Choice.{either, opposite}
+use Rattle.laws.specs.Zeros.{zeros, length-zeros}
 use Rattle.format.specs.declared.Format.{Format}
 use Rattle.format.specs.Format.{limit, storeLength, collectionLength, blocksLength}
 use Rattle.vault.specs.Block.{pictures as mostPictures}
@@ -20,19 +21,12 @@ use Rattle.promises.specs.Clip.{Picture, sentAs, pictures, Clip, opening
 use Rattle.promises.specs.Finished.{bothSized, kept-sized}
 use Rattle.promises.specs.Step.{lengths-make}
 
-unfoldable pub zeros : ℕ → List ℕ
-zeros n = replicate n 0
-
-zeros-long : (n : ℕ) → length (zeros n) ≡ n
-unfolding zeros
-zeros-long n = length-replicate n 0
-
 abbrev pub blank : Format → Stores
 blank f = stores (zeros (storeLength f)) (zeros (storeLength f))
 
 pub blank-sized : (f : Format) → bothSized f (blank f) ≡ true
 blank-sized f =
-    let e = eq-eqb (length (zeros (storeLength f))) (storeLength f) (zeros-long (storeLength f)) in
+    let e = eq-eqb (length (zeros (storeLength f))) (storeLength f) (length-zeros (storeLength f)) in
     rw e
 
 -- ---- a fresh receiver of clip 1
@@ -40,7 +34,7 @@ abbrev pub newcomer : (f : Format) → Fresh 1 f
 newcomer f = record { receiver = R.fresh 1 f; is-open = refl; lent = record { collection = zeros (collectionLength f); both = blank f } }
 
 pub newcomer-named : (f : Format) → R.lengths f (newcomer f .lent) ≡ true
-newcomer-named f = lengths-make f (zeros (collectionLength f)) (blank f) (zeros-long (collectionLength f)) (blank-sized f)
+newcomer-named f = lengths-make f (zeros (collectionLength f)) (blank f) (length-zeros (collectionLength f)) (blank-sized f)
 
 -- ---- clip 1
 module _ {D : Type 0} where
@@ -89,7 +83,7 @@ module _ {D : Type 0} (coding : Format → Coding D) where
         judged =
             below coding (w .sender) d lent
             (record {
-              named-is = rw (can .named, eq-eqb (length (zeros (blocksLength f))) (blocksLength f) (zeros-long (blocksLength f))) sized;
+              named-is = rw (can .named, eq-eqb (length (zeros (blocksLength f))) (blocksLength f) (length-zeros (blocksLength f))) sized;
               counted = few;
               valid-is = can .valid;
               refresh-is = refl;
