@@ -1,12 +1,12 @@
 -- A number cut to a range: "cut to -2048..2047", "cut to -256..255", "cut to 0..255". Assumes nothing.
-use mathlib.Core.Path.{_≡_, refl, sym, ap}
+use mathlib.Core.Path.{_≡_, refl, sym, ap, _∙_}
 use mathlib.Core.Bool.{Bool, true, false}
-use Prim.Native.Nat.{ℕ, _≤_, _<_, suc-le-suc}
-use native.Mathlib.Nat.{le-trans}
-use borrow.Author.Tests.{ltb-false}
-use lib.Dec.{ltb}
+use Prim.Native.Nat.{ℕ, _≤_, _<_, zero-le, suc-le-suc}
+use native.Mathlib.Nat.{le-trans, lt-trans}
+use borrow.Author.Tests.{ltb-false, ltb-true, lt-ltb, le-ltb}
+use lib.Dec.{ltb, lit≤}
 use lib.IntN.{ℤ, pos, negsuc}
-use lib.Signed.{ltZ}
+use lib.Signed.{ltZ, mag}
 use Rattle.laws.specs.Choice.{pick}
 use Rattle.laws.specs.Integer.{Low}
 
@@ -39,3 +39,53 @@ cut-low a b {m} p q (negsuc n) = below (ltb a n) refl
     below : (t : Bool) → ltb a n ≡ t → Low m (atMost (pos b) (pick t (negsuc a) (negsuc n)))
     below true e = record { low = p }
     below false e = record { low = le-trans (suc-le-suc (ltb-false a n e)) p }
+
+-- ---- a number may be cut to 16 bits before it is cut to less
+unfoldable pub short : ℤ → ℤ
+short z = cut (negsuc 32767) (pos 32767) z
+
+pub short-mag : (z : ℤ) → mag (short z) ≤ 32767
+unfolding short cut atLeast atMost
+short-mag (pos n) = above (ltb 32767 n) refl
+  where
+    above : (t : Bool) → ltb 32767 n ≡ t → mag (pick t (pos 32767) (pos n)) ≤ 32767
+    above true e = lit≤ tt
+    above false e = ltb-false 32767 n e
+short-mag (negsuc n) = below (ltb 32767 n) refl
+  where
+    below : (t : Bool) → ltb 32767 n ≡ t → mag (atMost (pos 32767) (pick t (negsuc 32767) (negsuc n))) ≤ 32767
+    below true e = lit≤ tt
+    below false e = ltb-false 32767 n e
+
+-- beyond 16 bits a test against less says true, at the bound as where the number was
+beyond : {b : ℕ} (n : ℕ) → b < 32767 → ltb 32767 n ≡ true → ltb b n ≡ true
+beyond {b} n l e = lt-ltb b n (lt-trans l (ltb-true 32767 n e))
+
+pub short-cut : (a b : ℕ) → a < 32767 → b < 32767 → (z : ℤ) → cut (negsuc a) (pos b) (short z) ≡ cut (negsuc a) (pos b) z
+unfolding short cut atLeast atMost
+short-cut a b p q (pos n) = above (ltb 32767 n) refl
+  where
+    above : (t : Bool) → ltb 32767 n ≡ t → cut (negsuc a) (pos b) (pick t (pos 32767) (pos n)) ≡ cut (negsuc a) (pos b) (pos n)
+    above true e = sym (pick-true (pos b) (pos 32767) (lt-ltb b 32767 q)) ∙ pick-true (pos b) (pos n) (beyond n q e)
+    above false e = refl
+short-cut a b p q (negsuc n) = below (ltb 32767 n) refl
+  where
+    below : (t : Bool) → ltb 32767 n ≡ t → cut (negsuc a) (pos b) (atMost (pos 32767) (pick t (negsuc 32767) (negsuc n))) ≡ cut (negsuc a) (pos b) (negsuc n)
+    below true e =
+        ap (atMost (pos b)) (sym (pick-true (negsuc a) (negsuc 32767) (lt-ltb a 32767 p)) ∙ pick-true (negsuc a) (negsuc n) (beyond n p e))
+    below false e = refl
+
+pub short-cut-zero : (b : ℕ) → b < 32767 → (z : ℤ) → cut (pos 0) (pos b) (short z) ≡ cut (pos 0) (pos b) z
+unfolding short cut atLeast atMost
+short-cut-zero b q (pos n) = above (ltb 32767 n) refl
+  where
+    above : (t : Bool) → ltb 32767 n ≡ t → cut (pos 0) (pos b) (pick t (pos 32767) (pos n)) ≡ cut (pos 0) (pos b) (pos n)
+    above true e =
+        sym (pick-true (pos b) (pos 32767) (lt-ltb b 32767 q)) ∙ pick-true (pos b) (pos n) (beyond n q e)
+        ∙ ap (atMost (pos b)) (pick-false (pos 0) (pos n) (le-ltb n 0 zero-le))
+    above false e = refl
+short-cut-zero b q (negsuc n) = below (ltb 32767 n)
+  where
+    below : (t : Bool) → cut (pos 0) (pos b) (atMost (pos 32767) (pick t (negsuc 32767) (negsuc n))) ≡ cut (pos 0) (pos b) (negsuc n)
+    below true = refl
+    below false = refl
