@@ -1,7 +1,7 @@
 // Packs the raw H.261 stream on standard input into blocks: `pack qcif CLIP` or `pack cif CLIP`, with a clip from 1 to 65535.
 //
 // Each picture reaches from its start code, at any bit, to the next one or to the stream's end. A refused picture is a line on standard error, and the next one takes its
-// number.
+// number. Where standard error is a terminal, a line there tells how far it has come.
 use arguments::ClipWord;
 use arguments::FormatWord;
 use format::Format;
@@ -15,11 +15,12 @@ use sender::Opened;
 use sender::Sender;
 use stream::Stream;
 
-// What has gone by of the stream, and the sender so far; whether the blocks can still be written.
+// What has gone by of the stream, and the sender so far; whether the blocks can still be written; whether a terminal shows how far it has come.
 struct Pack {
     stream: Stream,
     sender: Sender,
     writes: bool,
+    terminal: bool,
 }
 
 // Whether there is more to read, and what came of it so far.
@@ -28,7 +29,30 @@ struct Turn {
     pack: Pack,
 }
 
-fn say_refused(offset: usize, why: Refusal) {
+// The line that a terminal shows last makes room for another.
+fn clear(terminal: bool) {
+    if terminal {
+        io::write_all(STDERR_FILENO, b"\r\x1b[K");
+    }
+}
+
+fn say_progress(terminal: bool, pictures: u32, offset: usize) {
+    if terminal {
+        let mut text = [0u8; 128];
+        let count = remarks::progress(pictures as u64, offset as u64, &mut text);
+        io::write_all(STDERR_FILENO, &text[..count]);
+    }
+}
+
+// The last such line stays.
+fn end_progress(terminal: bool) {
+    if terminal {
+        io::write_all(STDERR_FILENO, b"\n");
+    }
+}
+
+fn say_refused(terminal: bool, offset: usize, why: Refusal) {
+    clear(terminal);
     let mut text = [0u8; 128];
     let count = remarks::refused(offset as u64, why, &mut text);
     io::write_all(STDERR_FILENO, &text[..count]);
@@ -69,18 +93,21 @@ fn send(
     match answer {
         Answer::Blocks(blocks) => {
             let writes = put_blocks(blocks, out);
+            say_progress(pack.terminal, next.picture, stream.offset);
             Pack {
                 stream,
                 sender: next,
                 writes,
+                terminal: pack.terminal,
             }
         }
         Answer::Refused(why) => {
-            say_refused(stream.offset, why);
+            say_refused(pack.terminal, stream.offset, why);
             Pack {
                 stream,
                 sender: next,
                 writes: pack.writes,
+                terminal: pack.terminal,
             }
         }
     }
@@ -109,7 +136,7 @@ fn finish(
     match verdict {
         Verdict::Accepted => send(pack, head, macroblocks, levels, out, first, second),
         Verdict::Refused(why) => {
-            say_refused(stream.offset, why);
+            say_refused(pack.terminal, stream.offset, why);
             pack
         }
     }
@@ -155,6 +182,7 @@ fn bit(
             stream: stream::push(stream, bit, picture),
             sender,
             writes: done.writes,
+            terminal: done.terminal,
         };
     }
     let sender = pack.sender;
@@ -162,6 +190,7 @@ fn bit(
         stream: stream::push(stream, bit, picture),
         sender,
         writes: pack.writes,
+        terminal: pack.terminal,
     }
 }
 
@@ -268,6 +297,7 @@ fn one(
 // Nothing says that the input ends, so the loop counts its turns.
 fn all(
     sender: Sender,
+    terminal: bool,
     picture: &mut [u8],
     head: &mut [u8],
     macroblocks: &mut [u8],
@@ -280,6 +310,7 @@ fn all(
         stream: stream::open(),
         sender,
         writes: true,
+        terminal,
     };
     let mut more = true;
     let mut n: u64 = 0;
@@ -295,6 +326,7 @@ fn all(
 // The stream, and the picture at its end.
 fn run(
     sender: Sender,
+    terminal: bool,
     picture: &mut [u8],
     head: &mut [u8],
     macroblocks: &mut [u8],
@@ -305,6 +337,7 @@ fn run(
 ) {
     let pack = all(
         sender,
+        terminal,
         picture,
         head,
         macroblocks,
@@ -328,7 +361,7 @@ fn run(
     );
 }
 
-fn qcif(sender: Sender) {
+fn qcif(sender: Sender, terminal: bool) {
     let mut picture = [0u8; 8192];
     let mut head = [0u8; 6];
     let mut macroblocks = [0u8; 396];
@@ -338,6 +371,7 @@ fn qcif(sender: Sender) {
     let mut second = [0u8; 38016];
     run(
         sender,
+        terminal,
         &mut picture,
         &mut head,
         &mut macroblocks,
@@ -348,7 +382,7 @@ fn qcif(sender: Sender) {
     );
 }
 
-fn cif(sender: Sender) {
+fn cif(sender: Sender, terminal: bool) {
     let mut picture = [0u8; 32768];
     let mut head = [0u8; 15];
     let mut macroblocks = [0u8; 1584];
@@ -358,6 +392,7 @@ fn cif(sender: Sender) {
     let mut second = [0u8; 152064];
     run(
         sender,
+        terminal,
         &mut picture,
         &mut head,
         &mut macroblocks,
@@ -375,12 +410,18 @@ fn usage() {
     );
 }
 
+fn record(format: Format, sender: Sender) {
+    let terminal = libc::isatty(STDERR_FILENO) == 1;
+    match format {
+        Format::Qcif => qcif(sender, terminal),
+        Format::Cif => cif(sender, terminal),
+    }
+    end_progress(terminal);
+}
+
 fn begin(format: Format, clip: u16) {
     match sender::open(clip, format) {
-        Opened::Open(sender) => match format {
-            Format::Qcif => qcif(sender),
-            Format::Cif => cif(sender),
-        },
+        Opened::Open(sender) => record(format, sender),
         Opened::Refused(_) => usage(),
     }
 }

@@ -4,7 +4,7 @@ ghost use mathlib.Core.Path.{_≡_};
 ghost use lib.ListN.{length};
 ghost use Rattle.io.specs.Counts.{Counts};
 ghost use Rattle.text.specs.Text.{over};
-ghost use Rattle.remarks.specs.Remarks.{stretchText, countText, refusedText};
+ghost use Rattle.remarks.specs.Remarks.{stretchText, countText, refusedText, progressText};
 
 // Blocks that were not in step.
 pub fn stretch(from: u64, to: u64, out: &mut [u8; 128]) -> usize
@@ -40,4 +40,16 @@ pub fn refused(offset: u64, why: Refusal, out: &mut [u8; 128]) -> usize
     let parted = text::put(b":", numbered, out);
     let told = text::put_refusal(why, parted, out);
     text::put(b"\n", told, out)
+}
+
+// How far a stream has come: over the line that a terminal shows last.
+pub fn progress(pictures: u64, offset: u64, out: &mut [u8; 128]) -> usize
+    ensures { λ r. ⌜ Counts r (now (out .exit)) ⌝ }
+    ensures { λ r. ⌜ r ≡ length (progressText pictures offset) ⌝ }
+    ensures { λ r. ⌜ now (out .exit) ≡ over (progressText pictures offset) (now (out .entry)) ⌝ }
+{
+    let cleared = text::put(b"\r\x1b[K", 0, out);
+    let counted = text::put_number(pictures, cleared, out);
+    let named = text::put(b" pictures, byte ", counted, out);
+    text::put_number(offset, named, out)
 }

@@ -8,11 +8,11 @@ use Rattle.pack.proofs.all.Statement.{statement}
 use Rattle.pack.proofs.all.Tie as tie
 
 abbrev Inv-loop : tie.InvT-loop
-Inv-loop picture₀ head₀ macroblocks₀ levels₀ out₀ first₀ second₀ pack₀ more₀ n₀ picture head macroblocks levels out first second pack more n =
+Inv-loop terminal picture₀ head₀ macroblocks₀ levels₀ out₀ first₀ second₀ pack₀ more₀ n₀ picture head macroblocks levels out first second pack more n =
     (n ≤ 18446744073709551615) × ((length picture ≡ length picture₀) × ((length head ≡ length head₀) × ((length macroblocks ≡ length macroblocks₀) × ((length levels ≡ length levels₀) × ((length out ≡ length out₀) × ((length first ≡ length first₀) × (length second ≡ length second₀)))))))
 
 abbrev μ-loop : tie.MeasureT-loop
-μ-loop picture₀ head₀ macroblocks₀ levels₀ out₀ first₀ second₀ pack₀ more₀ n₀ picture head macroblocks levels out first second pack more n = 18446744073709551615 - n
+μ-loop terminal picture₀ head₀ macroblocks₀ levels₀ out₀ first₀ second₀ pack₀ more₀ n₀ picture head macroblocks levels out first second pack more n = 18446744073709551615 - n
 
 open-requires : tie.Need-open-requires Inv-loop μ-loop
 open-requires c κs = search needs
