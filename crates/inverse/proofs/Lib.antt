@@ -1,3 +1,4 @@
 mod Halves
 mod Bounds
+mod Short
 mod Split

@@ -1,11 +1,10 @@
--- The sums of a column by its two parts, the rounding term in its first number, and the two passes together. Assumes nothing.
-use mathlib.Core.Path.{_≡_, refl, sym, ap, _∙_}
-use mathlib.Core.List.{List, []}
-use Prim.Native.Nat.{ℕ, zero, suc, _+_, _*_, _%_, _<_}
+-- The sums of the rows, those of a column by its two parts, the rounding term in its first number, and the two passes together. Assumes nothing.
+use mathlib.Core.Path.{_≡_, sym, ap, _∙_}
+use mathlib.Core.List.{List}
+use Prim.Native.Nat.{ℕ, zero, suc, _+_, _*_, _%_}
 use native.Mathlib.Nat.{mul-zero}
 use lib.Dec.{lit≤}
 use lib.IntN.{ℤ, pos, negsuc, _+ℤ_, _-ℤ_, _*ℤ_, +ℤ-idr, +ℤ-comm, -ℤ-+ℤ-cancel}
-use lib.ListN.{getD}
 use Rattle.laws.specs.Integer.{+ℤ-*ℤ}
 use Rattle.laws.specs.Floor.{floorDivided, floor-floor, floor-add}
 use Rattle.laws.specs.Sum.{sumZ, sum-mul, sum-ext}
@@ -20,6 +19,21 @@ use Rattle.transform.specs.Lines.{Line, entry}
 pub along-same : {g : ℕ → ℤ} {r : List ℤ} → Line g r → (x : ℕ) → along r x ≡ sumZ 8 (λ v. g v *ℤ A v x)
 unfolding along
 along-same h x = sum-ext 8 _ _ (λ v l. ap (λ (z : ℤ). z *ℤ A v x) (h .entries v l))
+
+-- what the rows give, from the block with rows and columns exchanged
+abbrev pub acrossAt : List (List ℤ) → ℕ → ℕ → ℤ
+acrossAt n v x = sumZ 8 (λ u. cell (pos 0) n u v *ℤ A u x)
+
+pub across-line : (n : List (List ℤ)) (v : ℕ) {l r : List ℤ} → Line (λ u. cell (pos 0) n u v) l → Line (along l) r → Line (acrossAt n v) r
+across-line n v h k = record { size = k .size; entries = λ x p. k .entries x p ∙ along-same h x }
+
+pub across-rows : (f n t : List (List ℤ)) → Is (pos 0) (λ u v. cell (pos 0) f v u) n → Is (pos 0) (acrossAt n) t → Is (pos 0) (rowsAt f) t
+unfolding along
+across-rows f n t h k =
+    record {
+      shape = k .shape;
+      cells = λ v x p q. k .cells v x p q ∙ sum-ext 8 _ _ (λ u l. ap (λ (z : ℤ). z *ℤ A u x) (h .cells u v l p));
+    }
 
 -- the two parts of numbers d, together
 module _ (d : ℕ → ℤ) (y : ℕ) where

@@ -1,9 +1,8 @@
 -- What the quick way of the inverse transform computes on its way: sums along a line of eight, by their even and odd halves. Assumes nothing.
-use mathlib.Core.Path.{_≡_}
 use mathlib.Core.List.{List, []}
-use Prim.Native.Nat.{ℕ, zero, suc, _+_, _≤_, _<_}
+use Prim.Native.Nat.{ℕ, zero, suc}
 use lib.IntN.{ℤ, pos, negsuc, _+ℤ_, _*ℤ_}
-use lib.ListN.{length, getD}
+use lib.ListN.{getD}
 use Rattle.laws.specs.Floor.{floorDivided}
 use Rattle.laws.specs.Block.{cell}
 use Rattle.laws.specs.Sum.{sumZ}
@@ -22,17 +21,6 @@ evenPart k2 k4 k6 = plus (plus (plus (term 0 (pos 2048)) (term 2 k2)) (term 4 k4
 
 abbrev pub oddPart : ℤ → ℤ → ℤ → ℤ → Lin
 oddPart k1 k3 k5 k7 = plus (plus (plus (term 1 k1) (term 3 k3)) (term 5 k5)) (term 7 k7)
-
--- all 0 from a place on, and all 0 but the number at (0, 0)
-abbrev pub ZeroFrom : List ℤ → ℕ → Type 0
-ZeroFrom row from = (i : ℕ) → from ≤ i → i < 8 → entry row i ≡ pos 0
-
-abbrev pub Lone : List (List ℤ) → Type 0
-Lone f = ZeroFrom (getD f 0 []) 1 × ((v : ℕ) → 1 ≤ v → v < 8 → ZeroFrom (getD f v []) 0)
-
--- what a number alone at (0, 0) gives everywhere
-unfoldable pub flatAt : ℤ → ℤ
-flatAt z = cut (negsuc 255) (pos 255) (floorDivided (z +ℤ pos 4) 8)
 
 -- what the rows give
 abbrev pub rowsAt : List (List ℤ) → ℕ → ℕ → ℤ

@@ -3,18 +3,19 @@
 // A pass goes by halves, the even places and the odd ones, which the compiler makes once for two results each. Both passes stay within
 // 32 bits: what the rows give is split into t = 8192 high + low, and (S + 2^24) / 2^25 is then (H + L / 8192) / 4096, rounded down each time, where H
 // and L are the sums of the two parts and the rounding term 2^24 = 8192 · 2048 stands in the first number of the line.
-use transform::cut::cut;
+use transform::cut::cut16;
+use transform::cut::short;
 ghost use mathlib.Core.Path.{_≡_};
-ghost use mathlib.Core.Bool.{true};
-ghost use Prim.Native.Nat.{ℕ, _+_, _*_, _<_, _≤_};
-ghost use lib.IntN.{ℤ, pos, negsuc, _+ℤ_, _-ℤ_, _*ℤ_};
+ghost use Prim.Native.Nat.{_<_};
+ghost use lib.IntN.{pos, _+ℤ_, _-ℤ_, _*ℤ_};
 ghost use Rattle.laws.specs.Integer.{Low};
 ghost use Rattle.laws.specs.Floor.{floorDivided};
 ghost use Rattle.laws.specs.Block.{Is, cell};
 ghost use Rattle.laws.specs.Linear.{eval, plus, less};
 ghost use Rattle.inverse.specs.Inverse.{inverseAt};
+ghost use Rattle.inverse.specs.Alone.{flatAt};
 ghost use Rattle.transform.specs.Lines.{Small, SmallRow, Line, entry};
-ghost use Rattle.inverse.specs.Passes.{along, evenPart, oddPart, ZeroFrom, Lone, flatAt, downAt, rowsAt, columnsAt, finished};
+ghost use Rattle.inverse.specs.Passes.{along, evenPart, oddPart, downAt, rowsAt, columnsAt, finished};
 
 // Eight products of 16384 by 2841 come to 372375552.
 fn more(sum: i32, number: i16, factor: i32) -> i32
@@ -73,18 +74,6 @@ fn pass(f: [i16; 8]) -> [i32; 8]
     ]
 }
 
-// Whether a row's numbers are all 0 from a place on.
-fn zero_from(f: [i32; 8], from: usize) -> bool
-    requires { ⌜ (SmallRow 2048 f) × (from ≤ 8) ⌝ }
-    ensures { λ r. ⌜ (r ≡ true → ZeroFrom f from) ⌝ }
-{
-    let mut bits: i32 = 0;
-    for i in from..8 {
-        bits = bits | f[i];
-    }
-    bits == 0
-}
-
 fn narrow(z: i32) -> i16
     requires { ⌜ Low 16384 z ⌝ }
     ensures { λ r. ⌜ r ≡ z ⌝ }
@@ -92,43 +81,66 @@ fn narrow(z: i32) -> i16
     z as i16
 }
 
-fn narrowed(f: [i32; 8]) -> [i16; 8]
-    requires { ⌜ SmallRow 2048 f ⌝ }
-    ensures { λ r. ⌜ Line (entry f) r ⌝ }
+// Column u of the block, in 16 bits.
+fn narrowed(f: &[[i32; 8]; 8], u: usize) -> [i16; 8]
+    requires { ⌜ (Small 2048 (now f)) × (u < 8) ⌝ }
+    ensures { λ r. ⌜ Line (λ v. cell (pos 0) (now (f .entry)) v u) r ⌝ }
 {
     [
-        narrow(f[0]),
-        narrow(f[1]),
-        narrow(f[2]),
-        narrow(f[3]),
-        narrow(f[4]),
-        narrow(f[5]),
-        narrow(f[6]),
-        narrow(f[7]),
+        narrow(f[0][u]),
+        narrow(f[1][u]),
+        narrow(f[2][u]),
+        narrow(f[3][u]),
+        narrow(f[4][u]),
+        narrow(f[5][u]),
+        narrow(f[6][u]),
+        narrow(f[7][u]),
     ]
 }
 
-// A row of coefficients, with a short way for one that has a first number alone, or none.
-fn row(f: [i32; 8]) -> [i32; 8]
-    requires { ⌜ SmallRow 2048 f ⌝ }
-    ensures { λ r. ⌜ Line (along f) r ⌝ }
+// Rows and columns exchanged: the rows' passes are then done several at once.
+fn turned(f: [[i32; 8]; 8]) -> [[i16; 8]; 8]
+    requires { ⌜ Small 2048 f ⌝ }
+    ensures { λ r. ⌜ Is (pos 0) (λ u v. cell (pos 0) f v u) r ⌝ }
 {
-    if zero_from(f, 1) {
-        let a = more(0, narrow(f[0]), 2048);
-        return [a; 8];
-    }
-    pass(narrowed(f))
+    [
+        narrowed(&f, 0),
+        narrowed(&f, 1),
+        narrowed(&f, 2),
+        narrowed(&f, 3),
+        narrowed(&f, 4),
+        narrowed(&f, 5),
+        narrowed(&f, 6),
+        narrowed(&f, 7),
+    ]
+}
+
+// Row v of the block, from the block turned.
+fn line(n: &[[i16; 8]; 8], v: usize) -> [i16; 8]
+    requires { ⌜ (Small 2048 (now n)) × (v < 8) ⌝ }
+    ensures { λ r. ⌜ Line (λ u. cell (pos 0) (now (n .entry)) u v) r ⌝ }
+{
+    [
+        n[0][v],
+        n[1][v],
+        n[2][v],
+        n[3][v],
+        n[4][v],
+        n[5][v],
+        n[6][v],
+        n[7][v],
+    ]
 }
 
 fn rows(f: [[i32; 8]; 8]) -> [[i32; 8]; 8]
     requires { ⌜ Small 2048 f ⌝ }
     ensures { λ r. ⌜ Is (pos 0) (rowsAt f) r ⌝ }
 {
+    let n = turned(f);
     let zeros = [0i32; 8];
     let mut t = [zeros; 8];
     for v in 0..8 {
-        let f_v = f[v];
-        t[v] = row(f_v);
+        t[v] = pass(line(&n, v));
     }
     t
 }
@@ -200,7 +212,7 @@ fn finish(h: i32, l: i32) -> i32
     requires { ⌜ (Low 372375552 h) × (Low 372375552 l) ⌝ }
     ensures { λ r. ⌜ r ≡ finished h l ⌝ }
 {
-    cut(-256, 255, (h + (l >> 13)) >> 12)
+    cut16(-256, 255, short((h + (l >> 13)) >> 12)) as i32
 }
 
 fn columns(t: [[i32; 8]; 8]) -> [[i32; 8]; 8]
@@ -220,40 +232,19 @@ fn columns(t: [[i32; 8]; 8]) -> [[i32; 8]; 8]
     out
 }
 
-// Whether all but the number at (0, 0) is 0. Most blocks that have more show it in their first rows.
-fn lone(f: &[[i32; 8]; 8]) -> bool
-    requires { ⌜ Small 2048 (now f) ⌝ }
-    ensures { λ r. ⌜ (r ≡ true → Lone (now (f .entry))) ⌝ }
-{
-    let first = f[0];
-    if !zero_from(first, 1) {
-        return false;
-    }
-    for v in 1..8 {
-        let f_v = f[v];
-        if !zero_from(f_v, 0) {
-            return false;
-        }
-    }
-    true
-}
-
-// What a number alone at (0, 0) gives everywhere.
-fn flat(z: i32) -> i32
-    requires { ⌜ Low 2048 z ⌝ }
-    ensures { λ r. ⌜ r ≡ flatAt z ⌝ }
-{
-    cut(-256, 255, (z + 4) >> 3)
-}
-
 pub fn inverse(f: [[i32; 8]; 8]) -> [[i32; 8]; 8]
     requires { ⌜ Small 2048 f ⌝ }
     ensures { λ r. ⌜ Is (pos 0) (inverseAt f) r ⌝ }
 {
-    if lone(&f) {
-        let z = flat(f[0][0]);
-        let line = [z; 8];
-        return [line; 8];
-    }
     columns(rows(f))
+}
+
+// What a number alone at (0, 0) gives, everywhere the same.
+pub fn alone(z: i32) -> [[i32; 8]; 8]
+    requires { ⌜ Low 2048 z ⌝ }
+    ensures { λ r. ⌜ Is (pos 0) (λ y x. flatAt z) r ⌝ }
+{
+    let number = cut16(-256, 255, short((z + 4) >> 3)) as i32;
+    let line = [number; 8];
+    [line; 8]
 }
