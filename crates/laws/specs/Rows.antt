@@ -124,30 +124,35 @@ row-as a r = record { size = r .size; inside = λ j l. r .inside j l ∙ a j l; 
 pub put-as : {h w start stride : ℕ} {g e : ℕ → ℕ → ℕ} {s t : List ℕ} → ((i j : ℕ) → i < h → j < w → g i j ≡ e i j) → Put h w start stride g s t → Put h w start stride e s t
 put-as a r = record { size = r .size; inside = λ i j l m. r .inside i j l m ∙ a i j l m; outside = r .outside }
 
--- ---- a list of m elements whose first n are what g says
-pub record Begins (m n : ℕ) (g : ℕ → ℕ) (r : List ℕ) : Type 0 where
+-- ---- a list of m elements whose first n are what g says; past its end d is read
+pub record Starts {A : Type 0} (d : A) (m n : ℕ) (g : ℕ → A) (r : List A) : Type 0 where
   pub size : length r ≡ m
-  pub first : (j : ℕ) → j < n → getD r j 0 ≡ g j
+  pub first : (j : ℕ) → j < n → getD r j d ≡ g j
 
-pub begins-none : {m : ℕ} {g : ℕ → ℕ} {r : List ℕ} → length r ≡ m → Begins m 0 g r
-begins-none e = record { size = e; first = λ j l. absurd (none l) }
+-- a list of bytes
+abbrev pub Begins : ℕ → ℕ → (ℕ → ℕ) → List ℕ → Type 0
+Begins m n g r = Starts 0 m n g r
 
--- one element more
-pub begins-more : {m n : ℕ} {g : ℕ → ℕ} {r : List ℕ} {a : ℕ} → Begins m n g r → n < m → a ≡ g n → Begins m (n + 1) g (set r n a)
-begins-more {m} {n} {g} {r} {a} h l e = record { size = length-set r n a ∙ h .size; first = λ j q. go j (eq-or-lt-of-le (at-most j q)) }
-  where
-    at-most : (j : ℕ) → j < n + 1 → j ≤ n
-    at-most j q = omega arith
+module _ {A : Type 0} {d : A} {m : ℕ} {g : ℕ → A} {r : List A} where
+  pub begins-none : length r ≡ m → Starts d m 0 g r
+  begins-none e = record { size = e; first = λ j l. absurd (none l) }
 
-    apart : (j : ℕ) → j < n → j ≢ n
-    apart j q f = omega arith
+  -- one element more
+  pub begins-more : {n : ℕ} {a : A} → Starts d m n g r → n < m → a ≡ g n → Starts d m (n + 1) g (set r n a)
+  begins-more {n} {a} h l e = record { size = length-set r n a ∙ h .size; first = λ j q. go j (eq-or-lt-of-le (at-most j q)) }
+    where
+      at-most : (j : ℕ) → j < n + 1 → j ≤ n
+      at-most j q = omega arith
 
-    inside : n < length r
-    inside = omega (arith, h .size)
+      apart : (j : ℕ) → j < n → j ≢ n
+      apart j q f = omega arith
 
-    go : (j : ℕ) → (j ≡ n) ⊎ (j < n) → getD (set r n a) j 0 ≡ g j
-    go j (inl f) = ap (λ (k : ℕ). getD (set r n a) k 0) f ∙ getD-set-same r n a 0 inside ∙ e ∙ ap g (sym f)
-    go j (inr q) = getD-set-other r n j a 0 (apart j q) ∙ h .first j q
+      inside : n < length r
+      inside = omega (arith, h .size)
 
-pub begins-end : {m n : ℕ} {g : ℕ → ℕ} {r : List ℕ} → Begins m n g r → m ≤ n → Begins m m g r
-begins-end {m} {n} h l = record { size = h .size; first = λ j q. h .first j (omega arith) }
+      go : (j : ℕ) → (j ≡ n) ⊎ (j < n) → getD (set r n a) j d ≡ g j
+      go j (inl f) = ap (λ (k : ℕ). getD (set r n a) k d) f ∙ getD-set-same r n a d inside ∙ e ∙ ap g (sym f)
+      go j (inr q) = getD-set-other r n j a d (apart j q) ∙ h .first j q
+
+  pub begins-end : {n : ℕ} → Starts d m n g r → m ≤ n → Starts d m m g r
+  begins-end h l = record { size = h .size; first = λ j q. h .first j (omega arith) }

@@ -1,3 +1,3 @@
-mod Placing
+mod Coefficients
 pub mod Bits
 mod Rows

@@ -1,108 +1,60 @@
 // The dequantiser: from the 64 bytes of a block, in transmission order, to its coefficients.
-use crate::cut::cut;
+use crate::cut::cut16;
 ghost use mathlib.Core.Path.{_≡_};
-ghost use Prim.Native.Nat.{ℕ, _+_, _*_, _<_, _≤_};
-ghost use lib.IntN.{ℤ, pos, negℤ};
-ghost use lib.ListN.{length};
+ghost use mathlib.Core.List.{[], _∷_};
+ghost use Prim.Native.Nat.{ℕ, _+_, _<_, _≤_};
+ghost use lib.IntN.{ℤ, pos};
+ghost use lib.ListN.{getD, length};
+ghost use Rattle.laws.specs.Integer.{Low};
+ghost use Rattle.laws.specs.Rows.{Starts};
 ghost use Rattle.laws.specs.Block.{Is};
-ghost use Rattle.transform.specs.Level.{bytesFrom, levelOf, magnitude, coefficient, direct, coefficientAt};
+ghost use Rattle.transform.specs.Lines.{SmallRow, Line, entry};
+ghost use Rattle.transform.specs.Level.{bytesFrom, levelOf, magnitude, signed, coefficient, direct, valueAt, positionAt, coefficientAt};
 
-// Figure 12 turned round: 8 times the row plus the column, at each position.
-const PLACES: [u8; 64] = [
-    0,
-    1,
-    8,
-    16,
-    9,
-    2,
-    3,
-    10,
-    17,
-    24,
-    32,
-    25,
-    18,
-    11,
-    4,
-    5,
-    12,
-    19,
-    26,
-    33,
-    40,
-    48,
-    41,
-    34,
-    27,
-    20,
-    13,
-    6,
-    7,
-    14,
-    21,
-    28,
-    35,
-    42,
-    49,
-    56,
-    57,
-    50,
-    43,
-    36,
-    29,
-    22,
-    15,
-    23,
-    30,
-    37,
-    44,
-    51,
-    58,
-    59,
-    52,
-    45,
-    38,
-    31,
-    39,
-    46,
-    53,
-    60,
-    61,
-    54,
-    47,
-    55,
-    62,
-    63,
-];
-
-// -n
-fn minus(n: u32) -> i32
-    requires { ⌜ n ≤ 2147483647 ⌝ }
-    ensures { λ r. ⌜ r ≡ negℤ (pos n) ⌝ }
-{
-    0 - (n as i32)
-}
-
-fn magnitude(quantiser: u32, size: u32) -> u32
-    requires { ⌜ (1 ≤ quantiser) × (quantiser ≤ 31) × (size ≤ 128) ⌝ }
-    ensures { λ r. ⌜ r ≡ magnitude quantiser size ⌝ }
-{
-    let m = quantiser * (2 * size + 1);
-    if quantiser % 2 == 0 { m - 1 } else { m }
-}
-
-// What the byte of a level other than 0 stands for.
-fn coefficient(byte: u8, quantiser: u8) -> i32
-    requires { ⌜ (1 ≤ quantiser) × (quantiser ≤ 31) × (0 < byte) ⌝ }
-    ensures { λ r. ⌜ r ≡ coefficient quantiser (levelOf byte) ⌝ }
+// A level is a byte in two's complement.
+fn level(byte: u8) -> i16
+    ensures { λ r. ⌜ r ≡ levelOf byte ⌝ }
 {
     if byte < 128 {
-        let m = magnitude(quantiser as u32, byte as u32);
-        cut(-2048, 2047, m as i32)
+        byte as i16
     } else {
-        let m = magnitude(quantiser as u32, 256 - (byte as u32));
-        cut(-2048, 2047, minus(m))
+        (byte as i16) - 256
     }
+}
+
+// Q, or Q - 1 where Q is even.
+fn odd(quantiser: u8) -> i16
+    requires { ⌜ (1 ≤ quantiser) × (quantiser ≤ 31) ⌝ }
+    ensures { λ r. ⌜ r ≡ pos (magnitude quantiser 0) ⌝ }
+{
+    if quantiser % 2 == 0 {
+        (quantiser as i16) - 1
+    } else {
+        quantiser as i16
+    }
+}
+
+// A number with the sign of a level; 0 for level 0.
+fn signed(number: i16, level: i16) -> i16
+    requires { ⌜ Low 32767 number ⌝ }
+    ensures { λ r. ⌜ r ≡ signed number level ⌝ }
+{
+    let plus: i16 = if 0 < level { number } else { 0 };
+    let minus: i16 = if level < 0 { number } else { 0 };
+    plus - minus
+}
+
+// What a level's byte stands for, without a branch: s Q (2 |L| + 1) is 2 Q L + s Q.
+fn coefficient(byte: u8, quantiser: u8) -> i16
+    requires { ⌜ (1 ≤ quantiser) × (quantiser ≤ 31) ⌝ }
+    ensures { λ r. ⌜ r ≡ coefficient quantiser (levelOf byte) ⌝ }
+{
+    let l = level(byte);
+    cut16(
+        -2048,
+        2047,
+        2 * (quantiser as i16) * l + signed(odd(quantiser), l),
+    )
 }
 
 fn direct(code: u8) -> i32
@@ -111,45 +63,81 @@ fn direct(code: u8) -> i32
     if code == 255 { 1024 } else { 8 * (code as i32) }
 }
 
-// How many of eight bytes to look at: none where all are 0, as most are.
-fn busy(levels: &[u8], at: usize) -> usize
-    requires { ⌜ at + 8 ≤ length (now levels) ⌝ }
-    ensures { λ r. ⌜ (r ≤ 8) × ((k : ℕ) → r ≤ k → k < 8 → bytesFrom (now (levels .entry)) at k ≡ 0) ⌝ }
+// The coefficients of a block, in transmission order.
+fn coefficients(levels: &[u8], at: usize, quantiser: u8) -> [i16; 64]
+    requires { ⌜ (at + 64 ≤ length (now levels)) × (1 ≤ quantiser) × (quantiser ≤ 31) ⌝ }
+    ensures { λ r. ⌜ Starts (pos 0) 64 64 (λ k. coefficient quantiser (levelOf (bytesFrom (now (levels .entry)) at k))) r ⌝ }
 {
-    let bits = levels[at]
-        | levels[at + 1]
-        | levels[at + 2]
-        | levels[at + 3]
-        | levels[at + 4]
-        | levels[at + 5]
-        | levels[at + 6]
-        | levels[at + 7];
-    if bits == 0 { 0 } else { 8 }
+    let mut numbers = [0i16; 64];
+    for k in 0..64 {
+        numbers[k] = coefficient(levels[at + k], quantiser);
+    }
+    numbers
 }
 
-// A cell whose level is 0 is left as it is.
+// The numbers at eight positions.
+fn row(
+    n: &[i16; 64],
+    a: usize,
+    b: usize,
+    c: usize,
+    d: usize,
+    e: usize,
+    f: usize,
+    g: usize,
+    h: usize,
+) -> [i32; 8]
+    requires { ⌜ (SmallRow 2048 (now n)) × (a < 64) × (b < 64) × (c < 64) × (d < 64) × (e < 64) × (f < 64) × (g < 64) × (h < 64) ⌝ }
+    ensures { λ r. ⌜ Line (λ x. entry (now (n .entry)) (getD (a ∷ b ∷ c ∷ d ∷ e ∷ f ∷ g ∷ h ∷ []) x 0)) r ⌝ }
+{
+    [
+        n[a] as i32,
+        n[b] as i32,
+        n[c] as i32,
+        n[d] as i32,
+        n[e] as i32,
+        n[f] as i32,
+        n[g] as i32,
+        n[h] as i32,
+    ]
+}
+
+// Figure 12, counted from 0.
+fn placed(n: &[i16; 64]) -> [[i32; 8]; 8]
+    requires { ⌜ SmallRow 2048 (now n) ⌝ }
+    ensures { λ r. ⌜ Is (pos 0) (λ i j. entry (now (n .entry)) (positionAt i j)) r ⌝ }
+{
+    [
+        row(n, 0, 1, 5, 6, 14, 15, 27, 28),
+        row(n, 2, 4, 7, 13, 16, 26, 29, 42),
+        row(n, 3, 8, 12, 17, 25, 30, 41, 43),
+        row(n, 9, 11, 18, 24, 31, 40, 44, 53),
+        row(n, 10, 19, 23, 32, 39, 45, 52, 54),
+        row(n, 20, 22, 33, 38, 46, 51, 55, 60),
+        row(n, 21, 34, 37, 47, 50, 56, 59, 61),
+        row(n, 35, 36, 48, 49, 57, 58, 62, 63),
+    ]
+}
+
 pub fn dequantise(levels: &[u8], at: usize, intra: bool, quantiser: u8) -> [[i32; 8]; 8]
     requires { ⌜ (at + 64 ≤ length (now levels)) × (1 ≤ quantiser) × (quantiser ≤ 31) ⌝ }
     ensures { λ r. ⌜ Is (pos 0) (coefficientAt (bytesFrom (now (levels .entry)) at) intra quantiser) r ⌝ }
 {
-    let places = PLACES;
-    let zeros = [0i32; 8];
-    let mut block = [zeros; 8];
-    for group in 0..8 {
-        let count = busy(levels, at + 8 * group);
-        for k in 0..count {
-            let position = 8 * group + k;
-            let byte = levels[at + position];
-            if byte != 0 {
-                let place = places[position] as usize;
-                let row = place / 8;
-                let column = place % 8;
-                block[row][column] = coefficient(byte, quantiser);
-            }
-        }
-    }
+    let numbers = coefficients(levels, at, quantiser);
+    let mut block = placed(&numbers);
     if intra {
         block[0][0] = direct(levels[at]);
     }
     block
+}
+
+// What the first byte of a block stands for.
+pub fn first(byte: u8, intra: bool, quantiser: u8) -> i32
+    requires { ⌜ (1 ≤ quantiser) × (quantiser ≤ 31) ⌝ }
+    ensures { λ r. ⌜ r ≡ valueAt (λ _. byte) intra quantiser 0 ⌝ }
+{
+    if intra {
+        return direct(byte);
+    }
+    coefficient(byte, quantiser) as i32
 }

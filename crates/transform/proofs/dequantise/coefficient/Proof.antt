@@ -1,84 +1,108 @@
 use mathlib.Core.Path.{_≡_, _∙_, ap, sym}
-use Prim.Native.Nat.{ℕ, _-_, _≤_, _<_}
-use native.Mathlib.Nat.{le-trans}
+use Prim.Native.Nat.{ℕ, _≤_}
 use native.Mathlib.Omega.{arith}
 use lib.Dec.{lit≤}
-use lib.IntN.{ℤ, pos, negℤ}
-use mir.Syntax.{w32}
-use mir.Val.{SFits, toZ, ofZ}
-use mir.Facts.{toZ-ofZ, toZ-pos}
+use lib.IntN.{ℤ, pos, _+ℤ_, _*ℤ_}
+use mir.Syntax.{w16}
+use mir.Val.{toZ, ofZ}
+use mir.Facts.{toZ-pos}
 use borrow.Author.Needs.{needs}
-use Rattle.laws.specs.Integer.{Low, low-fits}
-use Rattle.transform.specs.Level.{magnitude, coefficient, levelOf, cutCoefficient, level-positive, level-negative, magnitude-most}
+use Rattle.laws.specs.Integer.{low-fits, low-up, back}
+use Rattle.transform.specs.Lines.{back16}
+use Rattle.transform.specs.Level.{levelOf, magnitude, signed, cutCoefficient, coefficient-sum, odd-low, twice-low, product-low, sum-low}
 use Rattle.transform.proofs.dequantise.coefficient.Statement.{statement}
 use Rattle.transform.proofs.dequantise.coefficient.Tie as tie
 use Rattle.transform.proofs.dequantise.coefficient.Reads as reads
 use Rattle.transform.proofs.dequantise.coefficient.Lts as lts
-use Rattle.transform.proofs.cut.cut.Reads as cut-reads
-use Rattle.transform.proofs.dequantise.magnitude.Reads as magnitude-reads
-use Rattle.transform.proofs.dequantise.minus.Reads as minus-reads
+use Rattle.transform.proofs.cut.cut16.Reads as cut16-reads
+use Rattle.transform.proofs.dequantise.level.Reads as level-reads
+use Rattle.transform.proofs.dequantise.odd.Reads as odd-reads
+use Rattle.transform.proofs.dequantise.signed.Reads as signed-reads
 
-magnitude-requires : tie.Need-magnitude-requires
-magnitude-requires c κs = search needs
+-- the parts of the sum
+module _ (c : tie.After-level) where
+  abbrev quantiser : ℕ
+  quantiser = c .before .args .quantiser
 
--- a level above 0
-module _ (c : tie.After-magnitude) where
-  abbrev s : tie.Start
-  s = c .before .before
+  abbrev byte : ℕ
+  byte = c .before .args .byte
 
-  m-is : c .magnitude .result ≡ magnitude (s .args .quantiser) (s .args .byte)
-  m-is = c .magnitude .ensures
+  abbrev quantiser-most : quantiser ≤ 31
+  quantiser-most = c .before .pre .1
 
-  m-most : c .magnitude .result ≤ 7967
-  m-most = rw m-is (magnitude-most (s .args .quantiser) (s .args .byte) (search needs) (search needs))
+  byte-most : byte ≤ 255
+  byte-most = search needs
 
-cast-cut : tie.Need-cast-cut
-cast-cut c = low-fits {m = 7967} tt (record { low = m-most c })
+  twice-is : pos 2 *ℤ toZ w16 quantiser ≡ pos 2 *ℤ pos quantiser
+  twice-is = ap (λ (z : ℤ). pos 2 *ℤ z) (toZ-pos w16 (omega arith))
 
-cut-requires : tie.Need-cut-requires
-cut-requires c κs = search needs
+  level-is : toZ w16 (ofZ w16 (c .level .result)) ≡ levelOf byte
+  level-is = back16 (c .level .result) (c .level .ok) ∙ c .level .ensures
 
-sub-magnitude : tie.Need-sub-magnitude
-sub-magnitude c = search needs
+  product-is : toZ w16 (ofZ w16 (pos 2 *ℤ toZ w16 quantiser)) *ℤ toZ w16 (ofZ w16 (c .level .result)) ≡ pos 2 *ℤ pos quantiser *ℤ levelOf byte
+  product-is = λ i. (ap (λ (z : ℤ). toZ w16 (ofZ w16 z)) twice-is ∙ back w16 tt (twice-low quantiser byte quantiser-most byte-most)) i *ℤ level-is i
 
-magnitude-requires-2 : tie.Need-magnitude-requires-2
-magnitude-requires-2 c κs = search needs
+odd-is : (c : tie.After-odd) → toZ w16 (ofZ w16 (c .odd .result)) ≡ pos (magnitude (quantiser (c .before)) 0)
+odd-is c = back16 (c .odd .result) (c .odd .ok) ∙ c .odd .ensures
 
-minus-requires : tie.Need-minus-requires
-minus-requires c κs =
-    let s = c .before .before in
-    rw (c .magnitude2 .ensures) (le-trans (magnitude-most (s .args .quantiser) (256 - s .args .byte) (search needs) (search needs)) (lit≤ tt))
+module _ (c : tie.After-signed) where
+  abbrev l : tie.After-level
+  l = c .before .before
 
-cut-requires-2 : tie.Need-cut-requires-2
-cut-requires-2 c κs = search needs
+  signed-is : toZ w16 (ofZ w16 (c .signed .result)) ≡ signed (pos (magnitude (quantiser l) 0)) (levelOf (byte l))
+  signed-is = back16 (c .signed .result) (c .signed .ok) ∙ c .signed .ensures ∙ (λ i. signed (odd-is (c .before) i) (level-is l i))
+
+  sum-is : toZ w16 (ofZ w16 (toZ w16 (ofZ w16 (pos 2 *ℤ toZ w16 (quantiser l))) *ℤ toZ w16 (ofZ w16 (l .level .result)))) +ℤ toZ w16 (ofZ w16 (c .signed .result)) ≡ pos 2 *ℤ pos (quantiser l) *ℤ levelOf (byte l) +ℤ signed (pos (magnitude (quantiser l) 0)) (levelOf (byte l))
+  sum-is =
+      λ i.
+      (ap (λ (z : ℤ). toZ w16 (ofZ w16 z)) (product-is l) ∙ back w16 tt (product-low (quantiser l) (byte l) (quantiser-most l) (byte-most l))) i
+      +ℤ signed-is i
+
+level-requires : tie.Need-level-requires
+level-requires c κs = search needs
+
+cast-cut16 : tie.Need-cast-cut16
+cast-cut16 c = search needs
+
+mul-cut16 : tie.Need-mul-cut16
+mul-cut16 c = rw (twice-is c) (low-fits tt (twice-low (quantiser c) (byte c) (quantiser-most c) (byte-most c)))
+
+mul-cut16-2 : tie.Need-mul-cut16-2
+mul-cut16-2 c = rw (product-is c) (low-fits tt (product-low (quantiser c) (byte c) (quantiser-most c) (byte-most c)))
+
+odd-requires : tie.Need-odd-requires
+odd-requires c κs = search needs
+
+signed-requires : tie.Need-signed-requires
+signed-requires c κs =
+    let l = c .before in
+    rw (odd-is c) (low-up 32767 (odd-low (quantiser l) (byte l) (quantiser-most l) (byte-most l)) (lit≤ tt))
+
+add-cut16 : tie.Need-add-cut16
+add-cut16 c =
+    let l = c .before .before in
+    rw (sum-is c) (low-fits tt (sum-low (quantiser l) (byte l) (quantiser-most l) (byte-most l)))
+
+cut16-requires : tie.Need-cut16-requires
+cut16-requires c κs = search needs
 
 returns : tie.Need-returns
 returns c =
-    let d = c .before in
-    let h : toZ w32 (ofZ w32 (c .cut .result)) ≡ c .cut .result = search needs in
-    h ∙ c .cut .ensures
-    ∙ ap cutCoefficient (toZ-pos w32 (omega (arith, m-most d)) ∙ ap pos (m-is d))
-    ∙ sym (level-positive (s d .args .quantiser) (s d .args .byte) (search needs) (search needs))
-
-returns-2 : tie.Need-returns-2
-returns-2 c =
-    let s = c .before .before .before .before in
-    let h : toZ w32 (ofZ w32 (c .cut2 .result)) ≡ c .cut2 .result = search needs in
-    let k : toZ w32 (ofZ w32 (c .before .minus .result)) ≡ c .before .minus .result = search needs in
-    h ∙ c .cut2 .ensures
-    ∙ ap cutCoefficient (k ∙ c .before .minus .ensures ∙ ap (λ (n : ℕ). negℤ (pos n)) (c .before .before .magnitude2 .ensures))
-    ∙ sym (level-negative (s .args .quantiser) (s .args .byte) (search needs) (search needs))
+    let l = c .before .before .before in
+    back16 (c .cut16 .result) (c .cut16 .ok) ∙ c .cut16 .ensures
+    ∙ ap cutCoefficient (ap (λ (z : ℤ). toZ w16 (ofZ w16 z)) (sum-is (c .before)) ∙ back w16 tt (sum-low (quantiser l) (byte l) (quantiser-most l) (byte-most l)))
+    ∙ sym (coefficient-sum (quantiser l) (levelOf (byte l)) (l .before .pre .0))
 
 pub coefficient-spec : {M : Type 1} → statement M
 coefficient-spec =
     tie.close
     (tie.spec
-    magnitude-requires
-    cast-cut
-    cut-requires
-    sub-magnitude
-    magnitude-requires-2
-    minus-requires
-    cut-requires-2
-    returns
-    returns-2)
+    level-requires
+    cast-cut16
+    mul-cut16
+    mul-cut16-2
+    odd-requires
+    signed-requires
+    add-cut16
+    cut16-requires
+    returns)
