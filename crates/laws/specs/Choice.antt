@@ -38,6 +38,18 @@ pub both-make : (a b : Bool) → T a → T b → T (both a b)
 both-make true b t u = u
 both-make false b t u = t
 
+pub both-assoc : (a b c : Bool) → both a (both b c) ≡ both (both a b) c
+both-assoc true b c = refl
+both-assoc false b c = refl
+
+pub both-true : (a : Bool) → both a true ≡ a
+both-true true = refl
+both-true false = refl
+
+pub both-false : (a : Bool) → both a false ≡ false
+both-false true = refl
+both-false false = refl
+
 -- a test that holds is true, and what is true holds
 pub T-true : (b : Bool) → T b → b ≡ true
 T-true true t = refl

@@ -4,12 +4,12 @@ use mathlib.Core.Bool.{Bool, true, false}
 use mathlib.Core.Logic.{⊎-elim}
 use mathlib.Core.List.{List, [], _∷_}
 use Prim.Native.Nat.{ℕ, zero, suc, _+_, _≤_, _<_, zero-le}
-use native.Mathlib.Nat.{eq-or-lt-of-le, le-of-suc-le-suc, not-suc-le-zero}
+use native.Mathlib.Nat.{add-zero, add-suc, eq-or-lt-of-le, le-of-suc-le-suc, not-suc-le-zero}
 use lib.Dec.{T, eqb, leb, leb→le}
 use lib.IntN.{ℤ, pos, negsuc}
 use lib.ListN.{getD}
 use mir.Facts.{eqb-yes}
-use Rattle.laws.specs.Choice.{both, both-left, both-right}
+use Rattle.laws.specs.Choice.{both, both-left, both-right, both-assoc}
 
 abbrev pub allB : ℕ → (ℕ → Bool) → Bool
 allB zero p = true
@@ -20,6 +20,13 @@ all-at zero p t k l = absurd (not-suc-le-zero l)
 all-at (suc n) p t k l =
     ⊎-elim (λ e. subst (λ (m : ℕ). T (p m)) (sym e) (both-left (p n) (allB n p) t))
     (λ s. all-at n p (both-right (p n) (allB n p) t) k s) (eq-or-lt-of-le (le-of-suc-le-suc l))
+
+-- a test of m numbers and of the n after them
+pub all-split : (m n : ℕ) (p : ℕ → Bool) → allB (m + n) p ≡ both (allB n (λ k. p (m + k))) (allB m p)
+all-split m zero p = ap (λ (k : ℕ). allB k p) (add-zero m)
+all-split m (suc n) p =
+    ap (λ (k : ℕ). allB k p) (add-suc m n) ∙ ap (both (p (m + n))) (all-split m n p)
+    ∙ both-assoc (p (m + n)) (allB n (λ k. p (m + k))) (allB m p)
 
 abbrev pub eqZ : ℤ → ℤ → Bool
 eqZ (pos a) (pos b) = eqb a b

@@ -2,14 +2,14 @@
 ghost use mathlib.Core.Path.{_≡_};
 ghost use Prim.Native.Nat.{ℕ, _+_, _*_, _<_, _≤_};
 ghost use lib.Dec.{eqb};
-ghost use lib.IntN.{ℤ, pos};
+ghost use lib.IntN.{ℤ, pos, natAbs};
 ghost use lib.ListN.{getD, length};
 ghost use Rattle.laws.specs.Rows.{Begins, Row, Put, Room};
 ghost use Rattle.laws.specs.Block.{Is, cell};
 ghost use Rattle.laws.specs.Table.{allB};
 ghost use Rattle.transform.specs.Level.{bytesFrom};
-ghost use Rattle.transform.specs.Lines.{Small};
-ghost use Rattle.transform.specs.Sample.{sampleOf};
+ghost use Rattle.transform.specs.Lines.{Line, Small, entry};
+ghost use Rattle.transform.specs.Sample.{Sample, sampleOf};
 ghost use Rattle.transform.specs.Filter.{Samples};
 ghost use Rattle.render.specs.Turn.{rowsOf, blockFrom};
 
@@ -91,16 +91,26 @@ pub fn fetch(samples: &[u8], start: usize, stride: usize) -> [[i32; 8]; 8]
     block
 }
 
-// Row i of a prediction and of what is added to it, as samples.
-fn sums(prediction: &[[i32; 8]; 8], difference: &[[i32; 8]; 8], i: usize) -> [u8; 8]
+// Row i of a prediction and of what is added to it, as samples: in 16 bits, of which the compiler does eight at once.
+fn sums(prediction: &[[i32; 8]; 8], difference: &[[i32; 8]; 8], i: usize) -> [i16; 8]
     requires { ⌜ (Samples (now prediction)) × (Small 256 (now difference)) × (i < 8) ⌝ }
-    ensures { λ r. ⌜ Begins 8 8 (λ j. sampleOf (cell (pos 0) (now (prediction .entry)) i j) (cell (pos 0) (now (difference .entry)) i j)) r ⌝ }
+    ensures { λ r. ⌜ Line (λ j. pos (sampleOf (cell (pos 0) (now (prediction .entry)) i j) (cell (pos 0) (now (difference .entry)) i j))) r ⌝ }
 {
-    let mut row = [0u8; 8];
+    let mut row = [0i16; 8];
     for j in 0..8 {
         row[j] = transform::sample::sample(prediction[i][j], difference[i][j]);
     }
     row
+}
+
+// A row of samples, written as bytes.
+fn put_sums(store: &mut [u8], to: usize, row: [i16; 8])
+    requires { ⌜ (to + 8 ≤ length (now store)) × ((j : ℕ) → j < 8 → Sample (entry row j)) ⌝ }
+    ensures { λ _. ⌜ Row to 8 (λ j. natAbs (entry row j)) (now (store .entry)) (now (store .exit)) ⌝ }
+{
+    for j in 0..8 {
+        store[to + j] = row[j] as u8;
+    }
 }
 
 pub fn put(
@@ -115,8 +125,45 @@ pub fn put(
 {
     for i in 0..8 {
         let row = sums(prediction, difference, i);
-        put_eight(store, to + i * stride, row);
+        put_sums(store, to + i * stride, row);
     }
+}
+
+// The levels next to the first; most blocks that have more than the first have one of these.
+fn near(levels: &[u8], at: usize) -> u8
+    requires { ⌜ at + 8 ≤ length (now levels) ⌝ }
+    ensures { λ r. ⌜ eqb r 0 ≡ allB 7 (λ k. eqb (bytesFrom (now (levels .entry)) at (1 + k)) 0) ⌝ }
+{
+    levels[at + 1]
+        | levels[at + 2]
+        | levels[at + 3]
+        | levels[at + 4]
+        | levels[at + 5]
+        | levels[at + 6]
+        | levels[at + 7]
+}
+
+// And the 56 after them, which the compiler takes several at once.
+fn far(levels: &[u8], at: usize) -> u8
+    requires { ⌜ at + 64 ≤ length (now levels) ⌝ }
+    ensures { λ r. ⌜ eqb r 0 ≡ allB 56 (λ k. eqb (bytesFrom (now (levels .entry)) at (8 + k)) 0) ⌝ }
+{
+    let mut bits: u8 = 0;
+    for k in 8..64 {
+        bits = bits | levels[at + k];
+    }
+    bits
+}
+
+// A block has no level but zeros after the first.
+pub fn alone(levels: &[u8], at: usize) -> bool
+    requires { ⌜ at + 64 ≤ length (now levels) ⌝ }
+    ensures { λ r. ⌜ r ≡ allB 63 (λ k. eqb (bytesFrom (now (levels .entry)) at (1 + k)) 0) ⌝ }
+{
+    if near(levels, at) != 0 {
+        return false;
+    }
+    far(levels, at) == 0
 }
 
 // A block has no level but zeros.
@@ -124,9 +171,8 @@ pub fn empty(levels: &[u8], at: usize) -> bool
     requires { ⌜ at + 64 ≤ length (now levels) ⌝ }
     ensures { λ r. ⌜ r ≡ allB 64 (λ k. eqb (bytesFrom (now (levels .entry)) at k) 0) ⌝ }
 {
-    let mut sum: u32 = 0;
-    for k in 0..64 {
-        sum = sum + (levels[at + k] as u32);
+    if levels[at] != 0 {
+        return false;
     }
-    sum == 0
+    alone(levels, at)
 }

@@ -43,10 +43,18 @@ sample-size s = le-trans (le-of-eq (ap natAbs (s .is))) (s .most)
 pub sample-low : {z : ℤ} → Sample z → Low 255 z
 sample-low s = record { low = sample-size s }
 
+-- and is the number itself
+pub sample-value : {z : ℤ} → Sample z → z ≡ pos (natAbs z)
+sample-value s = s .is ∙ sym (ap (λ (z : ℤ). pos (natAbs z)) (s .is))
+
 -- A sample is a byte.
 pub sample-most : (prediction difference : ℤ) → sampleOf prediction difference ≤ 255
 unfolding sampleOf
 sample-most prediction difference = sample-size (cut-sample (prediction +ℤ difference))
+
+pub sample-cut : (prediction difference : ℤ) → cut (pos 0) (pos 255) (prediction +ℤ difference) ≡ pos (sampleOf prediction difference)
+unfolding sampleOf
+sample-cut prediction difference = sample-value (cut-sample (prediction +ℤ difference))
 
 -- A byte is a sample.
 pub byte-sample : (n : ℕ) → n ≤ 255 → Sample (pos n)

@@ -1,6 +1,6 @@
 use borrow.Author.Needs.{needs}
 use Rattle.transform.specs.Level.{bytesFrom}
-use Rattle.render.specs.Zero.{difference-zero, empty-zero}
+use Rattle.render.specs.Zero.{difference-zero, all-zero}
 use Rattle.render.specs.Bounds.{zeros-are, zeros-small}
 use Rattle.render.proofs.block.difference.Statement.{statement}
 use Rattle.render.proofs.block.difference.Tie as tie
@@ -9,7 +9,7 @@ empty-requires : tie.Need-empty-requires
 empty-requires c κs = search needs
 
 returns : tie.Need-returns
-returns c = let s = c .before .before .before in (zeros-are _ (λ i j. difference-zero (bytesFrom (s .args .levels .now) (s .args .at)) (s .args .quantiser) i j (empty-zero (bytesFrom (s .args .levels .now) (s .args .at)) (c .before .empty .ensures) (c .if1 .taken))), zeros-small)
+returns c = let s = c .before .before .before in (zeros-are _ (λ i j. difference-zero (bytesFrom (s .args .levels .now) (s .args .at)) (s .args .quantiser) i j (all-zero 64 (bytesFrom (s .args .levels .now) (s .args .at)) (c .before .empty .ensures) (c .if1 .taken))), zeros-small)
 
 output-requires : tie.Need-output-requires
 output-requires c κs = search needs

@@ -5,7 +5,7 @@ use borrow.Author.Needs.{needs}
 use Rattle.transform.specs.Level.{bytesFrom}
 use Rattle.render.specs.declared.Prediction.the-variants.{Intra, Inter, Filtered}
 use Rattle.render.specs.Turn.{drawn, copied}
-use Rattle.render.specs.Zero.{empty-zero}
+use Rattle.render.specs.Zero.{all-zero}
 use Rattle.transform.specs.Sample.{byte-sample}
 use Rattle.render.specs.Bounds.{samples-of, zeros-are, zeros-samples}
 use Rattle.render.proofs.block.draw.Statement.{statement}
@@ -60,7 +60,7 @@ same-length-2 : tie.Need-same-length-2
 same-length-2 c = search needs
 
 returns-2 : tie.Need-returns-2
-returns-2 c = let s = c .before .before .before .before .before .before .before .before .before .before .before in copied (s .args .reference .now) (s .args .from) (bytesFrom (s .args .levels .now) (s .args .at)) (s .args .quantiser) (c .before .before .before .before .before .before .enum-told2 .given .1) (λ n. omega (arith, c .before .before .before .before .before .before .before .before .before .before .shared-slice-known .given n)) (empty-zero (bytesFrom (s .args .levels .now) (s .args .at)) (c .before .before .before .before .before .empty .ensures) (c .before .before .before .before .if1 .taken)) (c .before .before .copy-eight .ensures)
+returns-2 c = let s = c .before .before .before .before .before .before .before .before .before .before .before in copied (s .args .reference .now) (s .args .from) (bytesFrom (s .args .levels .now) (s .args .at)) (s .args .quantiser) (c .before .before .before .before .before .before .enum-told2 .given .1) (λ n. omega (arith, c .before .before .before .before .before .before .before .before .before .before .shared-slice-known .given n)) (all-zero 64 (bytesFrom (s .args .levels .now) (s .args .at)) (c .before .before .before .before .before .empty .ensures) (c .before .before .before .before .if1 .taken)) (c .before .before .copy-eight .ensures)
 
 same-length-3 : tie.Need-same-length-3
 same-length-3 c = search needs

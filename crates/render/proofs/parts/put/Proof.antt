@@ -1,12 +1,18 @@
-use Prim.Native.Nat.{_-_, _≤_}
+use mathlib.Core.Path.{sym, ap, subst}
+use mathlib.Core.List.{List}
+use Prim.Native.Nat.{ℕ, _-_, _≤_, _<_}
 use native.Mathlib.Omega.{arith}
 use borrow.Author.Needs.{needs}
-use lib.IntN.{pos}
+use lib.IntN.{ℤ, pos, natAbs}
 use Rattle.laws.specs.Rows.{Put, put-none, put-more, put-end, row-as}
 use Rattle.laws.specs.Block.{cell}
-use Rattle.transform.specs.Sample.{sampleOf}
+use Rattle.transform.specs.Lines.{Line, entry}
+use Rattle.transform.specs.Sample.{Sample, sampleOf, sample-most, byte-sample}
 use Rattle.render.proofs.parts.put.Statement.{statement}
 use Rattle.render.proofs.parts.put.Tie as tie
+
+sampled : {g : ℕ → ℕ} {r : List ℤ} → Line (λ j. pos (g j)) r → ((j : ℕ) → g j ≤ 255) → (j : ℕ) → j < 8 → Sample (entry r j)
+sampled {g} h m j l = subst Sample (sym (h .entries j l)) (byte-sample (g j) (m j))
 
 abbrev Inv-loop : tie.InvT-loop
 Inv-loop store₀ to stride prediction difference i₀ store i = (i ≤ 8) × Put i 8 to stride (λ k j. sampleOf (cell (pos 0) prediction k j) (cell (pos 0) difference k j)) store₀ store
@@ -20,14 +26,14 @@ loop-holds c = (search needs, put-none)
 sums-requires : tie.Need-sums-requires Inv-loop μ-loop
 sums-requires c κs = let s = c .before .before .before in (s .pre .2, s .pre .3, search needs)
 
-mul-put-eight : tie.Need-mul-put-eight Inv-loop μ-loop
-mul-put-eight c = omega (arith, c .before .before .before .before .before .pre .1 (c .before .before .before .loop .i) (search needs))
+mul-put-sums : tie.Need-mul-put-sums Inv-loop μ-loop
+mul-put-sums c = omega (arith, c .before .before .before .before .before .pre .1 (c .before .before .before .loop .i) (search needs))
 
-add-put-eight : tie.Need-add-put-eight Inv-loop μ-loop
-add-put-eight c = omega (arith, c .before .before .before .before .before .pre .1 (c .before .before .before .loop .i) (search needs))
+add-put-sums : tie.Need-add-put-sums Inv-loop μ-loop
+add-put-sums c = omega (arith, c .before .before .before .before .before .pre .1 (c .before .before .before .loop .i) (search needs))
 
-put-eight-requires : tie.Need-put-eight-requires Inv-loop μ-loop
-put-eight-requires c κs = omega (arith, c .before .before .before .before .before .pre .1 (c .before .before .before .loop .i) (search needs), c .before .before .before .loop .inv .1 .size)
+put-sums-requires : tie.Need-put-sums-requires Inv-loop μ-loop
+put-sums-requires c κs = (omega (arith, c .before .before .before .before .before .pre .1 (c .before .before .before .loop .i) (search needs), c .before .before .before .loop .inv .1 .size), sampled (c .before .sums .ensures) (λ j. sample-most _ _))
 
 add-i : tie.Need-add-i Inv-loop μ-loop
 add-i c = search needs
@@ -36,7 +42,7 @@ loop-less : tie.Need-loop-less Inv-loop μ-loop
 loop-less c = search needs
 
 loop-again : tie.Need-loop-again Inv-loop μ-loop
-loop-again c = (search needs, put-more (c .before .before .before .before .before .before .before .before .pre .0) (c .before .before .before .before .before .before .loop .inv .1) (row-as (λ j l. c .before .before .before .before .sums .ensures .first j l) (c .before .before .put-eight .ensures)))
+loop-again c = (search needs, put-more (c .before .before .before .before .before .before .before .before .pre .0) (c .before .before .before .before .before .before .loop .inv .1) (row-as (λ j l. ap natAbs (c .before .before .before .before .sums .ensures .entries j l)) (c .before .before .put-sums .ensures)))
 
 same-length : tie.Need-same-length Inv-loop μ-loop
 same-length c = search needs
@@ -52,9 +58,9 @@ put-spec =
     μ-loop
     loop-holds
     sums-requires
-    mul-put-eight
-    add-put-eight
-    put-eight-requires
+    mul-put-sums
+    add-put-sums
+    put-sums-requires
     add-i
     loop-less
     loop-again

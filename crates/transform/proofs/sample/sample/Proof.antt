@@ -1,19 +1,19 @@
 use mathlib.Core.Path.{_≡_, _∙_, ap}
-use Prim.Native.Nat.{_≤_}
-use native.Mathlib.Omega.{arith}
-use lib.IntN.{ℤ, pos, natAbs, _+ℤ_}
-use mir.Syntax.{w32}
+use lib.Dec.{lit≤}
+use lib.IntN.{ℤ, pos, _+ℤ_}
+use mir.Syntax.{w16, w32}
 use mir.Val.{SFits, toZ, ofZ}
-use mir.Facts.{toZ-ofZ, fits-below}
+use mir.Facts.{toZ-ofZ}
 use borrow.Author.Needs.{needs}
 use Rattle.laws.specs.Integer.{low-fits, low-add}
-use Rattle.transform.specs.Cut.{cut}
-use Rattle.transform.specs.Sample.{sampleOf, cut-sample, sample-not-negative, sample-size, sample-low}
+use Rattle.transform.specs.Cut.{cut, short, short-cut-zero}
+use Rattle.transform.specs.Sample.{sample-cut, sample-low}
 use Rattle.transform.proofs.sample.sample.Statement.{statement}
 use Rattle.transform.proofs.sample.sample.Tie as tie
 use Rattle.transform.proofs.sample.sample.Reads as reads
 use Rattle.transform.proofs.sample.sample.Lts as lts
-use Rattle.transform.proofs.cut.cut.Reads as cut-reads
+use Rattle.transform.proofs.cut.short.Reads as short-reads
+use Rattle.transform.proofs.cut.cut16.Reads as cut16-reads
 
 module _ (s : tie.Start) where
   abbrev sum : ℤ
@@ -25,26 +25,27 @@ module _ (s : tie.Start) where
   sum-is : toZ w32 (ofZ w32 (s .args .prediction)) +ℤ toZ w32 (ofZ w32 (s .args .difference)) ≡ sum
   sum-is = λ i. toZ-ofZ (s .fits .prediction) i +ℤ toZ-ofZ (s .fits .difference) i
 
-result-is : (c : tie.After-cut) → toZ w32 (ofZ w32 (c .cut .result)) ≡ cut (pos 0) (pos 255) (sum (c .before))
-result-is c =
-    let h : toZ w32 (ofZ w32 (c .cut .result)) ≡ c .cut .result = search needs in
-    h ∙ c .cut .ensures
-    ∙ ap (λ (z : ℤ). cut (pos 0) (pos 255) z) (ap (λ (z : ℤ). toZ w32 (ofZ w32 z)) (sum-is (c .before)) ∙ toZ-ofZ (fits-sum (c .before)))
+short-is : (c : tie.After-short) → toZ w16 (ofZ w16 (c .short .result)) ≡ short (sum (c .before))
+short-is c =
+    let h : toZ w16 (ofZ w16 (c .short .result)) ≡ c .short .result = search needs in
+    h ∙ c .short .ensures ∙ ap short (ap (λ (z : ℤ). toZ w32 (ofZ w32 z)) (sum-is (c .before)) ∙ toZ-ofZ (fits-sum (c .before)))
 
-add-cut : tie.Need-add-cut
-add-cut c = rw (sum-is c) (fits-sum c)
+add-short : tie.Need-add-short
+add-short c = rw (sum-is c) (fits-sum c)
 
-cut-requires : tie.Need-cut-requires
-cut-requires c κs = search needs
+short-requires : tie.Need-short-requires
+short-requires c κs = search needs
 
-cast-result : tie.Need-cast-result
-cast-result c =
-    let s = cut-sample (sum (c .before)) in
-    rw (result-is c) (sample-not-negative s, fits-below {n = 255} tt (sample-size s))
+cut16-requires : tie.Need-cut16-requires
+cut16-requires c κs = search needs
 
 returns : tie.Need-returns
-unfolding sampleOf
-returns c = ap natAbs (result-is c)
+returns c =
+    let s = c .before .before in
+    let h : toZ w16 (ofZ w16 (c .cut16 .result)) ≡ c .cut16 .result = search needs in
+    h ∙ c .cut16 .ensures
+    ∙ ap (λ (z : ℤ). cut (pos 0) (pos 255) z) (short-is (c .before)) ∙ short-cut-zero 255 (lit≤ tt) (sum s)
+    ∙ sample-cut (s .args .prediction) (s .args .difference)
 
 pub sample-spec : {M : Type 1} → statement M
-sample-spec = tie.close (tie.spec add-cut cut-requires cast-result returns)
+sample-spec = tie.close (tie.spec add-short short-requires cut16-requires returns)

@@ -1,0 +1,71 @@
+use Prim.Native.Nat.{_+_}
+use borrow.Author.Needs.{needs}
+use Rattle.transform.specs.Level.{bytesFrom}
+use Rattle.render.proofs.Levels.{or-seven}
+use Rattle.render.proofs.parts.near.Statement.{statement}
+use Rattle.render.proofs.parts.near.Tie as tie
+
+add-result : tie.Need-add-result
+add-result c = search needs
+
+shared-slice-read-result : tie.Need-shared-slice-read-result
+shared-slice-read-result c = search needs
+
+add-result-2 : tie.Need-add-result-2
+add-result-2 c = search needs
+
+shared-slice-read-result-2 : tie.Need-shared-slice-read-result-2
+shared-slice-read-result-2 c = search needs
+
+add-result-3 : tie.Need-add-result-3
+add-result-3 c = search needs
+
+shared-slice-read-result-3 : tie.Need-shared-slice-read-result-3
+shared-slice-read-result-3 c = search needs
+
+add-result-4 : tie.Need-add-result-4
+add-result-4 c = search needs
+
+shared-slice-read-result-4 : tie.Need-shared-slice-read-result-4
+shared-slice-read-result-4 c = search needs
+
+add-result-5 : tie.Need-add-result-5
+add-result-5 c = search needs
+
+shared-slice-read-result-5 : tie.Need-shared-slice-read-result-5
+shared-slice-read-result-5 c = search needs
+
+add-result-6 : tie.Need-add-result-6
+add-result-6 c = search needs
+
+shared-slice-read-result-6 : tie.Need-shared-slice-read-result-6
+shared-slice-read-result-6 c = search needs
+
+add-result-7 : tie.Need-add-result-7
+add-result-7 c = search needs
+
+shared-slice-read-result-7 : tie.Need-shared-slice-read-result-7
+shared-slice-read-result-7 c = search needs
+
+returns : tie.Need-returns
+returns c = let s = c .before .before .before .before .before .before .before in or-seven (λ k. bytesFrom (s .args .levels .now) (s .args .at) (1 + k))
+
+pub near-spec : {M : Type 1} → statement M
+near-spec =
+    tie.close
+    (tie.spec
+    add-result
+    shared-slice-read-result
+    add-result-2
+    shared-slice-read-result-2
+    add-result-3
+    shared-slice-read-result-3
+    add-result-4
+    shared-slice-read-result-4
+    add-result-5
+    shared-slice-read-result-5
+    add-result-6
+    shared-slice-read-result-6
+    add-result-7
+    shared-slice-read-result-7
+    returns)
