@@ -2,20 +2,21 @@
 use mathlib.Core.Path.{_≡_, refl, sym, ap, subst, _∙_}
 use mathlib.Core.Bool.{Bool, true, false}
 use mathlib.Core.Logic.{_≢_}
-use mathlib.Core.List.{[]}
+use mathlib.Core.List.{List, []}
 use Prim.Native.Nat.{ℕ, _+_, _-_, _<_}
 use native.Mathlib.Omega.{arith}
 use borrow.Author.Tests.{ne-eqb}
 use lib.Dec.{ltb, ltb→lt, eqb, eqb→eq}
-use lib.IntN.{pos}
+use lib.IntN.{ℤ, pos}
 use lib.ListN.{getD}
 use Rattle.laws.specs.Choice.{both, either, both-false, either-right, true-T}
 use Rattle.laws.specs.Table.{allB, all-at}
-use Rattle.laws.specs.Block.{cell}
+use Rattle.laws.specs.Block.{cell, Is}
 use Rattle.laws.specs.Tabulate.{line, made, line-at}
 use Rattle.transform.specs.Cut.{pick-false}
 use Rattle.transform.specs.Level.{levelOf, coefficient, valueAt, positionAt, coefficientAt, level-none}
-use Rattle.inverse.specs.Inverse.{none-inverse}
+use Rattle.inverse.specs.Inverse.{inverseAt, none-inverse}
+use Rattle.inverse.specs.Alone.{flatAt, alone-inverse}
 use Rattle.render.specs.Sample.{differenceOf}
 
 -- a place of a block stands at one of its 64 positions
@@ -77,6 +78,15 @@ module _ (bytes : ℕ → ℕ) (intra : Bool) (q : ℕ) where
   first-value e =
       made-at (pos 0) (coefficientAt bytes intra q) 0 0 (omega arith) (omega arith)
       ∙ ap (λ (byte : ℕ). valueAt (λ _. byte) intra q 0) (sym e)
+
+  -- then the transform's output is the same everywhere
+  pub difference-alone : {byte : ℕ} {z : ℤ} {block : List (List ℤ)} → ((k : ℕ) → k < 63 → bytes (1 + k) ≡ 0) → byte ≡ bytes 0 → z ≡ valueAt (λ _. byte) intra q 0 → Is (pos 0) (λ y x. flatAt z) block → Is (pos 0) (inverseAt (made (coefficientAt bytes intra q))) block
+  difference-alone none e f h =
+      record {
+        shape = h .shape;
+        cells = λ y x p q. h .cells y x p q
+            ∙ sym (alone-inverse (made (coefficientAt bytes intra _)) (later-none none) y x ∙ ap flatAt (first-value e ∙ sym f));
+      }
 
 -- what a test of levels says
 pub all-zero : (n : ℕ) (bytes : ℕ → ℕ) {b : Bool} → b ≡ allB n (λ k. eqb (bytes k) 0) → b ≡ true → (k : ℕ) → k < n → bytes k ≡ 0

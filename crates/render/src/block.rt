@@ -68,12 +68,15 @@ fn filtered(reference: &[u8], from: usize, stride: usize) -> [[i32; 8]; 8]
     transform::filter::filter(parts::fetch(reference, from, stride))
 }
 
-// What is added to a block: the transform's output for its levels.
+// What is added to a block: the transform's output for its levels, with a short way where the first stands alone.
 fn output(levels: &[u8], at: usize, intra: bool, quantiser: u8) -> [[i32; 8]; 8]
     requires { ⌜ (at + 64 ≤ length (now levels)) × (1 ≤ quantiser) × (quantiser ≤ 31) ⌝ }
     ensures is { λ r. ⌜ Is (pos 0) (differenceOf (bytesFrom (now (levels .entry)) at) intra quantiser) r ⌝ }
     ensures small { λ r. ⌜ Small 256 r ⌝ }
 {
+    if parts::alone(levels, at) {
+        return inverse::alone(transform::dequantise::first(levels[at], intra, quantiser));
+    }
     inverse::inverse(transform::dequantise::dequantise(levels, at, intra, quantiser))
 }
 

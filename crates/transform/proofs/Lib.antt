@@ -1,3 +1,2 @@
 mod Coefficients
-pub mod Bits
 mod Rows
