@@ -18,6 +18,7 @@ use Rattle.laws.specs.Zeros.{zeros}
 use Rattle.words.specs.Words.{Coefficient, isIntra, isMC, hasMQUANT, hasCBP, forbidden}
 use Rattle.format.specs.Format.{formatBit, groupCount, groupNumbers}
 use Rattle.format.specs.declared.Format.{Format}
+use Rattle.format.specs.Room.{groups-listed}
 use Rattle.description.specs.Vector.{Vector, zeroVector, inRange, inPicture}
 use Rattle.description.specs.Value.{Block, Macroblock, Group, Picture}
 use Rattle.description.specs.Flat.{Flat, byteOf, fieldsOf, laid}
@@ -25,7 +26,8 @@ use Rattle.description.specs.Valid.{all, isZero, isQuantiser, isLevel, c
 use Rattle.description.specs.Proper.{If, Each, isCode, Fits, Begins, allEmpty, ProperBlocks, ProperVector, ProperMacroblock, Rising, ProperGroups, Proper}
 use Rattle.description.specs.Walk.{walk-none, walk-more}
 use Rattle.description.specs.Described.{small-vector}
-use Rattle.description.specs.Spread.{Writes, spread, spreads, length-spread, rows, length-rows, storeFields, storeLevels, levelsOf, fields-written, levels-written, length-levels, columns, gquants, flat, groups-length, as-many, laid-spread}
+use Rattle.description.specs.Spread.{Writes, spread, spreads, length-spread, rows, length-rows, storeFields, storeLevels, levelsOf, fields-written, levels-written, length-levels, columns, gquants, groups-length, laid-spread}
+use Rattle.description.specs.Fields.{flat}
 
 -- ---- levels
 both-assoc : (a b c : Bool) → both (both a b) c ≡ both a (both b c)
@@ -205,7 +207,7 @@ spread-valid : (f : Format) (p : Picture) → Proper f p
 unfolding valid
 spread-valid f p h =
     let xs : List Group = p .groups in
-    let n : length xs ≡ groupCount f = groups-length f (groupNumbers f) xs (h .grouped) ∙ as-many f in
+    let n : length xs ≡ groupCount f = groups-length f (groupNumbers f) xs (h .grouped) ∙ groups-listed f in
     let hs : suc (suc (suc (length (gquants xs)))) ≡ 3 + groupCount f = omega (arith, length-gquants xs) in
     let ms : length (columns 4 fieldsOf xs) ≡ groupCount f * 132 = length-columns 4 storeFields fieldsOf fields-written f (groupNumbers f) xs (h .grouped) ∙ ap (λ (k : ℕ). k * 132) n in
     let ls : length (columns 384 levelsOf xs) ≡ groupCount f * 12672 = length-columns 384 storeLevels levelsOf levels-written f (groupNumbers f) xs (h .grouped) ∙ ap (λ (k : ℕ). k * 12672) n in

@@ -7,7 +7,7 @@ use native.Mathlib.Nat.{zero-add, suc-add}
 use native.Mathlib.Numerals.{add-one}
 use lib.Dec.{eqb}
 use lib.ListN.{length, getD, take, drop, drop-of-length-le}
-use lib.Seq.{drop-cons, take-nil, length-take-le}
+use lib.Seq.{drop-cons, take-nil}
 use Rattle.laws.specs.Choice.{both, second-no}
 
 -- the element at a place, then the rest
@@ -18,10 +18,6 @@ pub drop-take : (n m : ℕ) (l : List ℕ) → drop n (take (n + m) l) ≡ take 
 drop-take zero m l = rw (zero-add m)
 drop-take (suc n) m [] = rw (suc-add n m) (sym (take-nil m))
 drop-take (suc n) m (x ∷ xs) = rw (suc-add n m) (drop-take n m xs)
-
--- a part of an array that has room for it
-pub part-long : {n : ℕ} (array : List ℕ) → n ≤ length array → n ≡ length (take n array)
-part-long {n} array l = sym (length-take-le n array l)
 
 -- ---- two lists give the same numbers
 unfoldable pub alike : List ℕ → List ℕ → Bool

@@ -72,25 +72,14 @@ module _ (f : Format) (g : ℕ) (l : g < groupCount f) where
   number-high = leb→le _ 12 (both-right (leb 1 (getD (groupNumbers f) g 0)) (leb (getD (groupNumbers f) g 0) 12) bounds)
 
   drop-on : drop g (groupNumbers f) ≡ getD (groupNumbers f) g 0 ∷ drop (g + 1) (groupNumbers f)
-  drop-on = drop-cons (groupNumbers f) g 0 (many f l) ∙ ap (λ (k : ℕ). getD (groupNumbers f) g 0 ∷ drop k (groupNumbers f)) (sym (add-one g))
-    where
-      many : (f : Format) → g < groupCount f → g < length (groupNumbers f)
-      many Qcif l = l
-      many Cif l = l
+  drop-on = L.drop-on (groupNumbers f) g (omega (arith, l, groups-listed f))
 
 drop-all : (f : Format) (g : ℕ) → g ≤ groupCount f → groupCount f ≤ g → drop g (groupNumbers f) ≡ []
-drop-all f g l m = ap (λ (k : ℕ). drop k (groupNumbers f)) (same g (groupCount f) l m) ∙ none-left f
+drop-all f g l m = ap (λ (k : ℕ). drop k (groupNumbers f)) (le-antisymm l m) ∙ none-left f
   where
-    same : (a b : ℕ) → a ≤ b → b ≤ a → a ≡ b
-    same a b l m = omega arith
-
     none-left : (f : Format) → drop (groupCount f) (groupNumbers f) ≡ []
     none-left Qcif = refl
     none-left Cif = refl
-
-pub count-small : (f : Format) → groupCount f ≤ 12
-count-small Qcif = omega arith
-count-small Cif = omega arith
 
 -- ---- where an MBA place leads
 pub record Led (last : Bool) (address n p : ℕ) (x : Mba) (q : ℕ) : Type 0 where

@@ -114,9 +114,6 @@ crossed true false false d = refl
 crossed false b c d = refl
 
 -- ---- every byte
-pub step : (l : List ℕ) (i : ℕ) → i < length l → drop i l ≡ getD l i 0 ∷ drop (i + 1) l
-step l i h = drop-cons l i 0 h ∙ ap (λ (n : ℕ). getD l i 0 ∷ drop n l) (sym (add-one i))
-
 pub record AllSoFar (whole : Bool) (good : ℕ → Bool) (bytes : List ℕ) (i : ℕ) : Type 0 where
   pub inside : i ≤ length bytes
   pub same : whole ≡ all good (drop i bytes)
@@ -474,10 +471,6 @@ group-part f fields levels g number r n e = e ∙ (λ i. validMacroblocks 33 f (
 
 pub part-length : (l : List ℕ) (a n : ℕ) → a + n ≤ length l → n ≤ length (take (length l - a) (drop a l))
 part-length l a n h = omega (arith, ap length (part-rest l a), length-drop a l)
-
-pub counts : (f : Format) → groupCount f ≤ 12
-counts Qcif = lit≤ tt
-counts Cif = lit≤ tt
 
 pub piece-length : (l : List ℕ) (a n : ℕ) → a + n ≤ length l → length (take (a + n - a) (drop a l)) ≡ n
 piece-length l a n h =

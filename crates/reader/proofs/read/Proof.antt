@@ -4,8 +4,8 @@ use native.Mathlib.Omega.{arith}
 use borrow.Author.Tests.{not-true, not-false}
 use lib.Seq.{length-take-le}
 use Rattle.layers.specs.Answer.{flat}
-use Rattle.reader.proofs.PictureTurn.{count-small}
-use Rattle.reader.proofs.ReadSteps.{unfit, fit, lengths-are, part-long}
+use Rattle.format.specs.Room.{part-long, groups-most}
+use Rattle.reader.proofs.ReadSteps.{unfit, fit, lengths-are}
 use borrow.Author.Needs.{needs}
 use Rattle.reader.proofs.read.Statement.{statement}
 use Rattle.reader.proofs.read.Tie as tie
@@ -35,19 +35,19 @@ levels-length-requires : tie.Need-levels-length-requires
 levels-length-requires c κs = search needs
 
 array-borrow-prefix-header : tie.Need-array-borrow-prefix-header
-array-borrow-prefix-header c = omega (arith, c .before .before .head-length .ensures, count-small (c .before .before .before .before .before .before .before .before .before .before .before .before .args .format))
+array-borrow-prefix-header c = omega (arith, c .before .before .head-length .ensures, groups-most (c .before .before .before .before .before .before .before .before .before .before .before .before .args .format))
 
 slice-aggregate-read-in : tie.Need-slice-aggregate-read-in
 slice-aggregate-read-in c = part-long _ (array-borrow-prefix-header (c .before))
 
 array-borrow-prefix-fields : tie.Need-array-borrow-prefix-fields
-array-borrow-prefix-fields c = omega (arith, c .before .before .macroblocks-length .ensures, count-small (c .before .before .before .before .before .before .before .before .before .before .before .before .before .args .format))
+array-borrow-prefix-fields c = omega (arith, c .before .before .macroblocks-length .ensures, groups-most (c .before .before .before .before .before .before .before .before .before .before .before .before .before .args .format))
 
 slice-aggregate-read-in-2 : tie.Need-slice-aggregate-read-in-2
 slice-aggregate-read-in-2 c = part-long _ (array-borrow-prefix-fields (c .before))
 
 array-borrow-prefix-coefficients : tie.Need-array-borrow-prefix-coefficients
-array-borrow-prefix-coefficients c = omega (arith, c .before .before .levels-length .ensures, count-small (c .before .before .before .before .before .before .before .before .before .before .before .before .before .before .args .format))
+array-borrow-prefix-coefficients c = omega (arith, c .before .before .levels-length .ensures, groups-most (c .before .before .before .before .before .before .before .before .before .before .before .before .before .before .args .format))
 
 slice-aggregate-read-in-3 : tie.Need-slice-aggregate-read-in-3
 slice-aggregate-read-in-3 c = part-long _ (array-borrow-prefix-coefficients (c .before))

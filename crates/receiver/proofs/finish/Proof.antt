@@ -1,23 +1,11 @@
 -- `receiver::finish` meets its contract: the scratch has room for either format. Assumes nothing.
 use borrow.Author.Needs.{needs}
 use native.Mathlib.Omega.{arith}
-use Prim.Native.Nat.{ℕ, _≤_}
-use mathlib.Core.Path.{_≡_, sym, _∙_}
-use mathlib.Core.List.{List}
-use lib.ListN.{length, take}
+use mathlib.Core.Path.{_∙_}
 use lib.Seq.{length-take-le}
-use Rattle.format.specs.declared.Format.{Format}
-use Rattle.format.specs.declared.Format.the-variants.{Qcif, Cif}
-use Rattle.format.specs.Format.{groupCount}
+use Rattle.format.specs.Room.{part-long, groups-most}
 use Rattle.receiver.proofs.finish.Statement.{statement}
 use Rattle.receiver.proofs.finish.Tie as tie
-
-groups-most : (f : Format) → groupCount f ≤ 12
-groups-most Qcif = omega arith
-groups-most Cif = omega arith
-
-part-long : {n : ℕ} (array : List ℕ) → n ≤ length array → n ≡ length (take n array)
-part-long {n} array l = sym (length-take-le n array l)
 
 head-length-requires : tie.Need-head-length-requires
 head-length-requires c κs = search needs

@@ -14,13 +14,14 @@ use Rattle.layers.specs.Answer.{mapRead, flat}
 use Rattle.layers.specs.Grammar.{groupsRead}
 use Rattle.layers.proofs.Told.{no-field, is-field}
 use Rattle.layers.proofs.MacroblockWhole.{quantiser-small, small-byte}
-use Rattle.reader.proofs.PictureTurn.{InGroup, PictureSoFar, Left, less-count, last-found, number-low, number-high, count-small, head-led, step-led, stuffing-led, macroblock-led, group-first, group-stuffed, group-more, group-no-macroblock, group-no-mba, group-ended, picture-first, picture-done, picture-no-head, picture-inside, picture-more, left-as, left-refused, left-done}
+use Rattle.reader.proofs.PictureTurn.{InGroup, PictureSoFar, Left, less-count, last-found, number-low, number-high, head-led, step-led, stuffing-led, macroblock-led, group-first, group-stuffed, group-more, group-no-macroblock, group-no-mba, group-ended, picture-first, picture-done, picture-no-head, picture-inside, picture-more, left-as, left-refused, left-done}
 use Rattle.reader.proofs.picture.groups.Statement.{statement}
 use Rattle.reader.proofs.picture.groups.Tie as tie
 use Rattle.reader.proofs.picture.groups.Reads as reads
 use Rattle.reader.proofs.picture.groups.Lts as lts
 use Rattle.format.proofs.order.group_count.Reads as group-count-reads
 use Rattle.format.proofs.order.group_number.Reads as group-number-reads
+use Rattle.format.specs.Room.{groups-most}
 use Rattle.layers.proofs.head.field_refusal.Reads as field-refusal-reads
 use Rattle.layers.proofs.head.group_head.Reads as group-head-reads
 use Rattle.layers.proofs.macroblock.macroblock.Reads as macroblock-reads
@@ -77,7 +78,7 @@ cast-head c = record { fits = small-byte _ (quantiser-small true _ ((head-led (c
 
 -- src/picture.rt:65:14
 add-head : tie.Need-add-head Inv-group μ-group Inv-picture μ-picture
-add-head c = let h = count-small (c .before .before .before .before .before .before .before .before .before .before .before .before .args .format) in let l = less-count (c .before .before .before .before .before .before .picture .group) _ _ (c .before .before .before .before .before .picture-test .taken) (c .before .before .before .before .before .before .before .group-count .ensures) in omega arith
+add-head c = let h = groups-most (c .before .before .before .before .before .before .before .before .before .before .before .before .args .format) in let l = less-count (c .before .before .before .before .before .before .picture .group) _ _ (c .before .before .before .before .before .picture-test .taken) (c .before .before .before .before .before .before .before .group-count .ensures) in omega arith
 
 -- src/picture.rt:65:9
 slice-write-head : tie.Need-slice-write-head Inv-group μ-group Inv-picture μ-picture
@@ -89,7 +90,7 @@ group-holds c = group-first _ _ _ _ _ _ _ _ _ _ ((head-led (c .before .before .b
 
 -- src/picture.rt:78:17
 add-mba : tie.Need-add-mba Inv-group μ-group Inv-picture μ-picture
-add-mba c = let h = count-small (c .before .before .before .before .before .before .before .before .before .before .before .before .before .args .format) in let l = less-count (c .before .before .before .before .before .before .before .picture .group) _ _ (c .before .before .before .before .before .before .picture-test .taken) (c .before .before .before .before .before .before .before .before .group-count .ensures) in omega arith
+add-mba c = let h = groups-most (c .before .before .before .before .before .before .before .before .before .before .before .before .before .args .format) in let l = less-count (c .before .before .before .before .before .before .before .picture .group) _ _ (c .before .before .before .before .before .before .picture-test .taken) (c .before .before .before .before .before .before .before .before .group-count .ensures) in omega arith
 
 -- src/picture.rt:73:17
 mba-requires : tie.Need-mba-requires Inv-group μ-group Inv-picture μ-picture
@@ -101,7 +102,7 @@ enum-known-found c = search needs
 
 -- src/picture.rt:83:25
 macroblock-requires : tie.Need-macroblock-requires Inv-group μ-group Inv-picture μ-picture
-macroblock-requires c κs = let o = step-led (c .before .before .before .before .before .before .group .inv) (c .before .before .before .before .before .mba .result) _ _ (last-found (c .before .before .before .before .before .before .before .before .before .before .before .before .before .before .before .before .before .before .before .args .bytes .now) (c .before .before .before .before .before .before .before .before .before .before .before .before .before .before .before .before .before .before .before .args .count) (c .before .before .before .before .before .mba .result) (c .before .before .before .before .before .before .before .before .before .before .before .before .before .picture .group) _ _ _ _ _ (c .before .before .before .before .before .mba .ensures) (c .before .before .before .before .before .before .before .before .before .before .before .before .before .before .group-count .ensures)) (c .before .before .before .found .given .1) in let l = less-count (c .before .before .before .before .before .before .before .before .before .before .before .before .before .picture .group) _ _ (c .before .before .before .before .before .before .before .before .before .before .before .before .picture-test .taken) (c .before .before .before .before .before .before .before .before .before .before .before .before .before .before .group-count .ensures) in let h = count-small (c .before .before .before .before .before .before .before .before .before .before .before .before .before .before .before .before .before .before .before .args .format) in (c .before .before .before .before .before .before .before .before .before .before .before .before .before .before .before .before .before .before .before .pre .0, record { lent = c .before .before .before .before .before .before .before .before .before .before .before .before .before .before .before .before .before .before .before .pre .1 .lent; inside = o .inside }, omega (arith, number-low (c .before .before .before .before .before .before .before .before .before .before .before .before .before .before .before .before .before .before .before .args .format) (c .before .before .before .before .before .before .before .before .before .before .before .before .before .picture .group) l, c .before .before .before .before .before .before .before .before .before .before .before .group-number .ensures), omega (arith, number-high (c .before .before .before .before .before .before .before .before .before .before .before .before .before .before .before .before .before .before .before .args .format) (c .before .before .before .before .before .before .before .before .before .before .before .before .before .picture .group) l, c .before .before .before .before .before .before .before .before .before .before .before .group-number .ensures), omega arith, o .met .0, o .met .1, c .before .before .before .before .before .before .group .inv .kept, omega (arith, c .before .before .before .before .before .before .group .inv .ms-long, c .before .before .before .before .before .before .before .before .before .before .before .before .before .picture .inv .ms-long), omega (arith, c .before .before .before .before .before .before .group .inv .ls-long, c .before .before .before .before .before .before .before .before .before .before .before .before .before .picture .inv .ls-long))
+macroblock-requires c κs = let o = step-led (c .before .before .before .before .before .before .group .inv) (c .before .before .before .before .before .mba .result) _ _ (last-found (c .before .before .before .before .before .before .before .before .before .before .before .before .before .before .before .before .before .before .before .args .bytes .now) (c .before .before .before .before .before .before .before .before .before .before .before .before .before .before .before .before .before .before .before .args .count) (c .before .before .before .before .before .mba .result) (c .before .before .before .before .before .before .before .before .before .before .before .before .before .picture .group) _ _ _ _ _ (c .before .before .before .before .before .mba .ensures) (c .before .before .before .before .before .before .before .before .before .before .before .before .before .before .group-count .ensures)) (c .before .before .before .found .given .1) in let l = less-count (c .before .before .before .before .before .before .before .before .before .before .before .before .before .picture .group) _ _ (c .before .before .before .before .before .before .before .before .before .before .before .before .picture-test .taken) (c .before .before .before .before .before .before .before .before .before .before .before .before .before .before .group-count .ensures) in let h = groups-most (c .before .before .before .before .before .before .before .before .before .before .before .before .before .before .before .before .before .before .before .args .format) in (c .before .before .before .before .before .before .before .before .before .before .before .before .before .before .before .before .before .before .before .pre .0, record { lent = c .before .before .before .before .before .before .before .before .before .before .before .before .before .before .before .before .before .before .before .pre .1 .lent; inside = o .inside }, omega (arith, number-low (c .before .before .before .before .before .before .before .before .before .before .before .before .before .before .before .before .before .before .before .args .format) (c .before .before .before .before .before .before .before .before .before .before .before .before .before .picture .group) l, c .before .before .before .before .before .before .before .before .before .before .before .group-number .ensures), omega (arith, number-high (c .before .before .before .before .before .before .before .before .before .before .before .before .before .before .before .before .before .before .before .args .format) (c .before .before .before .before .before .before .before .before .before .before .before .before .before .picture .group) l, c .before .before .before .before .before .before .before .before .before .before .before .group-number .ensures), omega arith, o .met .0, o .met .1, c .before .before .before .before .before .before .group .inv .kept, omega (arith, c .before .before .before .before .before .before .group .inv .ms-long, c .before .before .before .before .before .before .before .before .before .before .before .before .before .picture .inv .ms-long), omega (arith, c .before .before .before .before .before .before .group .inv .ls-long, c .before .before .before .before .before .before .before .before .before .before .before .before .before .picture .inv .ls-long))
 
 -- src/picture.rt:96:45
 enum-known-read : tie.Need-enum-known-read Inv-group μ-group Inv-picture μ-picture
@@ -146,7 +147,7 @@ enum-known-found-4 c = search needs
 
 -- src/picture.rt:116:9
 add-group : tie.Need-add-group Inv-group μ-group Inv-picture μ-picture
-add-group c = let h = count-small (c .before .before .before .before .before .before .before .before .before .before .before .before .before .before .before .before .before .args .format) in let l = less-count (c .before .before .before .before .before .before .before .before .before .before .before .picture .group) _ _ (c .before .before .before .before .before .before .before .before .before .before .picture-test .taken) (c .before .before .before .before .before .before .before .before .before .before .before .before .group-count .ensures) in omega arith
+add-group c = let h = groups-most (c .before .before .before .before .before .before .before .before .before .before .before .before .before .before .before .before .before .args .format) in let l = less-count (c .before .before .before .before .before .before .before .before .before .before .before .picture .group) _ _ (c .before .before .before .before .before .before .before .before .before .before .picture-test .taken) (c .before .before .before .before .before .before .before .before .before .before .before .before .group-count .ensures) in omega arith
 
 -- src/picture.rt:58:5
 picture-less : tie.Need-picture-less Inv-group μ-group Inv-picture μ-picture
