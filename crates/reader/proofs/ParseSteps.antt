@@ -21,7 +21,8 @@ use Rattle.bits.specs.Read.{Read, got, refused, bad}
 use Rattle.format.specs.Format.{limit, formatBit, groupCount, groupNumbers}
 use Rattle.format.specs.declared.Format.{Format}
 use Rattle.description.specs.Flat.{Flat, putGroups, laid}
-use Rattle.layers.specs.Answer.{mapRead, flat, leaving, asHeader, headerRefusal, placeRefusal}
+use Rattle.description.specs.Fields.{flat}
+use Rattle.layers.specs.Answer.{mapRead, leaving, asHeader, headerRefusal, placeRefusal}
 use Rattle.layers.specs.Grammar.{Header, header, groupsRead, picture, reading}
 use Rattle.reader.specs.Described.{Lengths, described, verdictOf, zeros, laidOr}
 use Rattle.layers.specs.declared.HeaderRead.{HeaderRead}

@@ -29,7 +29,8 @@ use Rattle.description.specs.Value.{Macroblock, after}
 use Rattle.description.specs.Flat.{Flat, putMacroblocks, putGroups}
 use Rattle.description.specs.Proper.{If, ProperVector, ProperMacroblock}
 use Rattle.description.specs.Valid.{isQuantiser}
-use Rattle.layers.specs.Answer.{Kept, KeptBehind, componentOf, vectorOf, beforeOf, asMba, asMacroblock, mapRead, leaving, flat, Sent, putSent, macroblockRefusal}
+use Rattle.description.specs.Fields.{flat}
+use Rattle.layers.specs.Answer.{Kept, KeptBehind, componentOf, vectorOf, beforeOf, asMba, asMacroblock, mapRead, leaving, Sent, putSent, macroblockRefusal}
 use Rattle.layers.specs.declared.Behind.{Behind}
 use Rattle.layers.specs.declared.MbaRead.{MbaRead}
 use Rattle.layers.specs.declared.MbaRead.the-variants.{Step, Stuffing, Ended, Refused as NoMba}

@@ -17,7 +17,7 @@ use Rattle.format.specs.Format.{groupCount}
 use Rattle.format.specs.declared.Format.{Format}
 use Rattle.description.specs.Flat.{Flat}
 use Rattle.description.specs.Valid.{lengthsOf}
-use Rattle.layers.specs.Answer.{flat}
+use Rattle.description.specs.Fields.{flat}
 use Rattle.reader.specs.Described.{Lengths, described, verdictOf, laidOr}
 use Rattle.reader.specs.ReadOf.{readOf, flatAfter}
 use Rattle.reader.specs.declared.Verdict.{Verdict}

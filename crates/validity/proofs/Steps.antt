@@ -5,39 +5,30 @@ use mathlib.Core.List.{List, [], _∷_}
 use Prim.Native.Nat.{ℕ, zero, suc, _+_, _-_, _*_, _≤_, _<_}
 use native.Mathlib.Omega.{arith}
 use native.Mathlib.Nat.{add-zero}
-use native.Mathlib.Numerals.{add-one}
 use borrow.Author.Tests.{lt-ltb, le-ltb, le-leb, lt-leb, eq-eqb, ne-eqb}
 use lib.Dec.{T, leb, ltb, eqb, leb→le, eqb→eq, lit≤}
 use types.Run.{OneOf}
 use mathlib.Core.Logic.{inl, inr}
 use Rattle.words.specs.Words.{isIntra, isMC, hasMQUANT, hasCBP}
 use lib.ListN.{length, getD, take, drop, length-drop}
-use lib.Seq.{drop-cons, drop-length, drop-drop, getD-drop, take-all, length-take-le}
+use lib.Seq.{drop-length, drop-drop, getD-drop, take-all, length-take-le}
 use lib.IntN.{ℤ, pos, negsuc, natAbs}
-use Rattle.laws.specs.Choice.{pick, both, either, opposite, either-right, both-left, both-right, true-T}
+use Rattle.laws.specs.Choice.{pick, both, either, opposite, either-right, both-left, both-right, true-T, alike, alike-same}
 use Rattle.laws.specs.Table.{allB, all-at}
+use Rattle.laws.specs.Lists.{drop-on}
 use Rattle.format.specs.Format.{formatBit, groupNumbers, groupCount, width, height, column, row, headLength, macroblocksLength, levelsLength}
 use Rattle.format.specs.declared.Format.{Format}
 use Rattle.format.specs.declared.Format.the-variants.{Qcif, Cif}
+use Rattle.format.specs.Room.{groups-listed}
 use Rattle.description.specs.Vector.{inRange, inside}
 use Rattle.description.specs.Flat.{numberOf}
 use Rattle.description.specs.Valid.{all, within, isZero, isQuantiser, isLevel, codesFirst, validVector, validLevels, validMacroblock, validMacroblocks, validGroups, lengthsOf, validHead, valid}
-use Rattle.description.specs.Spread.{flat}
+use Rattle.description.specs.Fields.{flat}
 
 -- ---- a test that is the same on a range of numbers, computed once
-abbrev agree : Bool → Bool → Bool
-agree true b = b
-agree false b = opposite b
-
-agree-yes : (a b : Bool) → T (agree a b) → a ≡ b
-agree-yes true true t = refl
-agree-yes true false t = absurd t
-agree-yes false true t = absurd t
-agree-yes false false t = refl
-
-pub ranged : (p : ℕ → Bool) (b : Bool) (from to : ℕ) → T (allB to (λ k. either (ltb k from) (agree b (p k)))) → (k : ℕ) → from ≤ k → k < to → b ≡ p k
+pub ranged : (p : ℕ → Bool) (b : Bool) (from to : ℕ) → T (allB to (λ k. either (ltb k from) (alike b (p k)))) → (k : ℕ) → from ≤ k → k < to → b ≡ p k
 ranged p b from to t k l h =
-    agree-yes b (p k) (either-right (ltb k from) (agree b (p k)) (le-ltb k from l) (all-at to (λ k. either (ltb k from) (agree b (p k))) t k h))
+    alike-same b (p k) (either-right (ltb k from) (alike b (p k)) (le-ltb k from l) (all-at to (λ k. either (ltb k from) (alike b (p k))) t k h))
 
 -- ---- tests of one byte
 pub quantiser-zero : (b : ℕ) → b ≡ 0 → false ≡ isQuantiser b
@@ -129,7 +120,7 @@ module _ {whole : Bool} {good : ℕ → Bool} {bytes : List ℕ} {i : ℕ} (h : 
 
   module _ (l : i < length bytes) where
     on : whole ≡ both (good (getD bytes i 0)) (all good (drop (i + 1) bytes))
-    on = h .same ∙ ap (all good) (step bytes i l)
+    on = h .same ∙ ap (all good) (drop-on bytes i l)
 
     pub all-no : good (getD bytes i 0) ≡ false → false ≡ whole
     all-no e = sym (on ∙ ap (λ (b : Bool). both b (all good (drop (i + 1) bytes))) e)
@@ -233,9 +224,7 @@ module _ {whole : Bool} {f : Format} {number : ℕ} {fields levels : List ℕ} {
       }
 
 -- ---- the groups: g are behind
-pub count-is : (f : Format) → groupCount f ≡ length (groupNumbers f)
-count-is Qcif = refl
-count-is Cif = refl
+
 
 -- a group's number is 1 to 12
 low-number : (f : Format) → T (allB (groupCount f) (λ g. within 1 12 (getD (groupNumbers f) g 0)))
@@ -264,7 +253,7 @@ module _ {whole : Bool} {f : Format} {fields levels : List ℕ} {g : ℕ} (h : G
   pub groups-done : groupCount f ≤ g → true ≡ whole
   unfolding validGroups
   groups-done l =
-      let e : g ≡ length (groupNumbers f) = omega (arith, h .within-count, count-is f) in
+      let e : g ≡ length (groupNumbers f) = omega (arith, h .within-count, groups-listed f) in
       sym (h .same ∙ ap (λ (ns : List ℕ). validGroups f ns (drop (g * 132) fields) (drop (g * 12672) levels)) (ap (λ (n : ℕ). drop n (groupNumbers f)) e ∙ drop-length (groupNumbers f)))
 
   module _ (l : g < groupCount f) (r : Bool) (m : r ≡ validMacroblocks 33 f (getD (groupNumbers f) g 0) 1 (drop (g * 132) fields) (drop (g * 12672) levels)) where
@@ -273,7 +262,7 @@ module _ {whole : Bool} {f : Format} {fields levels : List ℕ} {g : ℕ} (h : G
         let a : g * 132 + 132 ≡ (g + 1) * 132 = omega arith in
         let b : g * 12672 + 12672 ≡ (g + 1) * 12672 = omega arith in
         h .same
-        ∙ ap (λ (ns : List ℕ). validGroups f ns (drop (g * 132) fields) (drop (g * 12672) levels)) (step (groupNumbers f) g (omega (arith, count-is f)))
+        ∙ ap (λ (ns : List ℕ). validGroups f ns (drop (g * 132) fields) (drop (g * 12672) levels)) (drop-on (groupNumbers f) g (omega (arith, groups-listed f)))
         ∙ groups-one f (getD (groupNumbers f) g 0) (drop (g + 1) (groupNumbers f)) (drop (g * 132) fields) (drop (g * 12672) levels)
         ∙ ap₂ both (sym m)
         (ap₂ (validGroups f (drop (g + 1) (groupNumbers f)))

@@ -13,7 +13,7 @@ use lib.Seq.{drop-length, drop-drop, getD-drop, getD-take}
 use Rattle.laws.specs.Choice.{pick, both, either, opposite, both-left, both-right, both-make, true-false}
 use Rattle.bits.specs.Bits.{Bit, bitsOf}
 use Rattle.bits.specs.Code.{wordOf}
-use Rattle.words.specs.Tables.{endOfBlock, firstTable5, laterTable5}
+use Rattle.words.specs.Tables.{endOfBlock, firstTable5, laterTable5, tableOf}
 use Rattle.words.specs.Words.{Coefficient, coefficient, tcoeffOf, forbidden}
 use Rattle.words.specs.Back.{Sendable}
 use Rattle.description.specs.Value.{Block}
@@ -79,7 +79,7 @@ gather-none : (run : ℕ) → gather run [] ≡ []
 unfolding gather
 gather-none run = refl
 
-coded-cons : (first : Bool) (c : Coefficient) (cs : Block) → codedOf first (c ∷ cs) ≡ tcoeffOf (pick first firstTable5 laterTable5) c ++ codedOf false cs
+coded-cons : (first : Bool) (c : Coefficient) (cs : Block) → codedOf first (c ∷ cs) ≡ tcoeffOf (tableOf first) c ++ codedOf false cs
 unfolding coefficientsOf
 coded-cons true c cs = refl
 coded-cons false c cs = refl
@@ -117,10 +117,10 @@ module _ {whole : List Bit} {levels : List ℕ} {s : List ℕ} {at : ℕ} {t : L
       coded-room l = room-after (h .wrote) room (omega arith) 24 (omega arith)
 
       pub coded-more : {u : List ℕ} {q : ℕ} → k < 64 → (getD levels k 0 ≡ 0 → ⊥)
-          → Wrote 24 (tcoeffOf (pick first firstTable5 laterTable5) (coefficient run (getD levels k 0))) t place u q → CodedSoFar whole levels s at u false 0 (k + 1) q
+          → Wrote 24 (tcoeffOf (tableOf first) (coefficient run (getD levels k 0))) t place u q → CodedSoFar whole levels s at u false 0 (k + 1) q
       coded-more l n g =
           let c : Coefficient = coefficient run (getD levels k 0) in
-          let w : List Bit = tcoeffOf (pick first firstTable5 laterTable5) c in
+          let w : List Bit = tcoeffOf (tableOf first) c in
           record {
             inside = omega arith;
             low = omega arith;

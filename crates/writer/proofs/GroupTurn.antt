@@ -17,8 +17,8 @@ use Rattle.format.specs.declared.Format.the-variants.{Qcif, Cif}
 use Rattle.description.specs.Vector.{Before, atStart}
 use Rattle.description.specs.Value.{Macroblock, Group, after}
 use Rattle.description.specs.Flat.{numberOf, gather, gathers, macroblocksIn, groupsIn, pictureIn}
-use Rattle.description.specs.Spread.{flat}
 use Rattle.description.specs.Valid.{all, isQuantiser, validMacroblock, validMacroblocks, validGroups, lengthsOf, validHead, valid}
+use Rattle.description.specs.Fields.{flat}
 use Rattle.writer.specs.Write.{macroblockOf, macroblocksOf, groupOf, groupsOf, pictureOf}
 use Rattle.writer.specs.Sound.{Near, Sound, SoundGroup, behind, macroblockIn, groupIn}
 use Rattle.writer.specs.Put.{Wrote, Room, wrote-none, wrote-as, wrote-most, wrote-then, room-after}

@@ -20,8 +20,8 @@ use Rattle.format.specs.Format.{limit, outputLength}
 use Rattle.format.specs.declared.Format.{Format}
 use Rattle.format.specs.declared.Format.the-variants.{Qcif, Cif}
 use Rattle.description.specs.Flat.{Flat}
-use Rattle.description.specs.Spread.{flat}
 use Rattle.description.specs.Valid.{lengthsOf, valid}
+use Rattle.description.specs.Fields.{flat}
 use Rattle.writer.specs.declared.Written.{Written}
 use Rattle.writer.specs.declared.Written.the-variants.{Bits, Refused}
 use Rattle.writer.specs.Put.{appended, Wrote, Room}

@@ -3,8 +3,8 @@ use mathlib.Core.Path.{_∙_}
 use native.Mathlib.Omega.{arith}
 use borrow.Author.Tests.{not-true, not-false}
 use lib.Seq.{length-take-le}
-use Rattle.layers.specs.Answer.{flat}
 use Rattle.format.specs.Room.{part-long, groups-most}
+use Rattle.description.specs.Fields.{flat}
 use Rattle.reader.proofs.ReadSteps.{unfit, fit, lengths-are}
 use borrow.Author.Needs.{needs}
 use Rattle.reader.proofs.read.Statement.{statement}

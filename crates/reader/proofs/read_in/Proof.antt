@@ -1,10 +1,10 @@
 -- `reader::read_in` meets its contract: what was parsed is copied on acceptance alone. Assumes nothing.
 use mathlib.Core.Path.{sym, _∙_}
-use Rattle.layers.specs.Answer.{flat}
 use Rattle.reader.proofs.ReadSteps.{accepted-tag, copied, accepted-buffers, refused-unchanged}
 use borrow.Author.Needs.{needs}
 use Rattle.reader.proofs.read_in.Statement.{statement}
 use Rattle.reader.proofs.read_in.Tie as tie
+use Rattle.description.specs.Fields.{flat}
 
 parse-requires : tie.Need-parse-requires
 parse-requires c κs = search needs

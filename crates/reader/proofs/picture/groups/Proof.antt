@@ -10,7 +10,8 @@ use Rattle.bits.specs.Bits.{bitsLeft}
 use Rattle.bits.specs.Read.{Read, refused}
 use Rattle.format.specs.Format.{groupCount, groupNumbers}
 use Rattle.description.specs.Flat.{Flat, putGroups}
-use Rattle.layers.specs.Answer.{mapRead, flat}
+use Rattle.description.specs.Fields.{flat}
+use Rattle.layers.specs.Answer.{mapRead}
 use Rattle.layers.specs.Grammar.{groupsRead}
 use Rattle.layers.proofs.Told.{no-field, is-field}
 use Rattle.layers.proofs.MacroblockWhole.{quantiser-small, small-byte}
