@@ -6,7 +6,7 @@ use Prim.Native.Nat.{ℕ, zero, suc, _+_, _-_, _*_, _≤_, _<_}
 use native.Mathlib.Omega.{arith}
 use native.Mathlib.Nat.{add-zero}
 use borrow.Author.Tests.{lt-ltb, le-ltb, le-leb, lt-leb, eq-eqb, ne-eqb}
-use lib.Dec.{T, leb, ltb, eqb, leb→le, eqb→eq, lit≤}
+use lib.Dec.{T, leb, ltb, eqb, eqb→eq, lit≤}
 use types.Run.{OneOf}
 use mathlib.Core.Logic.{inl, inr}
 use Rattle.words.specs.Words.{isIntra, isMC, hasMQUANT, hasCBP}
@@ -22,7 +22,7 @@ use Rattle.format.specs.declared.Format.the-variants.{Qcif, Cif}
 use Rattle.format.specs.Room.{groups-listed}
 use Rattle.description.specs.Vector.{inRange, inside}
 use Rattle.description.specs.Flat.{numberOf}
-use Rattle.description.specs.Valid.{all, within, isZero, isQuantiser, isLevel, codesFirst, validVector, validLevels, validMacroblock, validMacroblocks, validGroups, lengthsOf, validHead, valid}
+use Rattle.description.specs.Valid.{all, isZero, isQuantiser, isLevel, codesFirst, validVector, validLevels, validMacroblock, validMacroblocks, validGroups, lengthsOf, validHead, valid}
 use Rattle.description.specs.Fields.{flat}
 
 -- ---- a test that is the same on a range of numbers, computed once
@@ -224,18 +224,6 @@ module _ {whole : Bool} {f : Format} {number : ℕ} {fields levels : List ℕ} {
       }
 
 -- ---- the groups: g are behind
-
-
--- a group's number is 1 to 12
-low-number : (f : Format) → T (allB (groupCount f) (λ g. within 1 12 (getD (groupNumbers f) g 0)))
-low-number Qcif = tt
-low-number Cif = tt
-
-pub number-within : (f : Format) (g : ℕ) → g < groupCount f → (1 ≤ getD (groupNumbers f) g 0) × (getD (groupNumbers f) g 0 ≤ 12)
-number-within f g l =
-    let n = getD (groupNumbers f) g 0 in
-    let t = all-at (groupCount f) (λ g. within 1 12 (getD (groupNumbers f) g 0)) (low-number f) g l in
-    (leb→le 1 n (both-left (leb 1 n) (leb n 12) t), leb→le n 12 (both-right (leb 1 n) (leb n 12) t))
 
 pub record GroupsSoFar (whole : Bool) (f : Format) (fields levels : List ℕ) (g : ℕ) : Type 0 where
   pub within-count : g ≤ groupCount f

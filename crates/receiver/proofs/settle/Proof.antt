@@ -4,7 +4,7 @@ use mathlib.Core.Path.{_≡_, refl, sym, ap, subst, _∙_}
 use mathlib.Core.Bool.{Bool, true, false}
 use mathlib.Core.List.{List, []}
 use Prim.Native.Nat.{ℕ}
-use Rattle.laws.specs.Choice.{pick}
+use Rattle.laws.specs.Choice.{pick, alike}
 use Rattle.refusals.specs.declared.Reason.the-variants.{UntrueMark}
 use Rattle.refusals.specs.Number.{refusal}
 use Rattle.description.specs.Flat.{Flat}
@@ -19,7 +19,7 @@ use Rattle.receiver.specs.declared.Answer.the-variants as A
 use Rattle.receiver.specs.H261.{h261}
 use Rattle.receiver.specs.Coding.{accepted}
 use Rattle.receiver.specs.Laws.{Settles}
-use Rattle.receiver.specs.Receive.{Event, failed, finished, alike, markOf, ended, failing, finishing, received}
+use Rattle.receiver.specs.Receive.{Event, failed, finished, markOf, ended, failing, finishing, received}
 use Rattle.receiver.proofs.settle.Statement.{statement}
 use Rattle.receiver.proofs.settle.Tie as tie
 

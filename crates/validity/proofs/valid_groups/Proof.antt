@@ -4,11 +4,11 @@ use native.Mathlib.Omega.{arith}
 use borrow.Author.Needs.{needs}
 use borrow.Author.Tests.{not-true, not-false}
 use Rattle.format.specs.Format.{groupNumbers, groupCount}
+use Rattle.format.specs.Room.{groups-most, number-within}
 use Rattle.description.specs.Valid.{validGroups}
-use Rattle.validity.proofs.Steps.{GroupsSoFar, groups-begin, groups-no, groups-more, groups-done, number-within, group-part, part-length}
+use Rattle.validity.proofs.Steps.{GroupsSoFar, groups-begin, groups-no, groups-more, groups-done, group-part, part-length}
 use Rattle.validity.proofs.valid_groups.Statement.{statement}
 use Rattle.validity.proofs.valid_groups.Tie as tie
-use Rattle.format.specs.Room.{groups-most}
 
 abbrev Inv-loop : tie.InvT-loop
 Inv-loop format fields levels count g₀ g = (count ≡ groupCount format) × GroupsSoFar (validGroups format (groupNumbers format) fields levels) format fields levels g

@@ -15,14 +15,14 @@ use Rattle.layers.specs.Answer.{mapRead}
 use Rattle.layers.specs.Grammar.{groupsRead}
 use Rattle.layers.proofs.Told.{no-field, is-field}
 use Rattle.layers.proofs.MacroblockWhole.{quantiser-small, small-byte}
-use Rattle.reader.proofs.PictureTurn.{InGroup, PictureSoFar, Left, less-count, last-found, number-low, number-high, head-led, step-led, stuffing-led, macroblock-led, group-first, group-stuffed, group-more, group-no-macroblock, group-no-mba, group-ended, picture-first, picture-done, picture-no-head, picture-inside, picture-more, left-as, left-refused, left-done}
+use Rattle.reader.proofs.PictureTurn.{InGroup, PictureSoFar, Left, less-count, last-found, head-led, step-led, stuffing-led, macroblock-led, group-first, group-stuffed, group-more, group-no-macroblock, group-no-mba, group-ended, picture-first, picture-done, picture-no-head, picture-inside, picture-more, left-as, left-refused, left-done}
 use Rattle.reader.proofs.picture.groups.Statement.{statement}
 use Rattle.reader.proofs.picture.groups.Tie as tie
 use Rattle.reader.proofs.picture.groups.Reads as reads
 use Rattle.reader.proofs.picture.groups.Lts as lts
 use Rattle.format.proofs.order.group_count.Reads as group-count-reads
 use Rattle.format.proofs.order.group_number.Reads as group-number-reads
-use Rattle.format.specs.Room.{groups-most}
+use Rattle.format.specs.Room.{groups-most, number-most, number-within}
 use Rattle.layers.proofs.head.field_refusal.Reads as field-refusal-reads
 use Rattle.layers.proofs.head.group_head.Reads as group-head-reads
 use Rattle.layers.proofs.macroblock.macroblock.Reads as macroblock-reads
@@ -55,7 +55,7 @@ group-number-requires c κs = less-count (c .before .picture .group) _ _ (c .pic
 
 -- src/picture.rt:60:54
 cast-group-head : tie.Need-cast-group-head Inv-group μ-group Inv-picture μ-picture
-cast-group-head c = let h = number-high (c .before .before .before .before .before .before .before .before .args .format) (c .before .before .picture .group) (less-count (c .before .before .picture .group) _ _ (c .before .picture-test .taken) (c .before .before .before .group-count .ensures)) in omega (arith, c .group-number .ensures)
+cast-group-head c = let h = number-most (c .before .before .before .before .before .before .before .before .args .format) (c .before .before .picture .group) in omega (arith, c .group-number .ensures)
 
 -- src/picture.rt:60:13
 group-head-requires : tie.Need-group-head-requires Inv-group μ-group Inv-picture μ-picture
@@ -103,7 +103,7 @@ enum-known-found c = search needs
 
 -- src/picture.rt:83:25
 macroblock-requires : tie.Need-macroblock-requires Inv-group μ-group Inv-picture μ-picture
-macroblock-requires c κs = let o = step-led (c .before .before .before .before .before .before .group .inv) (c .before .before .before .before .before .mba .result) _ _ (last-found (c .before .before .before .before .before .before .before .before .before .before .before .before .before .before .before .before .before .before .before .args .bytes .now) (c .before .before .before .before .before .before .before .before .before .before .before .before .before .before .before .before .before .before .before .args .count) (c .before .before .before .before .before .mba .result) (c .before .before .before .before .before .before .before .before .before .before .before .before .before .picture .group) _ _ _ _ _ (c .before .before .before .before .before .mba .ensures) (c .before .before .before .before .before .before .before .before .before .before .before .before .before .before .group-count .ensures)) (c .before .before .before .found .given .1) in let l = less-count (c .before .before .before .before .before .before .before .before .before .before .before .before .before .picture .group) _ _ (c .before .before .before .before .before .before .before .before .before .before .before .before .picture-test .taken) (c .before .before .before .before .before .before .before .before .before .before .before .before .before .before .group-count .ensures) in let h = groups-most (c .before .before .before .before .before .before .before .before .before .before .before .before .before .before .before .before .before .before .before .args .format) in (c .before .before .before .before .before .before .before .before .before .before .before .before .before .before .before .before .before .before .before .pre .0, record { lent = c .before .before .before .before .before .before .before .before .before .before .before .before .before .before .before .before .before .before .before .pre .1 .lent; inside = o .inside }, omega (arith, number-low (c .before .before .before .before .before .before .before .before .before .before .before .before .before .before .before .before .before .before .before .args .format) (c .before .before .before .before .before .before .before .before .before .before .before .before .before .picture .group) l, c .before .before .before .before .before .before .before .before .before .before .before .group-number .ensures), omega (arith, number-high (c .before .before .before .before .before .before .before .before .before .before .before .before .before .before .before .before .before .before .before .args .format) (c .before .before .before .before .before .before .before .before .before .before .before .before .before .picture .group) l, c .before .before .before .before .before .before .before .before .before .before .before .group-number .ensures), omega arith, o .met .0, o .met .1, c .before .before .before .before .before .before .group .inv .kept, omega (arith, c .before .before .before .before .before .before .group .inv .ms-long, c .before .before .before .before .before .before .before .before .before .before .before .before .before .picture .inv .ms-long), omega (arith, c .before .before .before .before .before .before .group .inv .ls-long, c .before .before .before .before .before .before .before .before .before .before .before .before .before .picture .inv .ls-long))
+macroblock-requires c κs = let o = step-led (c .before .before .before .before .before .before .group .inv) (c .before .before .before .before .before .mba .result) _ _ (last-found (c .before .before .before .before .before .before .before .before .before .before .before .before .before .before .before .before .before .before .before .args .bytes .now) (c .before .before .before .before .before .before .before .before .before .before .before .before .before .before .before .before .before .before .before .args .count) (c .before .before .before .before .before .mba .result) (c .before .before .before .before .before .before .before .before .before .before .before .before .before .picture .group) _ _ _ _ _ (c .before .before .before .before .before .mba .ensures) (c .before .before .before .before .before .before .before .before .before .before .before .before .before .before .group-count .ensures)) (c .before .before .before .found .given .1) in let l = less-count (c .before .before .before .before .before .before .before .before .before .before .before .before .before .picture .group) _ _ (c .before .before .before .before .before .before .before .before .before .before .before .before .picture-test .taken) (c .before .before .before .before .before .before .before .before .before .before .before .before .before .before .group-count .ensures) in let w = number-within (c .before .before .before .before .before .before .before .before .before .before .before .before .before .before .before .before .before .before .before .args .format) (c .before .before .before .before .before .before .before .before .before .before .before .before .before .picture .group) l in let h = groups-most (c .before .before .before .before .before .before .before .before .before .before .before .before .before .before .before .before .before .before .before .args .format) in (c .before .before .before .before .before .before .before .before .before .before .before .before .before .before .before .before .before .before .before .pre .0, record { lent = c .before .before .before .before .before .before .before .before .before .before .before .before .before .before .before .before .before .before .before .pre .1 .lent; inside = o .inside }, omega (arith, w .0, c .before .before .before .before .before .before .before .before .before .before .before .group-number .ensures), omega (arith, w .1, c .before .before .before .before .before .before .before .before .before .before .before .group-number .ensures), omega arith, o .met .0, o .met .1, c .before .before .before .before .before .before .group .inv .kept, omega (arith, c .before .before .before .before .before .before .group .inv .ms-long, c .before .before .before .before .before .before .before .before .before .before .before .before .before .picture .inv .ms-long), omega (arith, c .before .before .before .before .before .before .group .inv .ls-long, c .before .before .before .before .before .before .before .before .before .before .before .before .before .picture .inv .ls-long))
 
 -- src/picture.rt:96:45
 enum-known-read : tie.Need-enum-known-read Inv-group μ-group Inv-picture μ-picture
