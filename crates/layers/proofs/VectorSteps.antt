@@ -136,10 +136,10 @@ module _ (f : Format) (number address : ℕ) (before : Vector) (bs : List Bit) (
       vector-right l = sym (judged-so false (rw (past-edge (width f) (column number address) h kh l)))
 
       pub vector-above : row number address + v < 16 → bad VectorOut at ≡ vectorRead f number address before bs at
-      vector-above l = sym (judged-so false (rw (before-edge (height f) (row number address) v kv l) (both-no (inside (width f) (column number address) (componentOf h)))))
+      vector-above l = sym (judged-so false (rw (before-edge (height f) (row number address) v kv l) (second-no (inside (width f) (column number address) (componentOf h)) false refl)))
 
       pub vector-below : height f < row number address + v → bad VectorOut at ≡ vectorRead f number address before bs at
-      vector-below l = sym (judged-so false (rw (past-edge (height f) (row number address) v kv l) (both-no (inside (width f) (column number address) (componentOf h)))))
+      vector-below l = sym (judged-so false (rw (past-edge (height f) (row number address) v kv l) (second-no (inside (width f) (column number address) (componentOf h)) false refl)))
 
       pub vector-inside : 16 ≤ column number address + h → column number address + h ≤ width f → 16 ≤ row number address + v → row number address + v ≤ height f
           → got (vectorOf h v) ds q ≡ vectorRead f number address before bs at

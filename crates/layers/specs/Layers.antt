@@ -310,7 +310,7 @@ pub mba-reads : {bound : ℕ} (last : Bool) (address : ℕ) → Reads bound 1 (�
 mba-reads last address = reads-judged (reads-word (leb 1) table1 table1-meanings) (λ m left g. judges-mba last address m (leb→le 1 m g))
 
 -- in the last group no bit is left after the macroblocks
-abbrev Ended : Bool → List Bit → Type 0
+abbrev pub Ended : Bool → List Bit → Type 0
 Ended last left = If last (left ≡ []) (Unit {0})
 
 macroblocks-after : {bound : ℕ} (more : Before → Reader (List Macroblock)) (f : Format) (last : Bool) (number : ℕ) (before : Before) (x : Mba)
