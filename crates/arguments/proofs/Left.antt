@@ -9,47 +9,24 @@ use lib.Dec.{eqb, leb}
 use lib.ListN.{length, drop, getD, drop-of-length-le}
 use lib.Seq.{drop-cons}
 use Rattle.laws.specs.Choice.{pick, both}
+use Rattle.laws.specs.Lists.{drop-on, alike, alike-on, alike-past}
 use Rattle.format.specs.declared.Format.the-variants.{Qcif, Cif}
 use Rattle.arguments.specs.declared.FormatWord.{FormatWord}
 use Rattle.arguments.specs.declared.FormatWord.the-variants as F
 use Rattle.arguments.specs.declared.ClipWord.{ClipWord}
 use Rattle.arguments.specs.declared.ClipWord.the-variants as C
-use Rattle.arguments.specs.Words.{alike, qcifWord, cifWord, formatNamed, digit, longer, clipAfter, clipNamed}
-
-next : (l : List ℕ) (i : ℕ) → i < length l → drop i l ≡ getD l i 0 ∷ drop (i + 1) l
-next l i h =
-    let one : suc i ≡ i + 1 = omega arith in
-    drop-cons l i 0 h ∙ ap (λ (k : ℕ). getD l i 0 ∷ drop k l) one
+use Rattle.arguments.specs.Words.{qcifWord, cifWord, formatNamed, digit, longer, clipAfter, clipNamed}
 
 -- ---- two words
-differ : (xs ys : List ℕ) → (length xs ≡ length ys → ⊥) → alike xs ys ≡ false
-unfolding alike
-differ [] [] ne = absurd (ne refl)
-differ [] (y ∷ ys) ne = refl
-differ (x ∷ xs) [] ne = refl
-differ (x ∷ xs) (y ∷ ys) ne = ap (λ (b : Bool). both (eqb x y) b) (differ xs ys (λ e. ne (ap suc e))) ∙ neither (eqb x y)
-  where
-    neither : (b : Bool) → both b false ≡ false
-    neither true = refl
-    neither false = refl
-
-pub alike-long : (xs ys : List ℕ) → (length xs ≡ length ys → ⊥) → alike xs ys ≡ false
-alike-long xs ys ne = differ xs ys ne
-
 module _ (xs ys : List ℕ) (i : ℕ) where
-  opened : i < length xs → i < length ys → alike (drop i xs) (drop i ys) ≡ both (eqb (getD xs i 0) (getD ys i 0)) (alike (drop (i + 1) xs) (drop (i + 1) ys))
-  unfolding alike
-  opened h g = λ j. alike (next xs i h j) (next ys i g j)
-
   pub alike-fails : i < length xs → i < length ys → (getD xs i 0 ≡ getD ys i 0 → ⊥) → alike xs ys ≡ alike (drop i xs) (drop i ys) → alike xs ys ≡ false
-  alike-fails h g ne e = e ∙ opened h g ∙ ap (λ (b : Bool). both b (alike (drop (i + 1) xs) (drop (i + 1) ys))) (ne-eqb (getD xs i 0) (getD ys i 0) ne)
+  alike-fails h g ne e = e ∙ alike-on xs ys i h g ∙ ap (λ (b : Bool). both b (alike (drop (i + 1) xs) (drop (i + 1) ys))) (ne-eqb (getD xs i 0) (getD ys i 0) ne)
 
   pub alike-more : i < length xs → i < length ys → getD xs i 0 ≡ getD ys i 0 → alike (drop i xs) (drop i ys) ≡ alike (drop (i + 1) xs) (drop (i + 1) ys)
-  alike-more h g same = opened h g ∙ ap (λ (b : Bool). both b (alike (drop (i + 1) xs) (drop (i + 1) ys))) (eq-eqb (getD xs i 0) (getD ys i 0) same)
+  alike-more h g same = alike-on xs ys i h g ∙ ap (λ (b : Bool). both b (alike (drop (i + 1) xs) (drop (i + 1) ys))) (eq-eqb (getD xs i 0) (getD ys i 0) same)
 
   pub alike-end : length xs ≤ i → length ys ≤ i → alike xs ys ≡ alike (drop i xs) (drop i ys) → alike xs ys ≡ true
-  unfolding alike
-  alike-end h g e = e ∙ (λ j. alike (drop-of-length-le xs h j) (drop-of-length-le ys g j))
+  alike-end h g e = e ∙ alike-past xs ys i h g
 
 -- ---- a format
 abbrev byTests : Bool → Bool → FormatWord
@@ -83,7 +60,7 @@ clip-start (c ∷ cs) ne = refl
 module _ (l : List ℕ) (n i : ℕ) where
   after : i < length l → clipAfter n (drop i l) ≡ pick (both (digit (getD l i 0)) (leb (longer n (getD l i 0)) 65535)) (clipAfter (longer n (getD l i 0)) (drop (i + 1) l)) C.Other
   unfolding clipAfter
-  after h = ap (λ (x : List ℕ). clipAfter n x) (next l i h)
+  after h = ap (λ (x : List ℕ). clipAfter n x) (drop-on l i h)
 
   pub clip-other : {b : Bool} → i < length l → b ≡ digit (getD l i 0) → b ≡ false → clipAfter n (drop i l) ≡ C.Other
   clip-other {b} h e f = after h ∙ ap (λ (t : Bool). pick (both t (leb (longer n (getD l i 0)) 65535)) (clipAfter (longer n (getD l i 0)) (drop (i + 1) l)) C.Other) (sym e ∙ f)

@@ -1,20 +1,15 @@
 -- What a program's words name: a format, a clip. Assumes nothing.
 use Prim.Native.Nat.{ℕ, _+_, _-_, _*_}
-use mathlib.Core.Bool.{Bool, true, false}
+use mathlib.Core.Bool.{Bool}
 use mathlib.Core.List.{List, [], _∷_}
-use lib.Dec.{eqb, leb}
+use lib.Dec.{leb}
 use Rattle.laws.specs.Choice.{pick, both}
+use Rattle.laws.specs.Lists.{alike}
 use Rattle.format.specs.declared.Format.the-variants.{Qcif, Cif}
 use Rattle.arguments.specs.declared.FormatWord.{FormatWord}
 use Rattle.arguments.specs.declared.FormatWord.the-variants as F
 use Rattle.arguments.specs.declared.ClipWord.{ClipWord}
 use Rattle.arguments.specs.declared.ClipWord.the-variants as C
-
-unfoldable pub alike : List ℕ → List ℕ → Bool
-alike [] [] = true
-alike [] (y ∷ ys) = false
-alike (x ∷ xs) [] = false
-alike (x ∷ xs) (y ∷ ys) = both (eqb x y) (alike xs ys)
 
 -- "qcif", "cif"
 abbrev pub qcifWord : List ℕ

@@ -2,7 +2,8 @@
 use format::Format;
 ghost use mathlib.Core.Path.{_≡_};
 ghost use Prim.Native.Nat.{_+_, _-_, _*_, _≤_};
-ghost use Rattle.arguments.specs.Words.{alike, formatNamed, digit, longer, clipNamed};
+ghost use Rattle.laws.specs.Lists.{alike};
+ghost use Rattle.arguments.specs.Words.{formatNamed, digit, longer, clipNamed};
 
 pub enum FormatWord {
     Names(Format),

@@ -5,7 +5,7 @@ use mathlib.Core.Path.{_≡_, refl, subst, _∙_}
 use mathlib.Core.Bool.{Bool, true, false}
 use mathlib.Core.List.{List, [], _∷_}
 use native.Mathlib.Omega.{arith}
-use native.Mathlib.Nat.{pow-suc, le-refl}
+use native.Mathlib.Nat.{pow-suc, le-refl, not-suc-le-zero}
 use lib.Dec.{T, leb, lit<}
 use lib.ListN.{length, drop}
 use Rattle.laws.specs.Choice.{pick, both}
@@ -13,10 +13,11 @@ use Rattle.refusals.specs.declared.Reason.{Reason}
 use Rattle.refusals.specs.declared.Reason.the-variants.{BitsEnd, NoCodeword}
 use Rattle.refusals.specs.declared.Refusal.{Refusal}
 use Rattle.refusals.specs.Number.{number}
-use Rattle.bits.specs.Bits.{Bit, O, I, num}
+use Rattle.bits.specs.Bits.{Bit, num}
 use Rattle.bits.specs.Read.{Read, got, refused, endless, Reader, next, _>>=_, done, fieldFrom, field, Judged, fine, against, settle, judged, moved, whole, orEnd, loop}
 use Rattle.bits.specs.Code.{Entry, entry, starts, longer, lookup, word}
 use Rattle.bits.specs.Codes.{each, word-got}
+use Rattle.bits.specs.Numbers.{num-small}
 
 -- ---- one read
 -- what was got is P, what was refused is Q, and the read ended
@@ -125,10 +126,7 @@ reads-loop h = record { gives = λ bs at b. h (suc (length bs)) .gives bs at (le
 
 -- no bit is fewer than none
 pub reads-never : {A : Type 0} {least : ℕ} {Good : A → List Bit → Type 0} {r : Reader A} → Reads 0 least Good r
-reads-never = record { gives = λ bs at b. absurd (none b) }
-  where
-    none : {n : ℕ} → n < 0 → ⊥
-    none h = omega arith
+reads-never = record { gives = λ bs at b. absurd (not-suc-le-zero b) }
 
 pub reads-pick : {A : Type 0} {bound least : ℕ} {Good : A → List Bit → Type 0} {x y : Reader A} (t : Bool)
     → (T t → Reads bound least Good x) → (t ≡ false → Reads bound least Good y) → Reads bound least Good (pick t x y)
@@ -180,10 +178,6 @@ reads-whole {A} {least = least} {Good} {r} h = record { gives = λ bs at b. back
     back bs at endless g = g
 
 -- ---- a field: a number of k bits
-num-small : (b : Bit) → num b < 2
-num-small O = lit< tt
-num-small I = lit< tt
-
 -- j of k bits are read, and hold v
 field-from : (k j rest : ℕ) → j + rest ≡ k → (bs : List Bit) (at v : ℕ) (left : List Bit) (p : ℕ)
     → Took j bs at left p → v < 2 ^ j → Gives k (λ v left. v < 2 ^ k) bs at (fieldFrom rest at v left p)

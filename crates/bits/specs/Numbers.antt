@@ -7,8 +7,12 @@ use native.Mathlib.Omega.{arith}
 use lib.Dec.{lit<}
 use lib.Pow.{high, low, field, mod-mod-pow, shr-shr}
 use lib.ListN.{length}
-use Rattle.bits.specs.Bits.{Bit, bitOf, num, bitsOf, bitNum, bitAt, value, bitsFrom}
+use Rattle.bits.specs.Bits.{Bit, O, I, bitOf, num, bitsOf, bitNum, bitAt, value, bitsFrom}
 use Rattle.bits.specs.Value.{bitNum-lt, value-lt, value-add, value-one}
+
+pub num-small : (b : Bit) → num b < 2
+num-small O = lit< tt
+num-small I = lit< tt
 
 -- only the k low bits count
 pub bitsOf-mod : (k x y : ℕ) → x % 2 ^ k ≡ y % 2 ^ k → bitsOf k x ≡ bitsOf k y

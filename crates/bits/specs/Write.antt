@@ -2,16 +2,15 @@
 -- Assumes nothing.
 use mathlib.Core.Path.{_≡_, refl, sym, ap, _∙_}
 use mathlib.Core.List.{List, [], _∷_, _++_, append-assoc, append-nil}
-use Prim.Native.Nat.{ℕ, zero, suc, _+_, _-_, _*_, _/_, _%_, _^_, _<_, _≤_}
-use native.Mathlib.Nat.{add-zero, zero-add, add-suc, suc-add, add-comm, add-assoc}
+use Prim.Native.Nat.{ℕ, zero, suc, _+_, _-_, _*_, _/_, _≤_}
+use native.Mathlib.Nat.{add-zero, zero-add, add-assoc}
 use native.Mathlib.Omega.{arith}
-use lib.Dec.{lit<}
-use lib.ListN.{length, getD, take, drop, length-append, length-drop}
-use lib.Seq.{take-append-seam, take-length, drop-append-add, drop-drop, drop-nil}
-use Rattle.bits.specs.Bits.{Bit, O, I, bitOf, num, bitsOf, bitsIn, source, bitsFrom, bitsLeft}
+use lib.ListN.{length, take, drop, length-append, length-drop}
+use lib.Seq.{drop-append-add, drop-drop, drop-nil}
+use Rattle.bits.specs.Bits.{Bit, O, I, num, bitsOf, bitsIn, source, bitsFrom}
 use Rattle.bits.specs.Value.{length-bits}
 use Rattle.bits.specs.Source.{source-left}
-use Rattle.bits.specs.Numbers.{bitsOf-append}
+use Rattle.bits.specs.Numbers.{bitsOf-append, num-small}
 
 -- the number of the first k bits, zeros where they end, after what was read so far
 unfoldable pub byteFrom : ℕ → ℕ → List Bit → ℕ
@@ -47,15 +46,11 @@ one-bit : (b : Bit) → bitsOf 1 (num b) ≡ b ∷ []
 one-bit O = refl
 one-bit I = refl
 
-num-lt : (b : Bit) → num b < 2
-num-lt O = lit< tt
-num-lt I = lit< tt
-
 snoc : (j v : ℕ) (b : Bit) (r : List Bit) → bitsOf (suc j) (v * 2 + num b) ++ r ≡ bitsOf j v ++ (b ∷ r)
 snoc j v b r =
     let e : j + 1 ≡ suc j = omega arith in
     let h : bitsOf j v ++ (b ∷ []) ≡ bitsOf (suc j) (v * 2 + num b) =
-    ap (λ (l : List Bit). bitsOf j v ++ l) (sym (one-bit b)) ∙ bitsOf-append j 1 v (num b) (num-lt b) ∙ ap (λ (i : ℕ). bitsOf i (v * 2 + num b)) e in
+    ap (λ (l : List Bit). bitsOf j v ++ l) (sym (one-bit b)) ∙ bitsOf-append j 1 v (num b) (num-small b) ∙ ap (λ (i : ℕ). bitsOf i (v * 2 + num b)) e in
     ap (λ (l : List Bit). l ++ r) (sym h) ∙ append-assoc (bitsOf j v) (b ∷ []) r
 
 pad-number : (j k v : ℕ) (bs : List Bit) → bitsOf (j + k) (byteFrom k v bs) ≡ bitsOf j v ++ padded k bs

@@ -1,21 +1,17 @@
 -- A turn of each loop, and its end. Assumes nothing.
 use mathlib.Core.Path.{_≡_, refl, sym, ap, _∙_}
 use mathlib.Core.Bool.{Bool, true, false}
-use mathlib.Core.List.{List, [], _∷_}
-use Prim.Native.Nat.{ℕ, suc, _+_, _<_, _≤_, zero-le}
+use mathlib.Core.List.{List}
+use Prim.Native.Nat.{ℕ, _+_, _<_, _≤_}
 use native.Mathlib.Omega.{arith}
-use native.Mathlib.Numerals.{add-one}
 use borrow.Author.Tests.{eq-eqb, ne-eqb}
 use lib.Dec.{eqb}
 use lib.ListN.{length, getD, drop, replicate, length-replicate, getD-replicate, drop-of-length-le}
-use lib.Seq.{drop-cons, ext-getD}
+use lib.Seq.{ext-getD}
 use Rattle.laws.specs.Choice.{both}
 use Rattle.laws.specs.Rows.{Begins}
-use Rattle.checks.specs.Check.{mixed, checkFrom, alike}
-
--- an element, then the rest
-step : (l : List ℕ) (i : ℕ) → i < length l → drop i l ≡ getD l i 0 ∷ drop (i + 1) l
-step l i h = drop-cons l i 0 h ∙ ap (λ (n : ℕ). getD l i 0 ∷ drop n l) (sym (add-one i))
+use Rattle.laws.specs.Lists.{drop-on, alike, alike-on, alike-past}
+use Rattle.checks.specs.Check.{mixed, checkFrom}
 
 -- ---- the check: what it makes of the rest of the bytes is what h makes of them all
 pub record CheckedSoFar (h : ℕ) (bytes : List ℕ) (on i : ℕ) : Type 0 where
@@ -30,7 +26,7 @@ unfolding checkFrom
 checked-more {h} {on} {i} {b} bytes s l e =
     record {
       low = omega arith;
-      still = ap (λ (x : ℕ). checkFrom (mixed on x) (drop (i + 1) bytes)) e ∙ sym (ap (checkFrom on) (step bytes i l)) ∙ s .still;
+      still = ap (λ (x : ℕ). checkFrom (mixed on x) (drop (i + 1) bytes)) e ∙ sym (ap (checkFrom on) (drop-on bytes i l)) ∙ s .still;
     }
 
 pub checked-all : {h on i : ℕ} (bytes : List ℕ) → CheckedSoFar h bytes on i → length bytes ≤ i → (on ≡ checkFrom h bytes) × (on < 4294967291)
@@ -49,23 +45,11 @@ pub record AlikeSoFar (a b : List ℕ) (i : ℕ) : Type 0 where
 pub alike-none : (a b : List ℕ) → length a ≡ length b → AlikeSoFar a b 0
 alike-none a b e = record { long = e; still = refl }
 
-none-both : (x : Bool) → false ≡ both x false
-none-both true = refl
-none-both false = refl
-
-pub other-lengths : (a b : List ℕ) → (length a ≡ length b → ⊥) → false ≡ alike a b
-unfolding alike
-other-lengths [] [] n = absurd (n refl)
-other-lengths [] (y ∷ ys) n = refl
-other-lengths (x ∷ xs) [] n = refl
-other-lengths (x ∷ xs) (y ∷ ys) n = none-both (eqb x y) ∙ ap (both (eqb x y)) (other-lengths xs ys (λ e. n (ap suc e)))
-
 module _ {a b : List ℕ} {i : ℕ} (s : AlikeSoFar a b i) where
   apart : i < length a → both (eqb (getD a i 0) (getD b i 0)) (alike (drop (i + 1) a) (drop (i + 1) b)) ≡ alike a b
-  unfolding alike
   apart l =
       let m : i < length b = omega (arith, s .long) in
-      sym (ap (λ (x : List ℕ). alike x (getD b i 0 ∷ drop (i + 1) b)) (step a i l)) ∙ sym (ap (alike (drop i a)) (step b i m)) ∙ s .still
+      sym (alike-on a b i l m) ∙ s .still
 
   pub alike-more : i < length a → getD a i 0 ≡ getD b i 0 → AlikeSoFar a b (i + 1)
   alike-more l e =
@@ -78,10 +62,9 @@ module _ {a b : List ℕ} {i : ℕ} (s : AlikeSoFar a b i) where
   other-byte l n = sym (ap (λ (x : Bool). both x (alike (drop (i + 1) a) (drop (i + 1) b))) (ne-eqb (getD a i 0) (getD b i 0) n)) ∙ apart l
 
   pub alike-all : length a ≤ i → true ≡ alike a b
-  unfolding alike
   alike-all l =
       let m : length b ≤ i = omega (arith, s .long) in
-      sym (ap (λ (x : List ℕ). alike x []) (drop-of-length-le a l)) ∙ sym (ap (alike (drop i a)) (drop-of-length-le b m)) ∙ s .still
+      sym (alike-past a b i l m) ∙ s .still
 
 -- ---- filled bytes
 pub filled-all : {m : ℕ} {value : ℕ} {r : List ℕ} → Begins m m (λ _. value) r → r ≡ replicate m value

@@ -1,9 +1,6 @@
--- The check of bytes, and bytes compared. Assumes nothing.
-use mathlib.Core.Bool.{Bool, true, false}
+-- The check of bytes. Assumes nothing.
 use mathlib.Core.List.{List, [], _∷_}
 use Prim.Native.Nat.{ℕ, _+_, _*_, _%_}
-use lib.Dec.{eqb}
-use Rattle.laws.specs.Choice.{both}
 
 -- h starts at 1, and each byte b makes it (65599 h + b) mod 4294967291
 abbrev pub mixed : ℕ → ℕ → ℕ
@@ -12,9 +9,3 @@ mixed h b = (65599 * h + b) % 4294967291
 unfoldable pub checkFrom : ℕ → List ℕ → ℕ
 checkFrom h [] = h
 checkFrom h (b ∷ bytes) = checkFrom (mixed h b) bytes
-
-unfoldable pub alike : List ℕ → List ℕ → Bool
-alike [] [] = true
-alike [] (y ∷ ys) = false
-alike (x ∷ xs) [] = false
-alike (x ∷ xs) (y ∷ ys) = both (eqb x y) (alike xs ys)

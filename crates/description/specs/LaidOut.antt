@@ -12,12 +12,13 @@ use lib.IntN.{ℤ}
 use mir.Syntax.{w8}
 use mir.Val.{Fits as Held}
 use mir.Facts.{fits-ofZ, yes-eqb}
-use Rattle.laws.specs.Choice.{pick, both, either, opposite, both-left, both-right, both-make, T-true, true-T}
+use Rattle.laws.specs.Choice.{pick, both, either, opposite, both-left, both-right, both-make, both-assoc, T-true, true-T}
 use Rattle.laws.specs.Integer.{Low, low-fits, back}
 use Rattle.laws.specs.Zeros.{zeros}
 use Rattle.words.specs.Words.{Coefficient, isIntra, isMC, hasMQUANT, hasCBP, forbidden}
 use Rattle.format.specs.Format.{formatBit, groupCount, groupNumbers}
 use Rattle.format.specs.declared.Format.{Format}
+use Rattle.format.specs.Room.{groups-listed}
 use Rattle.description.specs.Vector.{Vector, zeroVector, inRange, inPicture}
 use Rattle.description.specs.Value.{Block, Macroblock, Group, Picture}
 use Rattle.description.specs.Flat.{Flat, byteOf, fieldsOf, laid}
@@ -25,16 +26,13 @@ use Rattle.description.specs.Valid.{all, isZero, isQuantiser, isLevel, c
 use Rattle.description.specs.Proper.{If, Each, isCode, Fits, Begins, allEmpty, ProperBlocks, ProperVector, ProperMacroblock, Rising, ProperGroups, Proper}
 use Rattle.description.specs.Walk.{walk-none, walk-more}
 use Rattle.description.specs.Described.{small-vector}
-use Rattle.description.specs.Spread.{Writes, spread, spreads, length-spread, rows, length-rows, storeFields, storeLevels, levelsOf, fields-written, levels-written, length-levels, columns, gquants, flat, groups-length, as-many, laid-spread}
+use Rattle.description.specs.Spread.{Writes, spread, spreads, length-spread, rows, length-rows, storeFields, storeLevels, levelsOf, fields-written, levels-written, length-levels, columns, gquants, groups-length, laid-spread}
+use Rattle.description.specs.Fields.{flat}
 
 -- ---- levels
-both-assoc : (a b c : Bool) → both (both a b) c ≡ both a (both b c)
-both-assoc true b c = refl
-both-assoc false b c = refl
-
 all-append : (good : ℕ → Bool) (xs ys : List ℕ) → all good (xs ++ ys) ≡ both (all good xs) (all good ys)
 all-append good [] ys = refl
-all-append good (x ∷ xs) ys = ap (both (good x)) (all-append good xs ys) ∙ sym (both-assoc (good x) (all good xs) (all good ys))
+all-append good (x ∷ xs) ys = ap (both (good x)) (all-append good xs ys) ∙ both-assoc (good x) (all good xs) (all good ys)
 
 all-zeros : (good : ℕ → Bool) (n : ℕ) → T (good 0) → all good (zeros n) ≡ true
 unfolding zeros
@@ -205,7 +203,7 @@ spread-valid : (f : Format) (p : Picture) → Proper f p
 unfolding valid
 spread-valid f p h =
     let xs : List Group = p .groups in
-    let n : length xs ≡ groupCount f = groups-length f (groupNumbers f) xs (h .grouped) ∙ as-many f in
+    let n : length xs ≡ groupCount f = groups-length f (groupNumbers f) xs (h .grouped) ∙ groups-listed f in
     let hs : suc (suc (suc (length (gquants xs)))) ≡ 3 + groupCount f = omega (arith, length-gquants xs) in
     let ms : length (columns 4 fieldsOf xs) ≡ groupCount f * 132 = length-columns 4 storeFields fieldsOf fields-written f (groupNumbers f) xs (h .grouped) ∙ ap (λ (k : ℕ). k * 132) n in
     let ls : length (columns 384 levelsOf xs) ≡ groupCount f * 12672 = length-columns 384 storeLevels levelsOf levels-written f (groupNumbers f) xs (h .grouped) ∙ ap (λ (k : ℕ). k * 12672) n in

@@ -2,6 +2,7 @@ pub mod Vector
 pub mod Value
 pub mod Flat
 pub mod Valid
+pub mod Levels
 pub mod Proper
 pub mod Spread
 pub mod Walk

@@ -1,39 +1,27 @@
 -- The picture of a valid description is proper. Assumes nothing.
 use Prim.Native.Nat.{ℕ, zero, suc, _+_, _-_, _*_, _≤_, _<_}
-use mathlib.Core.Path.{_≡_, refl, sym, ap}
+use mathlib.Core.Path.{_≡_, refl, ap}
 use mathlib.Core.Bool.{Bool, true, false}
 use mathlib.Core.List.{List, [], _∷_}
-use native.Mathlib.Nat.{zero-add, suc-add}
 use native.Mathlib.Omega.{arith}
 use lib.Dec.{T, eqb, leb, eqb→eq, leb→le, le→leb, eqb·suc-zero}
 use lib.ListN.{length, getD, take, drop, length-take, length-drop}
-use lib.Seq.{getD-take, take-take, take-nil}
+use lib.Seq.{getD-take}
 use Rattle.laws.specs.Choice.{pick, both, either, opposite, both-left, both-right, both-make}
 use Rattle.words.specs.Words.{isIntra, isMC, hasMQUANT, hasCBP}
 use Rattle.words.specs.Reads.{isCode}
 use Rattle.format.specs.Format.{formatBit, groupCount, groupNumbers}
 use Rattle.format.specs.declared.Format.{Format}
-use Rattle.format.specs.declared.Format.the-variants.{Qcif, Cif}
+use Rattle.format.specs.Room.{groups-listed}
 use Rattle.words.specs.Reads.{isCode}
 use Rattle.description.specs.Vector.{Vector, zeroVector, inRange, inPicture}
 use Rattle.description.specs.Value.{Block, Macroblock}
 use Rattle.description.specs.Flat.{Flat, numberOf, gather, gathers, macroblocksIn, groupsIn, pictureIn}
 use Rattle.description.specs.Valid.{all, isZero, isQuantiser, isLevel, codesFirst, validVector, validLevels, validMacroblock, validMacroblocks, validGroups, lengthsOf, validHead, valid}
+use Rattle.description.specs.Levels.{all-take, all-drop, all-levels, gathers-take}
 use Rattle.description.specs.Proper.{If, Each, Fits, Begins, allEmpty, ProperBlocks, ProperVector, ProperMacroblock, Rising, ProperGroups, Proper}
-use Rattle.description.specs.Spread.{as-many}
 
 -- ---- a test of a list's numbers
-all-take : (good : ℕ → Bool) (n : ℕ) (xs : List ℕ) → T (all good xs) → T (all good (take n xs))
-all-take good zero xs t = tt
-all-take good (suc n) [] t = tt
-all-take good (suc n) (x ∷ xs) t =
-    both-make (good x) _ (both-left (good x) (all good xs) t) (all-take good n xs (both-right (good x) (all good xs) t))
-
-all-drop : (good : ℕ → Bool) (n : ℕ) (xs : List ℕ) → T (all good xs) → T (all good (drop n xs))
-all-drop good zero xs t = t
-all-drop good (suc n) [] t = tt
-all-drop good (suc n) (x ∷ xs) t = all-drop good n xs (both-right (good x) (all good xs) t)
-
 all-join : (good : ℕ → Bool) (n : ℕ) (xs : List ℕ) → T (all good (take n xs)) → T (all good (drop n xs)) → T (all good xs)
 all-join good zero xs t u = u
 all-join good (suc n) [] t u = tt
@@ -67,11 +55,6 @@ unfolding gather
 gather-begins [] t = absurd t
 gather-begins (zero ∷ ls) t = absurd t
 gather-begins (suc c ∷ ls) t = refl
-
-zero-level : (ls : List ℕ) → T (all isZero ls) → T (all isLevel ls)
-zero-level [] t = tt
-zero-level (zero ∷ ls) t = zero-level ls t
-zero-level (suc c ∷ ls) t = let e = eqb→eq (suc c) 0 (both-left (isZero (suc c)) (all isZero ls) t) in absurd (omega arith)
 
 gather-none : (run : ℕ) (ls : List ℕ) → T (all isZero ls) → gather run ls ≡ []
 unfolding gather
@@ -128,19 +111,6 @@ gathers-some k ls l t = go (allEmpty (gathers k ls)) (all isZero ls) (none-gathe
     go true true h t = t
     go true false h t = h tt
 
--- blocks of other macroblocks don't matter
-drop-take : (n m : ℕ) (xs : List ℕ) → drop n (take (n + m) xs) ≡ take m (drop n xs)
-drop-take zero m xs = rw (zero-add m)
-drop-take (suc n) m [] = rw (suc-add n m) (sym (take-nil m))
-drop-take (suc n) m (x ∷ xs) = rw (suc-add n m) (drop-take n m xs)
-
-gathers-take : (k : ℕ) (ls : List ℕ) → gathers k (take (k * 64) ls) ≡ gathers k ls
-unfolding gathers
-gathers-take zero ls = refl
-gathers-take (suc k) ls =
-    let e : suc k * 64 ≡ 64 + k * 64 = omega arith in
-    rw (e, take-take 64 (64 + k * 64) ls (omega arith), drop-take 64 (k * 64) ls, gathers-take k (drop 64 ls))
-
 -- ---- a macroblock
 three : (a b c : Bool) → T (both a (both b c)) → T a × T b × T c
 three a b c t = (both-left a (both b c) t, both-left b c (both-right a (both b c) t), both-right b c (both-right a (both b c) t))
@@ -148,17 +118,12 @@ three a b c t = (both-left a (both b c) t, both-left b c (both-right a (both b c
 proper-blocks : (type : ℕ) (ls : List ℕ) → length ls ≤ 384 → T (validLevels type ls) → ProperBlocks type (gathers 6 ls)
 proper-blocks type ls l t = record {
   six = length-gathers 6 ls;
-  fitting = gathers-fit 6 ls (levels (isIntra type) (hasCBP type) t);
+  fitting = gathers-fit 6 ls (all-levels type ls t);
   coded = coded (isIntra type) (hasCBP type) t;
 }
   where
     Levels : Bool → Bool → Type 0
     Levels intra cbp = T (pick intra (both (all isLevel ls) (codesFirst 6 ls)) (pick cbp (both (all isLevel ls) (opposite (all isZero ls))) (all isZero ls)))
-
-    levels : (intra cbp : Bool) → Levels intra cbp → T (all isLevel ls)
-    levels true cbp t = both-left (all isLevel ls) (codesFirst 6 ls) t
-    levels false true t = both-left (all isLevel ls) (opposite (all isZero ls)) t
-    levels false false t = zero-level ls t
 
     coded : (intra cbp : Bool) → Levels intra cbp
         → If intra (Each Begins (gathers 6 ls)) (If cbp (T (opposite (allEmpty (gathers 6 ls)))) (T (allEmpty (gathers 6 ls))))
@@ -287,7 +252,7 @@ pub picture-proper : (f : Format) (d : Flat) → T (valid f d) → Proper f (pic
 unfolding pictureIn
 picture-proper f d t =
     let v = valid-lists f d t in
-    let n = as-many f in
+    let n = groups-listed f in
     let l = length-drop 3 (d .head) in
     record {
       reference = v .tr;

@@ -3,7 +3,7 @@ use Prim.Native.Nat.{ℕ, zero, suc, _+_, _-_, _*_, _≤_, _<_}
 use mathlib.Core.Path.{_≡_, refl, sym, ap, _∙_}
 use mathlib.Core.Bool.{Bool, true, false}
 use mathlib.Core.List.{List, [], _∷_, _++_, append-nil}
-use native.Mathlib.Nat.{zero-mul}
+use native.Mathlib.Nat.{zero-mul, suc-mul}
 use native.Mathlib.Omega.{arith}
 use lib.Dec.{T, leb, eqb→eq, leb→le}
 use lib.ListN.{length, getD, take, drop, length-drop, take-append-drop}
@@ -15,11 +15,12 @@ use Rattle.laws.specs.Zeros.{zeros, zeros-split}
 use Rattle.words.specs.Words.{isMC}
 use Rattle.format.specs.Format.{formatBit, groupNumbers}
 use Rattle.format.specs.declared.Format.{Format}
+use Rattle.format.specs.Room.{groups-listed}
 use Rattle.description.specs.Vector.{inRange, inPicture}
 use Rattle.description.specs.Value.{Macroblock, Group}
 use Rattle.description.specs.Flat.{Flat, byteOf, numberOf, fieldsOf, laid, gather, gathers, macroblocksIn, groupsIn, pictureIn}
 use Rattle.description.specs.Valid.{all, isZero, validVector, validMacroblock, validMacroblocks, validGroups, valid}
-use Rattle.description.specs.Spread.{spread, spreads, rows, levelsOf, columns, gquants, as-many, laid-spread}
+use Rattle.description.specs.Spread.{spread, spreads, rows, levelsOf, columns, gquants, laid-spread}
 use Rattle.description.specs.Pictured.{macroblockIn, ValidParts, valid-parts, valid-lists, picture-proper}
 
 -- ---- blocks
@@ -101,12 +102,9 @@ module _ (w : ℕ) (row : Macroblock → List ℕ) (last : ℕ) where
     rows-skip address ms l z e =
         let n : address + 1 - suc last ≡ suc (address - suc last) = omega arith in
         e ∙ ap (λ (n : ℕ). zeros (n * w) ++ take (k * w) (drop w xs)) n
-        ∙ zeros-split ((address - suc last) * w) w (suc (address - suc last) * w) (take (k * w) (drop w xs)) (times (address - suc last) w)
+        ∙ zeros-split ((address - suc last) * w) w (suc (address - suc last) * w) (take (k * w) (drop w xs)) (suc-mul (address - suc last) w)
         ∙ ap (λ (l : List ℕ). zeros ((address - suc last) * w) ++ l)
         (ap (λ (l : List ℕ). l ++ take (k * w) (drop w xs)) (sym z) ∙ sym (take-more w k xs))
-      where
-        times : (n w : ℕ) → suc n * w ≡ n * w + w
-        times n w = omega arith
 
     rows-send : (m : Macroblock) (ms : List Macroblock) → row m ≡ take w xs
         → rows w row (m .address) ms ≡ zeros ((m .address + 1 - suc (m .address)) * w) ++ take (k * w) (drop w xs)
@@ -193,7 +191,7 @@ pub laid-back : (f : Format) (d : Flat) → T (valid f d) → laid f (pictureIn 
 unfolding pictureIn
 laid-back f d t =
     let v = valid-lists f d t in
-    let n = as-many f in
+    let n = groups-listed f in
     let groups = groupsIn (drop 3 (d .head)) (d .macroblocks) (d .levels) in
     let c = columns-back f (groupNumbers f) (drop 3 (d .head)) (d .macroblocks) (d .levels) (omega (arith, length-drop 3 (d .head), v .head-length)) (omega (arith, v .macroblocks-length)) (omega (arith, v .levels-length)) (v .groups) in
     let head : getD (d .head) 0 0 ∷ getD (d .head) 1 0 ∷ formatBit f ∷ gquants groups ≡ d .head =

@@ -3,15 +3,17 @@ use Prim.Native.Nat.{ℕ, suc, _+_, _-_, _*_, _≤_, _<_}
 use mathlib.Core.Path.{_≡_, refl, sym, ap, _∙_}
 use mathlib.Core.List.{List, [], _∷_, _++_, append-assoc}
 use native.Mathlib.Omega.{arith}
+use native.Mathlib.Nat.{suc-mul}
 use lib.ListN.{length, length-append}
 use lib.Seq.{sets, set-at, append-snoc}
 use Rattle.laws.specs.Zeros.{zeros, zeros-replicate, length-zeros, zeros-add, zeros-split, zeros-set, sets-over}
 use Rattle.format.specs.Format.{formatBit, groupCount, groupNumbers}
+use Rattle.format.specs.Room.{groups-listed}
 use Rattle.format.specs.declared.Format.{Format}
-use Rattle.format.specs.declared.Format.the-variants.{Qcif, Cif}
 use Rattle.description.specs.Value.{Block, Macroblock, Group, Picture}
 use Rattle.description.specs.Flat.{Flat, putBlock, putBlocks, index, fieldsOf, putMacroblocks, putGroups, laid}
 use Rattle.description.specs.Proper.{Each, Fits, ProperBlocks, ProperMacroblock, Rising, ProperGroups, Proper}
+use Rattle.description.specs.Fields.{flat}
 
 -- ---- blocks
 -- a block's levels in `room` places
@@ -97,10 +99,7 @@ entry-start g last address w l =
 entry-end : (g address w : ℕ) → 1 ≤ address → index g address * w + w ≡ (g * 33 + address) * w
 entry-end g address w l =
     let e : g * 33 + address ≡ suc (g * 33 + (address - 1)) = omega arith in
-    sym (ap (λ (n : ℕ). n * w) e ∙ times-suc (g * 33 + (address - 1)) w)
-  where
-    times-suc : (a w : ℕ) → suc a * w ≡ a * w + w
-    times-suc a w = omega arith
+    sym (ap (λ (n : ℕ). n * w) e ∙ suc-mul (g * 33 + (address - 1)) w)
 
 -- a store that writes a row of w numbers over zeros
 pub record Writes (w : ℕ) (store : List ℕ → ℕ → Macroblock → List ℕ) (row : Macroblock → List ℕ) : Type 0 where
@@ -185,9 +184,6 @@ abbrev pub gquants : List Group → List ℕ
 gquants [] = []
 gquants (x ∷ xs) = x .gquant ∷ gquants xs
 
-abbrev pub flat : List ℕ → List ℕ → List ℕ → Flat
-flat head macroblocks levels = record { head = head; macroblocks = macroblocks; levels = levels }
-
 flats : {h h′ m m′ l l′ : List ℕ} → h ≡ h′ → m ≡ m′ → l ≡ l′ → flat h m l ≡ flat h′ m′ l′
 flats e₁ e₂ e₃ = λ i. record { head = e₁ i; macroblocks = e₂ i; levels = e₃ i }
 
@@ -233,15 +229,11 @@ groups-length f [] (x ∷ xs) p = absurd p
 groups-length f (number ∷ numbers) [] p = absurd p
 groups-length f (number ∷ numbers) (x ∷ xs) p = ap suc (groups-length f numbers xs (p .2))
 
-pub as-many : (f : Format) → length (groupNumbers f) ≡ groupCount f
-as-many Qcif = refl
-as-many Cif = refl
-
 pub laid-spread : (f : Format) (p : Picture) → Proper f p
     → laid f p ≡ flat (p .tr ∷ p .ptype ∷ formatBit f ∷ gquants (p .groups)) (columns 4 fieldsOf (p .groups)) (columns 384 levelsOf (p .groups))
 unfolding laid
 laid-spread f p h =
-    let n : groupCount f ≡ length (p .groups) = sym (groups-length f (groupNumbers f) (p .groups) (h .grouped) ∙ as-many f) in
+    let n : groupCount f ≡ length (p .groups) = sym (groups-length f (groupNumbers f) (p .groups) (h .grouped) ∙ groups-listed f) in
     ap (λ (d : Flat). putGroups 0 d (p .groups))
     (flats (ap (λ (l : List ℕ). p .tr ∷ p .ptype ∷ formatBit f ∷ l) (zeros-replicate (groupCount f) ∙ ap zeros n))
     (zeros-replicate (groupCount f * 132) ∙ ap (λ (k : ℕ). zeros (k * 132)) n)

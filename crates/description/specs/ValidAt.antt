@@ -11,19 +11,14 @@ use lib.Seq.{getD-take, getD-drop, drop-drop, length-take-le}
 use Rattle.laws.specs.Choice.{pick, both, both-left, both-right, opposite}
 use Rattle.words.specs.Words.{isMC, hasMQUANT, isIntra, hasCBP}
 use Rattle.format.specs.declared.Format.{Format}
-use Rattle.format.specs.declared.Format.the-variants.{Qcif, Cif}
 use Rattle.format.specs.Format.{groupNumbers, groupCount, formatBit, headLength, macroblocksLength, levelsLength}
+use Rattle.format.specs.Room.{groups-listed}
 use Rattle.format.specs.Order.{macroblockCount, groupOf, addressOf}
 use Rattle.description.specs.Vector.{Vector, zeroVector, inRange, inPicture}
 use Rattle.description.specs.Flat.{Flat, numberOf}
 use Rattle.description.specs.Valid.{all, isZero, isQuantiser, validVector, validLevels, validMacroblock, validMacroblocks, validGroups, lengthsOf, validHead, valid, codesFirst, isLevel}
+use Rattle.description.specs.Levels.{all-index, all-levels}
 use Rattle.description.specs.Fields.{fieldsAt, levelsAt, typeOf, mquantOf, horizontalOf, verticalOf, gquantOf, vectorOf, quantiserNext, quantiserBefore, quantiserOf, levelOf}
-
--- ---- lists
-pub each : (good : ℕ → Bool) (xs : List ℕ) → T (all good xs) → (k : ℕ) → k < length xs → T (good (getD xs k 0))
-each good [] t k l = absurd (not-suc-le-zero l)
-each good (x ∷ xs) t zero l = both-left (good x) (all good xs) t
-each good (x ∷ xs) t (suc k) l = each good xs (both-right (good x) (all good xs) t) k (le-of-suc-le-suc l)
 
 macroblock-in : (k : ℕ) (f : Format) (number address : ℕ) (fields levels : List ℕ) → T (validMacroblocks k f number address fields levels) → (m : ℕ) → m < k
     → T (validMacroblock f number (address + m) (take 4 (drop (m * 4) fields)) (take 384 (drop (m * 384) levels)))
@@ -64,10 +59,6 @@ group-in f (number ∷ numbers) fields levels t (suc g) l =
 
     six : 12672 + g * 12672 ≡ suc g * 12672
     six = omega arith
-
-group-length : (f : Format) → length (groupNumbers f) ≡ groupCount f
-group-length Qcif = refl
-group-length Cif = refl
 
 -- ---- of a valid description
 module _ (f : Format) (d : Flat) (t : T (valid f d)) where
@@ -113,14 +104,14 @@ module _ (f : Format) (d : Flat) (t : T (valid f d)) where
   pub gquant-at : (g : ℕ) → g < groupCount f → T (isQuantiser (gquantOf d g))
   gquant-at g l =
       subst (λ (q : ℕ). T (isQuantiser q)) (getD-drop 3 (d .head) g 0)
-      (each isQuantiser (drop 3 (d .head)) quantisers g (omega (arith, length-drop 3 (d .head), head-length)))
+      (all-index isQuantiser (drop 3 (d .head)) quantisers g (omega (arith, length-drop 3 (d .head), head-length)))
 
   pub macroblock-at : (n : ℕ) → n < macroblockCount f → T (validMacroblock f (groupOf f n) (addressOf n) (fieldsAt d n) (levelsAt d n))
   macroblock-at n l =
       subst (λ (a : ℕ). T (validMacroblock f (groupOf f n) a (fieldsAt d n) (levelsAt d n))) address
       (subst (λ (xs : List ℕ). T (validMacroblock f (groupOf f n) (1 + n % 33) (take 4 xs) (levelsAt d n))) (drop-drop (n % 33 * 4) (n / 33 * 132) (d .macroblocks) ∙ ap (λ (k : ℕ). drop k (d .macroblocks)) four)
       (subst (λ (xs : List ℕ). T (validMacroblock f (groupOf f n) (1 + n % 33) (take 4 (drop (n % 33 * 4) (drop (n / 33 * 132) (d .macroblocks)))) (take 384 xs))) (drop-drop (n % 33 * 384) (n / 33 * 12672) (d .levels) ∙ ap (λ (k : ℕ). drop k (d .levels)) six)
-      (macroblock-in 33 f (groupOf f n) 1 (drop (n / 33 * 132) (d .macroblocks)) (drop (n / 33 * 12672) (d .levels)) (group-in f (groupNumbers f) (d .macroblocks) (d .levels) groups (n / 33) (omega (arith, group-length f))) (n % 33) (omega arith))))
+      (macroblock-in 33 f (groupOf f n) 1 (drop (n / 33 * 132) (d .macroblocks)) (drop (n / 33 * 12672) (d .levels)) (group-in f (groupNumbers f) (d .macroblocks) (d .levels) groups (n / 33) (omega (arith, groups-listed f))) (n % 33) (omega arith))))
     where
       address : 1 + n % 33 ≡ n % 33 + 1
       address = omega arith
@@ -298,17 +289,9 @@ code-at (suc k) levels t (suc b) l =
     next : 64 + b * 64 ≡ suc b * 64
     next = omega arith
 
-zero-level : (x : ℕ) → T (isZero x) → T (isLevel x)
-zero-level x t = subst (λ (n : ℕ). T (isLevel n)) (sym (eqb→eq x 0 t)) tt
-
 -- each is a level, whatever the type
 level-in : (type : ℕ) (levels : List ℕ) → T (validLevels type levels) → (k : ℕ) → k < length levels → T (isLevel (getD levels k 0))
-level-in type levels t k l = go (isIntra type) (hasCBP type) t
-  where
-    go : (a b : Bool) → T (pick a (both (all isLevel levels) (codesFirst 6 levels)) (pick b (both (all isLevel levels) (opposite (all isZero levels))) (all isZero levels))) → T (isLevel (getD levels k 0))
-    go true b u = each isLevel levels (both-left (all isLevel levels) (codesFirst 6 levels) u) k l
-    go false true u = each isLevel levels (both-left (all isLevel levels) (opposite (all isZero levels)) u) k l
-    go false false u = zero-level (getD levels k 0) (each isZero levels u k l)
+level-in type levels t k l = all-index isLevel levels (all-levels type levels t) k l
 
 module _ (f : Format) (d : Flat) (t : T (valid f d)) (n : ℕ) (l : n < macroblockCount f) where
   levels-are : length (levelsAt d n) ≡ 384
@@ -343,4 +326,4 @@ module _ (f : Format) (d : Flat) (t : T (valid f d)) (n : ℕ) (l : n < macroblo
   bare-at e c k m =
       sym (level-of k m)
       ∙ eqb→eq (getD (levelsAt d n) k 0) 0
-      (each isZero (levelsAt d n) (pick-false (both (all isLevel (levelsAt d n)) (opposite (all isZero (levelsAt d n)))) (all isZero (levelsAt d n)) c (rest-of e)) k (omega (arith, levels-are)))
+      (all-index isZero (levelsAt d n) (pick-false (both (all isLevel (levelsAt d n)) (opposite (all isZero (levelsAt d n)))) (all isZero (levelsAt d n)) c (rest-of e)) k (omega (arith, levels-are)))

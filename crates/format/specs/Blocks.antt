@@ -218,23 +218,20 @@ unfolding groups-right
 group-at Qcif g l = eqb-yes (all-at 3 (groups-right Qcif) tt g l)
 group-at Cif g l = eqb-yes (all-at 12 (groups-right Cif) tt g l)
 
+group-in : (f : Format) (n : ℕ) → n < macroblockCount f → n / 33 < groupCount f
+group-in f n l = omega arith
+
 -- the first row and column of samples of macroblock n
 pub row-at : (f : Format) (n : ℕ) → n < macroblockCount f → row (groupOf f n) (addressOf n) ≡ rowOf f n * 16
-row-at f n l = ap (λ (g : ℕ). row g (addressOf n)) (group-at f (n / 33) (less f l)) ∙ go f
+row-at f n l = ap (λ (g : ℕ). row g (addressOf n)) (group-at f (n / 33) (group-in f n l)) ∙ go f
   where
-    less : (f : Format) → n < macroblockCount f → n / 33 < groupCount f
-    less f l = omega arith
-
     go : (f : Format) → row (n / 33 / groupsAcross f * 2 + n / 33 % groupsAcross f + 1) (addressOf n) ≡ rowOf f n * 16
     go Qcif = omega arith
     go Cif = omega arith
 
 pub column-at : (f : Format) (n : ℕ) → n < macroblockCount f → column (groupOf f n) (addressOf n) ≡ columnOf f n * 16
-column-at f n l = ap (λ (g : ℕ). column g (addressOf n)) (group-at f (n / 33) (less f l)) ∙ go f
+column-at f n l = ap (λ (g : ℕ). column g (addressOf n)) (group-at f (n / 33) (group-in f n l)) ∙ go f
   where
-    less : (f : Format) → n < macroblockCount f → n / 33 < groupCount f
-    less f l = omega arith
-
     go : (f : Format) → column (n / 33 / groupsAcross f * 2 + n / 33 % groupsAcross f + 1) (addressOf n) ≡ columnOf f n * 16
     go Qcif = omega arith
     go Cif = omega arith

@@ -3,3 +3,4 @@ pub mod Place
 pub mod Order
 pub mod Grid
 pub mod Blocks
+pub mod Room

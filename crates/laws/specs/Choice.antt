@@ -21,6 +21,11 @@ abbrev pub opposite : Bool → Bool
 opposite true = false
 opposite false = true
 
+-- two tests give the same
+abbrev pub alike : Bool → Bool → Bool
+alike true b = b
+alike false b = opposite b
+
 -- n is one of these
 abbrev pub oneOf : List ℕ → ℕ → Bool
 oneOf [] n = false
@@ -64,3 +69,29 @@ true-false e = subst T e tt
 pub either-right : (a b : Bool) → a ≡ false → T (either a b) → T b
 either-right true b e t = absurd (true-false e)
 either-right false b e t = t
+
+-- the same, where a test is known by what it equals
+pub two-of : (a b : Bool) → both a b ≡ true → (a ≡ true) × (b ≡ true)
+two-of true b e = (refl, e)
+two-of false b e = absurd (true-false (sym e))
+
+pub first-no : (a b : Bool) → a ≡ false → both a b ≡ false
+first-no a b e = rw e
+
+pub second-no : (a b : Bool) → b ≡ false → both a b ≡ false
+second-no true b e = e
+second-no false b e = refl
+
+pub if-so : (a b : Bool) → either (opposite a) b ≡ true → a ≡ true → b ≡ true
+if-so true b e f = e
+if-so false b e f = absurd (true-false (sym f))
+
+pub opposite-no : (b : Bool) → T (opposite b) → b ≡ false
+opposite-no true t = absurd t
+opposite-no false t = refl
+
+pub alike-same : (a b : Bool) → T (alike a b) → a ≡ b
+alike-same true true t = refl
+alike-same true false t = absurd t
+alike-same false true t = absurd t
+alike-same false false t = refl

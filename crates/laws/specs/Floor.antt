@@ -1,7 +1,7 @@
 -- Division of an integer by a positive number, rounded down, and its laws. Assumes nothing.
 use mathlib.Core.Path.{_≡_, refl, sym, ap, subst, _∙_}
-use Prim.Native.Nat.{ℕ, zero, suc, _+_, _*_, _-_, _/_, _%_, _≤_, _<_}
-use native.Mathlib.Nat.{div-add-mod', div-div-eq-div-mul, mul-add-div-right, div-eq-of-lt, mod-lt, suc-mul, le-of-lt}
+use Prim.Native.Nat.{ℕ, zero, suc, _+_, _*_, _-_, _/_, _%_, _≤_, _<_, zero-le}
+use native.Mathlib.Nat.{div-add-mod', div-div-eq-div-mul, mul-add-div-right, div-eq-of-lt, mod-lt, suc-mul, le-of-lt, lt-of-le-of-lt, add-zero}
 use native.Mathlib.Omega.{arith}
 use lib.IntN.{ℤ, pos, negsuc, negℤ, _+ℤ_, _-ℤ_, _*ℤ_, +ℤ-assoc, +ℤ-comm, +ℤ-idr, negℤ-+ℤ, -ℤ-+ℤ-cancel, +ℤ-negℤ-cancel, pos-+ℤ-pos, negsuc-*ℤ-pos, pos-*ℤ-pos}
 use lib.Signed.{shrZ}
@@ -35,24 +35,12 @@ pub floor-unique : (q : ℤ) (r m : ℕ) → r < m → floorDivided (q *ℤ pos 
 unfolding floorDivided
 floor-unique (pos k) r m l =
     ap (λ (z : ℤ). floorDivided z m) (ap (λ (z : ℤ). z +ℤ pos r) (pos-*ℤ-pos k m) ∙ pos-+ℤ-pos (k * m) r)
-    ∙ ap pos (mul-add-div-right (some l) k r ∙ ap (λ (i : ℕ). k + i) (div-eq-of-lt l) ∙ none k)
-  where
-    some : {r m : ℕ} → r < m → 0 < m
-    some l = omega arith
-
-    none : (k : ℕ) → k + 0 ≡ k
-    none k = omega arith
+    ∙ ap pos (mul-add-div-right (lt-of-le-of-lt zero-le l) k r ∙ ap (λ (i : ℕ). k + i) (div-eq-of-lt l) ∙ add-zero k)
 floor-unique (negsuc k) r m l =
     ap (λ (z : ℤ). floorDivided z m)
     (ap (λ (z : ℤ). z +ℤ pos r) (negsuc-*ℤ-pos k m) ∙ less-more (k * m + (m - suc r)) r (suc k * m) (suc-mul k m ∙ whole (k * m) m r l))
-    ∙ ap negsuc (mul-add-div-right (some l) k (m - suc r) ∙ ap (λ (i : ℕ). k + i) (div-eq-of-lt (below l)) ∙ none k)
+    ∙ ap negsuc (mul-add-div-right (lt-of-le-of-lt zero-le l) k (m - suc r) ∙ ap (λ (i : ℕ). k + i) (div-eq-of-lt (below l)) ∙ add-zero k)
   where
-    some : {r m : ℕ} → r < m → 0 < m
-    some l = omega arith
-
-    none : (k : ℕ) → k + 0 ≡ k
-    none k = omega arith
-
     below : {r m : ℕ} → r < m → m - suc r < m
     below l = omega arith
 

@@ -11,3 +11,4 @@ pub mod Tabulate
 pub mod Linear
 pub mod Row
 pub mod Splice
+pub mod Lists

@@ -3,7 +3,7 @@ use mathlib.Core.Path.{_≡_, refl, sym, ap, subst, _∙_}
 use mathlib.Core.Logic.{⊎-elim}
 use mathlib.Core.Bool.{Bool, true, false, cond}
 use Prim.Native.Nat.{ℕ, zero, suc, _+_, _*_, _≤_, _<_}
-use native.Mathlib.Nat.{le-refl, eq-or-lt-of-le, le-of-suc-le-suc, not-suc-le-zero}
+use native.Mathlib.Nat.{le-refl, eq-or-lt-of-le, le-of-suc-le, le-of-suc-le-suc, not-suc-le-zero}
 use native.Mathlib.Omega.{arith}
 use borrow.Author.Tests.{eq-eqb, ne-eqb}
 use lib.Dec.{T, eqb, ltb, ltb→lt}
@@ -50,11 +50,8 @@ module _ (ρ : ℕ → ℤ) (k : ℤ) where
   none : (n i : ℕ) → n ≤ i → sumZ n (λ j. at-one i j) ≡ pos 0
   unfolding sumZ
   none zero i l = refl
-  none (suc n) i l = (λ t. none n i (less l) t +ℤ other i n (apart l) t)
+  none (suc n) i l = (λ t. none n i (le-of-suc-le l) t +ℤ other i n (apart l) t)
     where
-      less : {n i : ℕ} → suc n ≤ i → n ≤ i
-      less h = omega arith
-
       apart : {n i : ℕ} → suc n ≤ i → i ≡ n → ⊥
       apart h e = omega arith
 

@@ -3,7 +3,7 @@ use mathlib.Core.Path.{_≡_, refl, sym, ap, subst, _∙_}
 use mathlib.Core.Logic.{_≢_, _⊎_, inl, inr, ⊎-elim}
 use mathlib.Core.List.{List}
 use Prim.Native.Nat.{ℕ, zero, suc, _+_, _*_, _-_, _≤_, _<_, zero-le, suc-le-suc}
-use native.Mathlib.Nat.{suc-mul, mul-le-mul-right, eq-or-lt-of-le, le-antisymm}
+use native.Mathlib.Nat.{suc-mul, mul-le-mul-right, eq-or-lt-of-le, le-antisymm, not-suc-le-zero}
 use native.Mathlib.Omega.{arith}
 use lib.ListN.{length, getD, set, length-set}
 use lib.Seq.{getD-set-same, getD-set-other}
@@ -49,11 +49,8 @@ pub record Put (h w start stride : ℕ) (g : ℕ → ℕ → ℕ) (s t : List �
 abbrev pub Room : ℕ → ℕ → ℕ → ℕ → ℕ → Type 0
 Room h w start stride n = (i : ℕ) → i < h → start + i * stride + w ≤ n
 
-none : {n : ℕ} → n < 0 → ⊥
-none h = omega arith
-
 pub row-none : {at : ℕ} {g : ℕ → ℕ} {s : List ℕ} → Row at 0 g s s
-row-none = record { size = refl; inside = λ j l. absurd (none l); outside = λ k o. refl }
+row-none = record { size = refl; inside = λ j l. absurd (not-suc-le-zero l); outside = λ k o. refl }
 
 -- one element more
 pub row-more : {at w : ℕ} {g : ℕ → ℕ} {s t : List ℕ} {a : ℕ} → Row at w g s t → at + w < length t → a ≡ g w → Row at (w + 1) g s (set t (at + w) a)
@@ -79,7 +76,7 @@ row-more {at} {w} {g} {s} {t} {a} h l e =
     go j (inr q) = getD-set-other t (at + w) (at + j) a 0 (other j q) ∙ h .inside j q
 
 pub put-none : {w start stride : ℕ} {g : ℕ → ℕ → ℕ} {s : List ℕ} → Put 0 w start stride g s s
-put-none = record { size = refl; inside = λ i j l. absurd (none l); outside = λ k o. refl }
+put-none = record { size = refl; inside = λ i j l. absurd (not-suc-le-zero l); outside = λ k o. refl }
 
 -- one row more
 pub put-more : {h w start stride : ℕ} {g : ℕ → ℕ → ℕ} {s t u : List ℕ} → w ≤ stride → Put h w start stride g s t → Row (start + h * stride) w (g h) t u
@@ -135,7 +132,7 @@ Begins m n g r = Starts 0 m n g r
 
 module _ {A : Type 0} {d : A} {m : ℕ} {g : ℕ → A} {r : List A} where
   pub begins-none : length r ≡ m → Starts d m 0 g r
-  begins-none e = record { size = e; first = λ j l. absurd (none l) }
+  begins-none e = record { size = e; first = λ j l. absurd (not-suc-le-zero l) }
 
   -- one element more
   pub begins-more : {n : ℕ} {a : A} → Starts d m n g r → n < m → a ≡ g n → Starts d m (n + 1) g (set r n a)

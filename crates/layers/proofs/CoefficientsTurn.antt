@@ -2,17 +2,16 @@
 use mathlib.Core.Path.{_≡_, refl, sym, ap, _∙_}
 use mathlib.Core.Bool.{Bool, true, false}
 use mathlib.Core.List.{List, [], _∷_}
-use Prim.Native.Nat.{ℕ, zero, suc, _+_, _-_, _≤_, _<_}
+use Prim.Native.Nat.{ℕ, suc, _+_, _-_, _≤_, _<_}
 use native.Mathlib.Omega.{arith}
 use borrow.Author.Tests.{le-leb, lt-leb}
 use lib.ListN.{length, set}
-use Rattle.laws.specs.Choice.{pick}
 use Rattle.refusals.specs.declared.Reason.the-variants.{CoefficientPast}
 use Rattle.refusals.specs.declared.Refusal.{Refusal}
 use Rattle.bits.specs.Bits.{Bit, bitsLeft}
-use Rattle.bits.specs.Read.{Read, got, refused, bad, endless, loop}
+use Rattle.bits.specs.Read.{Read, got, refused, bad, loop}
 use Rattle.bits.specs.Code.{Entry}
-use Rattle.words.specs.Tables.{firstTable5, laterTable5}
+use Rattle.words.specs.Tables.{firstTable5, laterTable5, tableOf}
 use Rattle.words.specs.Words.{Coefficient as Coefficient·, coefficient, sent, over, coefficientRead}
 use Rattle.description.specs.Flat.{putBlock}
 use Rattle.bits.specs.Logic.{Reads, reads-weaker}
@@ -28,10 +27,6 @@ use Rattle.words.specs.Reads.{coefficient-reads, first-meanings, later-meanings
 use Rattle.layers.specs.Answer.{mapRead, leaving, blockEnd}
 use Rattle.layers.specs.Grammar.{coefficients}
 use Rattle.layers.proofs.Meaning.{map-done, length-left, some, onward}
-
--- the table of the next codeword
-abbrev pub tableOf : Bool → List Entry
-tableOf first = pick first firstTable5 laterTable5
 
 -- ---- one step of the definition, by what is read
 module _ (fuel room : ℕ) (table : List Entry) (bs : List Bit) (at : ℕ) where

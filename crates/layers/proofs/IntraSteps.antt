@@ -1,13 +1,10 @@
 -- An INTRA block: its DC code, then its coefficients, on plain values. Assumes nothing.
-use mathlib.Core.Path.{_≡_, refl, sym, ap, _∙_}
+use mathlib.Core.Path.{_≡_, sym, ap, _∙_}
 use mathlib.Core.Bool.{Bool, true, false}
-use mathlib.Core.List.{List, [], _∷_}
-use mathlib.Core.Logic.{_⊎_, inl, inr}
-use Prim.Native.Nat.{ℕ, zero, suc, _+_, _-_, _*_, _%_, _≤_, _<_}
+use mathlib.Core.List.{List, _∷_}
+use Prim.Native.Nat.{ℕ, _+_, _-_, _%_, _<_}
 use native.Mathlib.Omega.{arith}
 use native.Mathlib.Nat.{add-zero}
-use borrow.Author.Tests.{eq-eqb, ne-eqb}
-use lib.Dec.{eqb}
 use lib.ListN.{set}
 use Rattle.laws.specs.Choice.{pick}
 use Rattle.refusals.specs.declared.Reason.the-variants.{Forbidden}
@@ -15,32 +12,12 @@ use Rattle.refusals.specs.declared.Refusal.{Refusal}
 use Rattle.bits.specs.Bits.{Bit}
 use Rattle.bits.specs.Read.{Read, got, refused, bad, field, loop}
 use Rattle.words.specs.Tables.{firstTable5, laterTable5}
-use Rattle.words.specs.Words.{coefficient, forbidden}
+use Rattle.words.specs.Words.{coefficient}
+use Rattle.words.specs.Coefficients.{forbidden-yes, forbidden-no}
 use Rattle.description.specs.Flat.{putBlock}
 use Rattle.layers.specs.Answer.{mapRead}
 use Rattle.layers.specs.Grammar.{coefficients, intraBlock, interBlock}
 use Rattle.layers.proofs.Meaning.{map-done}
-
--- the two forbidden codes of eight bits are the multiples of 128
-is-forbidden : (code : ℕ) → code < 256 → code % 128 ≡ 0 → forbidden code ≡ true
-is-forbidden code l h = from (either code l h)
-  where
-    either : (code : ℕ) → code < 256 → code % 128 ≡ 0 → (code ≡ 0) ⊎ (code ≡ 128)
-    either zero l h = inl refl
-    either (suc c) l h = inr (omega arith)
-
-    from : (code ≡ 0) ⊎ (code ≡ 128) → forbidden code ≡ true
-    from (inl e) = rw (eq-eqb code 0 e)
-    from (inr e) = rw (ne-eqb code 0 (λ z. omega arith), eq-eqb code 128 e)
-
-not-forbidden : (code : ℕ) → (code % 128 ≡ 0 → ⊥) → forbidden code ≡ false
-not-forbidden code n = rw (ne-eqb code 0 (λ z. n (zeroes code z)), ne-eqb code 128 (λ z. n (zeroes′ code z)))
-  where
-    zeroes : (code : ℕ) → code ≡ 0 → code % 128 ≡ 0
-    zeroes code z = omega arith
-
-    zeroes′ : (code : ℕ) → code ≡ 128 → code % 128 ≡ 0
-    zeroes′ code z = omega arith
 
 module _ (l : List ℕ) (base : ℕ) (bs : List Bit) (at : ℕ) where
   pub intra-refused : (r : Refusal) → field 8 bs at ≡ refused r → refused r ≡ mapRead (putBlock l base) (intraBlock bs at)
@@ -50,7 +27,7 @@ module _ (l : List ℕ) (base : ℕ) (bs : List Bit) (at : ℕ) where
   module _ (code : ℕ) (cs : List Bit) (q : ℕ) (e : field 8 bs at ≡ got code cs q) where
     pub intra-forbidden : code < 256 → code % 128 ≡ 0 → bad Forbidden at ≡ mapRead (putBlock l base) (intraBlock bs at)
     unfolding intraBlock
-    intra-forbidden s h = rw (e, is-forbidden code s h)
+    intra-forbidden s h = rw (e, forbidden-yes code s h)
 
     pub intra-more : (x : Read (List ℕ)) → (code % 128 ≡ 0 → ⊥)
         → x ≡ mapRead (putBlock (set l base code) (base + 1)) (loop (λ turns. coefficients turns (base + 64 - (base + 1)) laterTable5) cs q)
@@ -60,7 +37,7 @@ module _ (l : List ℕ) (base : ℕ) (bs : List Bit) (at : ℕ) where
         let z : base + 0 ≡ base = add-zero base in
         let r : base + 64 - (base + 1) ≡ 63 = omega arith in
         w ∙ (λ i. mapRead (putBlock (set l (sym z i) code) (base + 1)) (loop (λ turns. coefficients turns (r i) laterTable5) cs q))
-        ∙ sym (rw (e, not-forbidden code h) (map-done (putBlock l base) (λ rest. coefficient 0 code ∷ rest) (loop (λ turns. coefficients turns 63 laterTable5) cs q)))
+        ∙ sym (rw (e, forbidden-no code h) (map-done (putBlock l base) (λ rest. coefficient 0 code ∷ rest) (loop (λ turns. coefficients turns 63 laterTable5) cs q)))
 
 -- ---- a block by its kind
 module _ (l : List ℕ) (base : ℕ) (bs : List Bit) (at : ℕ) (intra : Bool) (x : Read (List ℕ)) where

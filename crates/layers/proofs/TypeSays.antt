@@ -1,25 +1,14 @@
 -- What a type says, by one test over the ten. Assumes nothing.
-use mathlib.Core.Path.{_≡_, refl, sym, ap, _∙_}
+use mathlib.Core.Path.{_≡_, sym, _∙_}
 use mathlib.Core.Bool.{Bool, true, false}
-use Prim.Native.Nat.{ℕ, zero, suc, _+_, _%_, _≤_, _<_}
+use Prim.Native.Nat.{ℕ, zero, suc, _%_, _≤_, _<_}
 use native.Mathlib.Omega.{arith}
-use borrow.Author.Tests.{le-leb, lt-ltb, le-ltb, eq-eqb, ne-eqb}
+use borrow.Author.Tests.{lt-ltb, le-ltb, eq-eqb, ne-eqb}
 use lib.Dec.{T, leb, ltb, eqb}
-use Rattle.laws.specs.Choice.{pick, both, opposite, both-left, both-right}
+use Rattle.laws.specs.Choice.{pick, both, both-left, both-right, alike, alike-same}
 use Rattle.laws.specs.Table.{allB, all-at}
 use Rattle.words.specs.Words.{isIntra, isMC, hasMQUANT, hasCBP}
 use Rattle.layers.specs.Answer.{Typed}
-
--- two tests that give the same
-abbrev pub alike : Bool → Bool → Bool
-alike true b = b
-alike false b = opposite b
-
-pub alike-same : (a b : Bool) → T (alike a b) → a ≡ b
-alike-same true true t = refl
-alike-same true false t = absurd t
-alike-same false true t = absurd t
-alike-same false false t = refl
 
 -- the code's ways to say it
 abbrev mquant : ℕ → Bool

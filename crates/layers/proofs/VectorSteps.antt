@@ -1,18 +1,18 @@
 -- A vector from its pairs: of two differences that are the same modulo 32 the one that lands in -15..15, and the picture's edges. Assumes nothing.
-use mathlib.Core.Path.{_≡_, refl, sym, ap, subst, _∙_}
+use mathlib.Core.Path.{_≡_, refl, sym, ap, _∙_}
 use mathlib.Core.Bool.{Bool, true, false, cond}
 use mathlib.Core.List.{List}
-use Prim.Native.Nat.{ℕ, zero, suc, _+_, _-_, _*_, _%_, _≤_, _<_}
+use Prim.Native.Nat.{ℕ, zero, suc, _+_, _-_, _%_, _≤_, _<_}
 use native.Mathlib.Omega.{arith}
 use borrow.Author.Tests.{eq-eqb, ne-eqb, le-leb, lt-leb, ltb-true, ltb-false}
 use lib.Dec.{T, eqb, leb, ltb, eqb→eq, ltb→lt, leb→le}
-use lib.IntN.{ℤ, pos, negsuc, natAbs, _+ℤ_, _-ℤ_}
-use Rattle.laws.specs.Choice.{pick, both, opposite, both-left, both-right}
+use lib.IntN.{ℤ, pos, negsuc, natAbs, _+ℤ_}
+use Rattle.laws.specs.Choice.{pick, both, opposite, both-left, both-right, second-no}
 use Rattle.laws.specs.Table.{allB, all-at, eqZ, eqZ-yes}
 use Rattle.refusals.specs.declared.Reason.the-variants.{VectorOut}
 use Rattle.refusals.specs.declared.Refusal.{Refusal}
 use Rattle.bits.specs.Bits.{Bit, bitsLeft}
-use Rattle.bits.specs.Read.{Read, got, refused, bad, Judged, fine, against, judged}
+use Rattle.bits.specs.Read.{got, refused, bad, fine, against}
 use Rattle.bits.specs.Code.{word}
 use Rattle.bits.specs.Codes.{each}
 use Rattle.bits.specs.Logic.{Reads, reads-word}
@@ -21,7 +21,7 @@ use Rattle.format.specs.Format.{width, height, column, row}
 use Rattle.format.specs.declared.Format.{Format}
 use Rattle.description.specs.Vector.{Vector, inRange, ahead, back, inside, inPicture, restarts}
 use Rattle.layers.specs.Answer.{Kept, componentOf, vectorOf}
-use Rattle.layers.specs.Vector.{pairOf, landing, component, componentRead, componentsRead, pointing, vectorRead}
+use Rattle.layers.specs.Vector.{pairOf, component, componentRead, componentsRead, vectorRead}
 use Rattle.layers.proofs.Meaning.{judged-refused, judged-fine, judged-against, onward}
 use Rattle.layers.specs.Layers.{component-reads}
 
@@ -101,16 +101,12 @@ ahead-is h k = eqb→eq (ahead (componentOf h)) (h - 16) (both-left (eqb (ahead 
 back-is : (h : ℕ) → Kept h → back (componentOf h) ≡ 16 - h
 back-is h k = eqb→eq (back (componentOf h)) (16 - h) (both-right (eqb (ahead (componentOf h)) (h - 16)) (eqb (back (componentOf h)) (16 - h)) (all-at 32 moves all-moves h (omega (arith, k .high))))
 
-both-no : (b : Bool) → both b false ≡ false
-both-no true = refl
-both-no false = refl
-
 module _ (end from h : ℕ) (k : Kept h) where
   before-edge : from + h < 16 → inside end from (componentOf h) ≡ false
   before-edge l = rw (ahead-is h k, back-is h k, lt-leb (16 - h) from (omega arith))
 
   past-edge : end < from + h → inside end from (componentOf h) ≡ false
-  past-edge l = rw (ahead-is h k, back-is h k, lt-leb (from + (h - 16) + 16) (end + (16 - h)) (omega arith)) (both-no (leb (16 - h) from))
+  past-edge l = rw (ahead-is h k, back-is h k, lt-leb (from + (h - 16) + 16) (end + (16 - h)) (omega arith)) (second-no (leb (16 - h) from) false refl)
 
   between : 16 ≤ from + h → from + h ≤ end → inside end from (componentOf h) ≡ true
   between l m = rw (ahead-is h k, back-is h k, le-leb (16 - h) from (omega arith), le-leb (from + (h - 16) + 16) (end + (16 - h)) (omega arith))
@@ -140,10 +136,10 @@ module _ (f : Format) (number address : ℕ) (before : Vector) (bs : List Bit) (
       vector-right l = sym (judged-so false (rw (past-edge (width f) (column number address) h kh l)))
 
       pub vector-above : row number address + v < 16 → bad VectorOut at ≡ vectorRead f number address before bs at
-      vector-above l = sym (judged-so false (rw (before-edge (height f) (row number address) v kv l) (both-no (inside (width f) (column number address) (componentOf h)))))
+      vector-above l = sym (judged-so false (rw (before-edge (height f) (row number address) v kv l) (second-no (inside (width f) (column number address) (componentOf h)) false refl)))
 
       pub vector-below : height f < row number address + v → bad VectorOut at ≡ vectorRead f number address before bs at
-      vector-below l = sym (judged-so false (rw (past-edge (height f) (row number address) v kv l) (both-no (inside (width f) (column number address) (componentOf h)))))
+      vector-below l = sym (judged-so false (rw (past-edge (height f) (row number address) v kv l) (second-no (inside (width f) (column number address) (componentOf h)) false refl)))
 
       pub vector-inside : 16 ≤ column number address + h → column number address + h ≤ width f → 16 ≤ row number address + v → row number address + v ≤ height f
           → got (vectorOf h v) ds q ≡ vectorRead f number address before bs at

@@ -1,5 +1,5 @@
 -- The code's answers as reads. A layer writes the description as it reads: its answer is the place where it ended, or the refusal. Assumes nothing.
-use Prim.Native.Nat.{ℕ, _*_, _≤_, _<_}
+use Prim.Native.Nat.{ℕ, _*_, _≤_}
 use mathlib.Core.List.{List}
 use lib.IntN.{ℤ, pos, _-ℤ_}
 use lib.Seq.{sets}
@@ -16,7 +16,7 @@ use Rattle.words.specs.declared.CoefficientRead.{CoefficientRead}
 use Rattle.words.specs.declared.CoefficientRead.the-variants.{Coefficient, EndOfBlock, Refused as NoCoefficient}
 use Rattle.description.specs.Vector.{Vector, Before}
 use Rattle.description.specs.Value.{Macroblock, after}
-use Rattle.description.specs.Flat.{Flat, index, fieldsOf, putBlocks}
+use Rattle.description.specs.Flat.{index, fieldsOf, putBlocks}
 use Rattle.layers.specs.Grammar.{Mba, step, stuffed, ended, Header}
 use Rattle.layers.specs.declared.PlaceRead.{PlaceRead}
 use Rattle.layers.specs.declared.PlaceRead.the-variants.{At, Refused}
@@ -138,6 +138,3 @@ asHeader s n (NoHeader r) = refused r
 abbrev pub headerRefusal : HeaderRead → Refusal
 headerRefusal (GotHeader tr ptype p) = refusal BitsEnd p
 headerRefusal (NoHeader r) = r
-
-abbrev pub flat : List ℕ → List ℕ → List ℕ → Flat
-flat head macroblocks levels = record { head = head; macroblocks = macroblocks; levels = levels }

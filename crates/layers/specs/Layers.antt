@@ -4,6 +4,7 @@ use mathlib.Core.Path.{_≡_, refl, ap, subst}
 use mathlib.Core.Bool.{Bool, true, false}
 use mathlib.Core.List.{List, [], _∷_}
 use native.Mathlib.Omega.{arith}
+use native.Mathlib.Nat.{pos-of-ne-zero}
 use lib.Dec.{T, leb, ltb, eqb, leb→le, le→leb, lit≤}
 use lib.ListN.{length}
 use lib.IntN.{ℤ, _+ℤ_}
@@ -41,11 +42,8 @@ expect-reads k v reason t =
 
 is-quantiser : (q : ℕ) → q < 32 → eqb q 0 ≡ false → T (isQuantiser q)
 is-quantiser q l n =
-    let some : 1 ≤ q = above q (eqb-false q 0 n) in
+    let some : 1 ≤ q = pos-of-ne-zero (eqb-false q 0 n) in
     both-make (leb 1 q) (leb q 31) (le→leb 1 q some) (le→leb q 31 (omega arith))
-  where
-    above : (q : ℕ) → (q ≡ 0 → ⊥) → 1 ≤ q
-    above q n = omega arith
 
 pub quantiser-reads : {bound : ℕ} → Reads bound 5 (λ q left. T (isQuantiser q)) quantiser
 unfolding number
@@ -312,7 +310,7 @@ pub mba-reads : {bound : ℕ} (last : Bool) (address : ℕ) → Reads bound 1 (�
 mba-reads last address = reads-judged (reads-word (leb 1) table1 table1-meanings) (λ m left g. judges-mba last address m (leb→le 1 m g))
 
 -- in the last group no bit is left after the macroblocks
-abbrev Ended : Bool → List Bit → Type 0
+abbrev pub Ended : Bool → List Bit → Type 0
 Ended last left = If last (left ≡ []) (Unit {0})
 
 macroblocks-after : {bound : ℕ} (more : Before → Reader (List Macroblock)) (f : Format) (last : Bool) (number : ℕ) (before : Before) (x : Mba)

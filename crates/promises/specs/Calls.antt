@@ -6,7 +6,7 @@ use mathlib.Core.List.{List, [], _∷_, _++_, List·Memᴰ, List·Memᴰ·head, 
 use mathlib.Core.Option.{some}
 use Prim.Native.Nat.{ℕ, suc, _<_}
 use lib.ListN.{length, getElem?}
-use Rattle.laws.specs.Choice.{pick}
+use Rattle.laws.specs.Choice.{pick, alike}
 use Rattle.refusals.specs.declared.Reason.the-variants.{Length, UntrueMark}
 use Rattle.refusals.specs.Number.{refusal}
 use Rattle.format.specs.declared.Format.{Format}
@@ -23,7 +23,7 @@ use Rattle.receiver.specs.declared.Standing.the-variants as T
 use Rattle.receiver.specs.declared.Line.{Line}
 use Rattle.receiver.specs.declared.Line.the-variants.{Earlier, Next, Anew, Otherwise}
 use Rattle.receiver.specs.Coding.{Found, accepted, refused, Coding}
-use Rattle.receiver.specs.Receive.{lineOf, Event, refusing, old, taken, lost, failed, finished, countOf, markOf, alike, Buffers, lengths, judged, ended, tookOf, byLine, byJudgement, decide, Outcome}
+use Rattle.receiver.specs.Receive.{lineOf, Event, refusing, old, taken, lost, failed, finished, countOf, markOf, Buffers, lengths, judged, ended, tookOf, byLine, byJudgement, decide, Outcome}
 use Rattle.receiver.specs.Run.{World}
 use Rattle.promises.specs.Clip.{Picture, Clip, picturesIn, Each, Receive, Show, afterBlock, given, upon, Right}
 use Rattle.promises.specs.Arrives.{InStepAt}

@@ -6,12 +6,12 @@ use mathlib.Core.Logic.{_⊎_, inl, inr, ⊎-elim}
 use mathlib.Core.List.{List, [], _∷_, _++_, append-nil}
 use mathlib.Core.Option.{some, Option·some-injective}
 use Prim.Native.Nat.{ℕ, suc, _+_, _≤_, _<_}
-use native.Mathlib.Nat.{add-zero}
+use native.Mathlib.Nat.{add-zero, ne-of-lt}
 use native.Mathlib.Omega.{arith}
 use borrow.Author.Tests.{eqb-true, eqb-false, eq-eqb, ltb-true, le-ltb, lt-ltb}
 use lib.Dec.{eqb, ltb}
 use lib.ListN.{length, getElem?}
-use Rattle.laws.specs.Choice.{both, either, opposite}
+use Rattle.laws.specs.Choice.{both, either, opposite, two-of}
 use Rattle.format.specs.declared.Format.{Format}
 use Rattle.vault.specs.Parts.{partCount}
 use Rattle.stores.specs.Stores.{shown}
@@ -28,13 +28,10 @@ use Rattle.promises.specs.Agree.{Agree}
 use Rattle.promises.specs.Clip.{Picture, PartOf, opening, picturesIn, begin, afterBlock, given, upon, Shows}
 use Rattle.promises.specs.Demand3.{CatchesUp}
 use Rattle.promises.specs.Arrives as W
-use Rattle.promises.specs.Finished.{two-of, none-shown}
+use Rattle.promises.specs.Finished.{none-shown}
 use Rattle.promises.specs.Step.{Moment, worldAt, bitsOf, refreshOf, Comes, comes-old, Takes, takes-next, takes-anew}
 use Rattle.promises.specs.Held.{Sound, not-lost, Held, Fits, block-of, fits-next, fits-anew, goes-further, goes-arrived, held-further, held-drawn, line-of, Goes, step-held, after-comes, Parts, Runs, run-held}
 use Rattle.promises.specs.InStep.{receiver-opened, start, sound-clip, each-part, start-held, upon-right}
-
-less-not : (a b : ℕ) → a < b → a ≡ b → ⊥
-less-not a b l e = omega arith
 
 -- ---- places
 either-false : (a b : Bool) → a ≡ false → b ≡ false → either a b ≡ false
@@ -146,7 +143,7 @@ module _ {D : Type 0} {sending : Format → S.Coding D} {receiving : Format → 
     on-next : Ready p part m → Onward p (part + 1) m block
     on-next (awaiting l w less) = wanted-next l (sym w)
     on-next (starting z r e) = begun z (r x (h .at)) e
-    on-next (complete s w c) = absurd (less-not part (blockCount x) inside (c x (h .at)))
+    on-next (complete s w c) = absurd (ne-of-lt inside (c x (h .at)))
 
   -- ---- an older block
   module _ {p part : ℕ} {block : List ℕ} (o : W.Older sent p part block) (m : Moment) (held : Held agree sound m) where
@@ -215,8 +212,8 @@ module _ {D : Type 0} {sending : Format → S.Coding D} {receiving : Format → 
       all-parts = e ∙ sound .whole p x at .count
 
       go : Ready p part m → Ends p m []
-      go (awaiting l w less) = absurd (less-not part (blockCount x) (less x at) all-parts)
-      go (starting z s n) = absurd (less-not 0 (blockCount x) (some-parts (length (bitsOf sending f x)) (agree .has-bits f (x .description))) (sym z ∙ all-parts))
+      go (awaiting l w less) = absurd (ne-of-lt (less x at) all-parts)
+      go (starting z s n) = absurd (ne-of-lt (some-parts (length (bitsOf sending f x)) (agree .has-bits f (x .description))) (sym z ∙ all-parts))
       go (complete s w c) = record { last = m; is = refl; held = held; stands = s; wants = w }
 
   ends : {p part : ℕ} {blocks : List (List ℕ)} → W.Arrives sent p part blocks → (m : Moment) → Held agree sound m → Ready p part m → Ends p m blocks
@@ -280,7 +277,7 @@ module _ {D : Type 0} {sending : Format → S.Coding D} {receiving : Format → 
 
   -- no picture is without blocks
   not-none : {p part : ℕ} {blocks : List (List ℕ)} → W.Arrives sent p part blocks → part ≡ 0 → blocks ≡ [] → ⊥
-  not-none {p} (W.all x at e) z n = less-not 0 (blockCount x) (some-parts (length (bitsOf sending f x)) (agree .has-bits f (x .description))) (sym z ∙ e ∙ sound .whole p x at .count)
+  not-none {p} (W.all x at e) z n = ne-of-lt (some-parts (length (bitsOf sending f x)) (agree .has-bits f (x .description))) (sym z ∙ e ∙ sound .whole p x at .count)
   not-none (W.older o a) z n = let q : _≡_ {A = ℕ} 0 1 = cc in omega arith
   not-none (W.next h a) z n = let q : _≡_ {A = ℕ} 0 1 = cc in omega arith
 

@@ -2,7 +2,7 @@
 use mathlib.Core.Path.{_≡_, refl, sym, ap, _∙_}
 use mathlib.Core.List.{List, [], _∷_, _++_}
 use Prim.Native.Nat.{ℕ, zero, suc, _+_, _-_, _*_, _/_, _%_, _^_, _≤_, _<_}
-use native.Mathlib.Nat.{mul-mod-left, mul-assoc, mul-comm, pow-suc, zero-add, not-suc-le-zero, le-of-suc-le-suc}
+use native.Mathlib.Nat.{mul-mod-left, mul-assoc, mul-comm, pow-suc, zero-add, not-suc-le-zero, le-of-suc-le-suc, mod-one}
 use native.Mathlib.Omega.{arith}
 use lib.ListN.{length, getD, take, drop, length-drop, take-append-drop}
 use lib.Seq.{drop-drop, take-all}
@@ -23,10 +23,7 @@ ended (suc k) v = ended k (v * 2) ∙ mul-assoc v 2 (2 ^ k) ∙ ap (λ (n : ℕ)
 
 low : (k v : ℕ) (bs : List Bit) → byteFrom k v bs % 2 ^ (k - length bs) ≡ 0
 unfolding byteFrom
-low zero v bs = let e : zero - length bs ≡ 0 = omega arith in rw e (one v)
-  where
-    one : (n : ℕ) → n % 1 ≡ 0
-    one n = omega arith
+low zero v bs = let e : zero - length bs ≡ 0 = omega arith in rw e (mod-one v)
 low (suc k) v [] = let e : suc k - 0 ≡ suc k = omega arith in ap (λ (n : ℕ). byteFrom k (v * 2) [] % 2 ^ n) e ∙ ap (λ (n : ℕ). n % 2 ^ suc k) (ended (suc k) v) ∙ mul-mod-left v (2 ^ suc k)
 low (suc k) v (b ∷ bs) = let e : suc k - suc (length bs) ≡ k - length bs = omega arith in ap (λ (n : ℕ). byteFrom k (v * 2 + num b) bs % 2 ^ n) e ∙ low k (v * 2 + num b) bs
 

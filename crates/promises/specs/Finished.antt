@@ -1,21 +1,17 @@
 -- The two stores once a picture is finished: it is the last one, the next one's reference, and what is shown. Assumes nothing.
 use mathlib.Core.Path.{_≡_, refl}
-use mathlib.Core.Bool.{Bool, true, false, false≢true}
+use mathlib.Core.Bool.{Bool, true, false}
 use mathlib.Core.List.{List, []}
 use Prim.Native.Nat.{ℕ}
 use borrow.Author.Tests.{eq-eqb}
 use lib.Dec.{eqb}
 use lib.ListN.{length}
-use Rattle.laws.specs.Choice.{pick, both}
+use Rattle.laws.specs.Choice.{pick, two-of}
 use Rattle.format.specs.declared.Format.{Format}
 use Rattle.format.specs.Format.{storeLength}
 use Rattle.stores.specs.declared.Holder.{Holder}
 use Rattle.stores.specs.declared.Holder.the-variants.{Neither, First, Second}
 use Rattle.stores.specs.Stores.{Stores, sized, goesInto, reference, kept, last, shown}
-
-pub two-of : (a b : Bool) → both a b ≡ true → (a ≡ true) × (b ≡ true)
-two-of true b e = (refl, e)
-two-of false b e = absurd (false≢true e)
 
 abbrev pub bothSized : Format → Stores → Bool
 bothSized f s = sized f (length (s .first)) (length (s .second))

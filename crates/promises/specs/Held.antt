@@ -7,10 +7,11 @@ use mathlib.Core.List.{List, [], _∷_}
 use mathlib.Core.Option.{some, Option·some-injective}
 use Prim.Native.Nat.{ℕ, _+_, _≤_, _<_}
 use native.Mathlib.Omega.{arith}
+use native.Mathlib.Nat.{pos-of-ne-zero}
 use borrow.Author.Tests.{eqb-true, eqb-false}
 use lib.Dec.{eqb}
 use lib.ListN.{length, getElem?}
-use Rattle.laws.specs.Choice.{pick, both, opposite}
+use Rattle.laws.specs.Choice.{pick, both, opposite, two-of, both-true}
 use Rattle.format.specs.declared.Format.{Format}
 use Rattle.format.specs.Format.{storeLength}
 use Rattle.vault.specs.declared.Header.{Header}
@@ -28,7 +29,7 @@ use Rattle.sender.specs.Coding as S
 use Rattle.sender.specs.Send.{bytesIn}
 use Rattle.promises.specs.Agree.{Agree}
 use Rattle.promises.specs.Clip.{Picture, PartOf, afterBlock, given, Shows}
-use Rattle.promises.specs.Finished.{two-of, kept-reference, kept-sized, kept-shown, none-shown}
+use Rattle.promises.specs.Finished.{kept-reference, kept-sized, kept-shown, none-shown}
 use Rattle.promises.specs.Sent.{Whole, Part}
 use Rattle.promises.specs.Step.{Moment, receiverAt, worldAt, marked, astray, further, arrived, bitsOf, refreshOf, headerOf, Block, stores-are, lengths-make, Comes, after-long, comes-old, comes-lost, Takes, takes-next, takes-anew, comes-further, collected-part, comes-arrived}
 
@@ -40,19 +41,13 @@ pub record Sound {D : Type 0} (sending : Format → S.Coding D) (clip : ℕ) (f 
   pub onward : (p : ℕ) (x y : Picture D) → getElem? sent p ≡ some x → getElem? sent (p + 1) ≡ some y → y .store ≡ sending f .render (y .description) (x .store)
 
 -- ---- the mark of part 0
-both-true : (b : Bool) → both b true ≡ b
-both-true true = refl
-both-true false = refl
 
 mark-is : (part : ℕ) (refresh mine : Bool) → (0 < part → mine ≡ refresh) → pick (eqb part 0) (both refresh (eqb part 0)) mine ≡ refresh
 mark-is part refresh mine h = go (eqb part 0) refl
   where
     go : (t : Bool) → eqb part 0 ≡ t → pick t (both refresh t) mine ≡ refresh
     go true e = both-true refresh
-    go false e = h (positive part (eqb-false part 0 e))
-      where
-        positive : (n : ℕ) → (n ≡ 0 → ⊥) → 0 < n
-        positive n k = omega (arith, k)
+    go false e = h (pos-of-ne-zero (eqb-false part 0 e))
 
 -- being given blocks is the receiver's own `run`
 pub given-run : {D : Type 0} (coding : Format → Coding D) (w : World) (blocks : List (List ℕ)) → given (step coding) w blocks ≡ run coding w blocks

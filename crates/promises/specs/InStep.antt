@@ -6,6 +6,7 @@ use mathlib.Core.List.{List, [], _∷_}
 use Prim.Native.Nat.{ℕ, _≤_}
 use native.Mathlib.Numerals.{add-one}
 use native.Mathlib.Omega.{arith}
+use native.Mathlib.Nat.{pos-of-ne-zero}
 use borrow.Author.Tests.{eqb-false}
 use lib.Dec.{eqb}
 use lib.ListN.{getElem?}
@@ -43,12 +44,9 @@ use Rattle.promises.specs.Held.{Sound, Held, Goes, step-held, Parts, Run
 pub sender-opened : (clip : ℕ) (f : Format) (s : Sender) → N.opened clip f ≡ SO.Open s → (1 ≤ clip) × (N.fresh clip f ≡ s)
 sender-opened clip f s e = go (eqb clip 0) refl e
   where
-    positive : (n : ℕ) → (n ≡ 0 → ⊥) → 1 ≤ n
-    positive n k = omega (arith, k)
-
     go : (t : Bool) → eqb clip 0 ≡ t → pick t (SO.Refused (refusal BlockField 0)) (SO.Open (N.fresh clip f)) ≡ SO.Open s → (1 ≤ clip) × (N.fresh clip f ≡ s)
     go true q h = let z : _≡_ {A = ℕ} 0 1 = cc in absurd (omega arith)
-    go false q h = (positive clip (eqb-false clip 0 q), cc)
+    go false q h = (pos-of-ne-zero (eqb-false clip 0 q), cc)
 
 pub receiver-opened : (clip : ℕ) (f : Format) (r : Receiver) → opened clip f ≡ RO.Open r → fresh clip f ≡ r
 receiver-opened clip f r e = go (eqb clip 0) e

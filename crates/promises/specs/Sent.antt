@@ -1,7 +1,7 @@
 -- What was sent: each picture is one that the sender took, cut into its blocks; its store is drawn over the one before; and each block of the clip is a part of one.
 -- Assumes nothing.
 use mathlib.Core.Path.{_≡_, refl, sym, ap, subst, _∙_}
-use mathlib.Core.Bool.{Bool, true, false, false≢true}
+use mathlib.Core.Bool.{Bool, true, false}
 use mathlib.Core.Logic.{_⊎_, inl, inr}
 use mathlib.Core.List.{List, [], _∷_, _++_, List·Memᴰ, List·Memᴰ·head, List·Memᴰ·tail, List·Memᴰ·not-nil, List·Memᴰ·append-cases}
 use mathlib.Core.Option.{none, some, Option·some-injective}
@@ -11,7 +11,7 @@ use borrow.Author.Tests.{ltb-true, leb-true, eq-eqb}
 use lib.Dec.{eqb, leb, ltb}
 use lib.ListN.{length, getElem?, take, drop}
 use lib.Seq.{drop-drop}
-use Rattle.laws.specs.Choice.{pick, both, either, opposite}
+use Rattle.laws.specs.Choice.{pick, both, either, opposite, two-of, if-so}
 use Rattle.refusals.specs.declared.Reason.{Reason}
 use Rattle.format.specs.declared.Format.{Format}
 use Rattle.format.specs.Format.{limit, storeLength}
@@ -26,7 +26,7 @@ use Rattle.sender.specs.Coding.{Coding}
 use Rattle.sender.specs.Send.{Buffers, Judgement, sends, refuses, Outcome, lengths, bytesIn, judge, blocksSent, cameTo, step}
 use Rattle.sender.specs.Run.{Call, World, cut, added, called, after, clipOf}
 use Rattle.promises.specs.Clip.{Picture, sentAs, pictures, PartOf}
-use Rattle.promises.specs.Finished.{two-of, kept-reference, kept-shown}
+use Rattle.promises.specs.Finished.{kept-reference, kept-shown}
 
 -- ---- of lists
 pub member-at : {A : Type 0} {a : A} {l : List A} → List·Memᴰ a l → (i : ℕ) × (getElem? l i ≡ some a)
@@ -55,10 +55,6 @@ cut-at (suc n) out (suc i) block e =
 -- ---- one call
 never : (reason : Reason) → refuses reason ≡ sends → ⊥
 never reason e = let z : _≡_ {A = ℕ} 0 1 = cc in omega arith
-
-refreshed : (first refresh : Bool) → either (opposite first) refresh ≡ true → first ≡ true → refresh ≡ true
-refreshed true refresh e z = e
-refreshed false refresh e z = absurd (false≢true z)
 
 -- a test whose failure refuses
 passed : (t : Bool) (x : Judgement) (reason : Reason) → pick t x (refuses reason) ≡ sends → (t ≡ true) × (x ≡ sends)
@@ -100,7 +96,7 @@ module _ {D : Type 0} (coding : Format → Coding D) where
       record {
         named = two-of (coding (s .format) .named d) _ (one .0) .1;
         few = ltb-true (s .picture) mostPictures (few .0);
-        first = λ z. refreshed (eqb (s .picture) 0) (coding (s .format) .refresh d) (first .0) (eq-eqb (s .picture) 0 z);
+        first = λ z. if-so (eqb (s .picture) 0) (coding (s .format) .refresh d) (first .0) (eq-eqb (s .picture) 0 z);
         valid = valid .0;
         within = leb-true (length (coding (s .format) .written d)) (limit (s .format)) (within .0);
       }

@@ -7,7 +7,7 @@ use native.Mathlib.Omega.{arith}
 use borrow.Author.Tests.{eqb-true, eq-eqb}
 use lib.Dec.{eqb}
 use lib.ListN.{length}
-use Rattle.laws.specs.Choice.{pick, both}
+use Rattle.laws.specs.Choice.{pick, both, two-of, alike}
 use Rattle.bits.specs.Bits.{Bit}
 use Rattle.format.specs.declared.Format.{Format}
 use Rattle.format.specs.declared.Format.the-variants.{Qcif, Cif}
@@ -31,7 +31,7 @@ use Rattle.receiver.specs.declared.Line.the-variants.{Earlier, Next, Anew, Othe
 use Rattle.receiver.specs.declared.Answer.{Answer}
 use Rattle.receiver.specs.declared.Answer.the-variants as A
 use Rattle.receiver.specs.Coding.{Coding, accepted}
-use Rattle.receiver.specs.Receive.{place, fresh, Event, old, taken, lost, finished, alike, Buffers, lengths, judged, lineOf, ended, tookOf, byLine, byJudgement, decide, wanting, received, Outcome, cameTo, step}
+use Rattle.receiver.specs.Receive.{place, fresh, Event, old, taken, lost, finished, Buffers, lengths, judged, lineOf, ended, tookOf, byLine, byJudgement, decide, wanting, received, Outcome, cameTo, step}
 use Rattle.receiver.specs.Shown.{refusedLength}
 use Rattle.receiver.specs.Run.{World}
 use Rattle.sender.specs.Coding as S
@@ -39,7 +39,7 @@ use Rattle.sender.specs.Send.{bytesIn}
 use Rattle.promises.specs.Agree.{Agree}
 use Rattle.promises.specs.Clip.{Picture}
 use Rattle.promises.specs.Filled.{collected-holds}
-use Rattle.promises.specs.Finished.{two-of, bothSized}
+use Rattle.promises.specs.Finished.{bothSized}
 
 -- ---- a receiver of the clip, with what it is lent
 pub record Moment : Type 0 where

@@ -8,7 +8,7 @@ use native.Mathlib.Omega.{arith}
 use borrow.Author.Tests.{lt-leb}
 use lib.Dec.{T, leb, leb→le, lit<}
 use lib.ListN.{length, length-append}
-use Rattle.laws.specs.Choice.{pick, opposite, both-left, both-right}
+use Rattle.laws.specs.Choice.{pick, opposite, both-left, both-right, opposite-no}
 use Rattle.bits.specs.Bits.{Bit, bitOf, bitsOf}
 use Rattle.refusals.specs.declared.Reason.the-variants.{Forbidden}
 use Rattle.bits.specs.Read.{fine, against}
@@ -29,11 +29,7 @@ code-small : (code : ℕ) → T (isCode code) → code < 256
 code-small code t = let l = leb→le code 255 (both-left (leb code 255) (opposite (forbidden code)) t) in omega arith
 
 code-allowed : (code : ℕ) → T (isCode code) → forbidden code ≡ false
-code-allowed code t = go (forbidden code) (both-right (leb code 255) (opposite (forbidden code)) t)
-  where
-    go : (b : Bool) → T (opposite b) → b ≡ false
-    go true t = absurd t
-    go false t = refl
+code-allowed code t = opposite-no (forbidden code) (both-right (leb code 255) (opposite (forbidden code)) t)
 
 sendable : (c : Coefficient) → c .run ≤ 63 → T (isCode (c .code)) → Sendable c
 sendable c l t = record { run = l; byte = code-small (c .code) t; level = code-allowed (c .code) t }

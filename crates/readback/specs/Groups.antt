@@ -19,9 +19,10 @@ use Rattle.description.specs.Value.{Group}
 use Rattle.description.specs.Valid.{all, isQuantiser}
 use Rattle.description.specs.Proper.{Rising, ProperGroups}
 use Rattle.layers.specs.Grammar.{expect, spares, sparesFrom, sparesAfter, macroblocksFrom, groupHead, group, none, groupsRead}
+use Rattle.layers.specs.Layers.{Ended}
 use Rattle.writer.specs.Write.{macroblocksOf, groupOf, groupsOf}
 use Rattle.readback.specs.Vectors.{ranged-zero}
-use Rattle.readback.specs.Macroblocks.{back-quantiser, ending, Ending, back-macroblocks, more-bits}
+use Rattle.readback.specs.Macroblocks.{back-quantiser, ending, back-macroblocks, more-bits}
 
 -- ---- fields
 pub back-expected : (k v : ℕ) (reason : Reason) (rest : List Bit) → v < 2 ^ k → Back (expect k v reason) (bitsOf k v) rest v
@@ -45,7 +46,7 @@ back-head number q rest l h =
     back-next _ (back-expected 4 number OtherGroup _ l) (back-next _ (back-quantiser q _ h) (back-end _ (back-spares rest) refl))
 
 back-group : (f : Format) (last : Bool) (number : ℕ) (g : Group) (rest : List Bit) → number < 16 → T (isQuantiser (g .gquant))
-    → Rising f number 0 (g .macroblocks) → Ending last rest
+    → Rising f number 0 (g .macroblocks) → Ended last rest
     → Back (group f last number) (headOf number (g .gquant) ++ (macroblocksOf atStart (g .macroblocks) ++ ending last)) rest g
 unfolding group
 back-group f last number g rest l q p e =
@@ -77,7 +78,7 @@ started f (number ∷ numbers) (g ∷ gs) p =
     regroup (bitsOf 16 1) (bitsOf 4 number) (bitsOf 5 (g .gquant)) (bitsOf 1 0) (macroblocksOf atStart (g .macroblocks)) (ending (none numbers)) (unstarted numbers gs)
     ∙ ap (λ (w : List Bit). groupOf number g ++ w) (started f numbers gs (p .2))
 
-ends : (numbers : List ℕ) (gs : List Group) → Ending (none numbers) (unstarted numbers gs ++ [])
+ends : (numbers : List ℕ) (gs : List Group) → Ended (none numbers) (unstarted numbers gs ++ [])
 ends [] gs = refl
 ends (number ∷ numbers) gs = tt
 

@@ -21,6 +21,7 @@ use Rattle.description.specs.Value.{Macroblock, after}
 use Rattle.description.specs.Valid.{isQuantiser}
 use Rattle.description.specs.Proper.{If, ProperMacroblock, Rising}
 use Rattle.layers.specs.Grammar.{quantiser, optional, macroblock, step, ended, mbaOf, mba, macroblocksAfter, macroblocksFrom}
+use Rattle.layers.specs.Layers.{Ended}
 use Rattle.writer.specs.Write.{given, vectorOf, patternOf, blocksOf, macroblockOf, macroblocksOf}
 use Rattle.readback.specs.Words.{back-mba, length-mba, back-mtype}
 use Rattle.readback.specs.Blocks.{back-blocks, back-pattern}
@@ -95,16 +96,11 @@ abbrev pub ending : Bool → List Bit
 ending true = []
 ending false = bitsOf 16 0b0000000000000001
 
--- and what comes after it: nothing in the last one
-abbrev pub Ending : Bool → List Bit → Type 0
-Ending true rest = rest ≡ []
-Ending false rest = Unit {0}
-
 back-start : (rest : List Bit) → Back (word table1) (bitsOf 16 0b0000000000000001) rest startCode
 unfolding wordOf table1
 back-start rest = back-mba startCode rest (lit< tt) (lit≤ tt)
 
-back-ended : (last : Bool) (address : ℕ) (rest : List Bit) → Ending last rest → Back (mba last address) (ending last) rest ended
+back-ended : (last : Bool) (address : ℕ) (rest : List Bit) → Ended last rest → Back (mba last address) (ending last) rest ended
 unfolding mba
 back-ended true address rest e = rw e (record { reads = λ at. back-done ended [] .reads at })
 back-ended false address rest e = back-judged (mbaOf false address) ended (back-start rest) refl
@@ -114,7 +110,7 @@ regroup : (a b c d : List Bit) → a ++ (b ++ (c ++ d)) ≡ ((a ++ b) ++ c) ++ d
 regroup a b c d = simp append-assoc
 
 pub back-macroblocks : (ms : List Macroblock) (turns : ℕ) (f : Format) (last : Bool) (number : ℕ) (before : Before) (rest : List Bit) → length ms < turns
-    → Rising f number (before .address) ms → Ranged (before .vector) → Ending last rest
+    → Rising f number (before .address) ms → Ranged (before .vector) → Ended last rest
     → Back (macroblocksFrom turns f last number before) (macroblocksOf before ms ++ ending last) rest ms
 unfolding macroblocksFrom macroblocksOf macroblockOf
 back-macroblocks ms zero f last number before rest l p r e = absurd (omega arith)

@@ -18,6 +18,7 @@ use Rattle.description.specs.Pictured.{picture-proper}
 use Rattle.description.specs.Relaid.{laid-back}
 use Rattle.layers.specs.Grammar.{picture, reading}
 use Rattle.writer.specs.Write.{pictureOf}
+use Rattle.writer.specs.Output.{written}
 use Rattle.readback.specs.Pictures.{back-picture}
 
 -- ---- a picture, in bytes
@@ -36,20 +37,18 @@ read-back f p s h l held =
     rw (le-ltb (8 * length s) (length w) (held .room), le-ltb (limit f) (length w) l, held .bits) (rw (append-nil w, z) at r)
 
 -- ---- a description
--- the bits of a description
-abbrev pub written : Format → Flat → List Bit
-written f d = pictureOf f (pictureIn d)
-
 pub record ReadBack (f : Format) (d : Flat) (s : List ℕ) : Type 0 where
   pub read : reading f s (length (written f d)) ≡ got (pictureIn d) [] (length (written f d))
   pub laidOut : laid f (pictureIn d) ≡ d
 
 -- a valid description whose bits are not above the limit is read from any bytes that hold them first: its picture, laid out, is that very description, and all N bits are read
 pub reads-back : (f : Format) (d : Flat) (s : List ℕ) → T (valid f d) → length (written f d) ≤ limit f → Holds s (written f d) → ReadBack f d s
+unfolding written
 reads-back f d s t l held = record { read = read-back f (pictureIn d) s (picture-proper f d t) l held; laidOut = laid-back f d t }
 
 -- so two that are written alike are one
 pub written-once : (f : Format) (d e : Flat) → T (valid f d) → T (valid f e) → written f d ≡ written f e → d ≡ e
+unfolding written
 written-once f d e t u h =
     let r = back-picture f (pictureIn d) (picture-proper f d t) .reads 0 in
     let q = back-picture f (pictureIn e) (picture-proper f e u) .reads 0 in

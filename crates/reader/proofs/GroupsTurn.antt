@@ -12,7 +12,8 @@ use Rattle.format.specs.declared.Format.{Format}
 use Rattle.description.specs.Vector.{Before, atStart}
 use Rattle.description.specs.Value.{Macroblock, Group}
 use Rattle.description.specs.Flat.{Flat, putMacroblocks, putGroups}
-use Rattle.layers.specs.Answer.{mapRead, flat}
+use Rattle.description.specs.Fields.{flat}
+use Rattle.layers.specs.Answer.{mapRead}
 use Rattle.layers.specs.Grammar.{none, groupHead, group, groupsRead, macroblocksFrom}
 use Rattle.layers.proofs.Meaning.{map-done, was-got, was-refused}
 

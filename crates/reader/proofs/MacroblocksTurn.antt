@@ -13,7 +13,8 @@ use Rattle.format.specs.declared.Format.{Format}
 use Rattle.description.specs.Vector.{Before}
 use Rattle.description.specs.Value.{Macroblock, after}
 use Rattle.description.specs.Flat.{Flat, index, fieldsOf, putBlocks, putMacroblocks}
-use Rattle.layers.specs.Answer.{mapRead, flat, Sent, putSent}
+use Rattle.description.specs.Fields.{flat}
+use Rattle.layers.specs.Answer.{mapRead, Sent, putSent}
 use Rattle.layers.specs.Grammar.{Mba, step, stuffed, ended, mba, macroblock, macroblocksFrom}
 use Rattle.layers.proofs.Meaning.{map-done, was-got, was-refused, length-left, some}
 

@@ -1,36 +1,35 @@
 -- From bits to a description in buffers, step by step. Assumes nothing.
 use mathlib.Core.Path.{_≡_, refl, sym, ap, subst, _∙_}
 use mathlib.Core.Bool.{Bool, true, false}
-use mathlib.Core.List.{List, [], _∷_}
+use mathlib.Core.List.{List, _∷_}
 use mathlib.Core.Logic.{_⊎_, inl, inr}
-use Prim.Native.Nat.{ℕ, zero, suc, _+_, _-_, _*_, _/_, _%_, _≤_, _<_}
-use native.Mathlib.Nat.{eq-or-lt-of-le}
+use Prim.Native.Nat.{ℕ, suc, _+_, _-_, _*_, _/_, _%_, _≤_, _<_}
+use native.Mathlib.Nat.{eq-or-lt-of-le, not-suc-le-zero}
 use native.Mathlib.Omega.{arith}
-use native.Mathlib.Numerals.{add-one}
 use borrow.Author.Tests.{lt-ltb, le-ltb, ltb-false}
 use lib.Dec.{T, ltb}
 use lib.ListN.{length, getD, set, replicate, length-set, length-replicate, getD-replicate}
 use lib.Seq.{getD-set-same, getD-set-other, ext-getD}
 use denote.Enum.Declared.{tagOf}
-use Rattle.laws.specs.Choice.{pick, either}
+use Rattle.laws.specs.Choice.{either}
 use Rattle.refusals.specs.declared.Reason.the-variants.{Count}
 use Rattle.refusals.specs.declared.Refusal.{Refusal}
-use Rattle.bits.specs.Bits.{Bit, source, bitsLeft}
+use Rattle.bits.specs.Bits.{bitsLeft}
 use Rattle.bits.specs.Source.{source-left}
 use Rattle.bits.specs.Read.{Read, got, refused, bad}
 use Rattle.format.specs.Format.{limit, formatBit, groupCount, groupNumbers}
 use Rattle.format.specs.declared.Format.{Format}
 use Rattle.description.specs.Flat.{Flat, putGroups, laid}
-use Rattle.layers.specs.Answer.{mapRead, flat, leaving, asHeader, headerRefusal, placeRefusal}
-use Rattle.layers.specs.Grammar.{Header, header, groupsRead, picture, reading}
-use Rattle.reader.specs.Described.{Lengths, described, verdictOf, zeros, laidOr}
+use Rattle.description.specs.Fields.{flat}
+use Rattle.layers.specs.Answer.{mapRead, leaving, asHeader, headerRefusal, placeRefusal}
+use Rattle.layers.specs.Grammar.{header, groupsRead, picture, reading}
+use Rattle.reader.specs.Described.{described, verdictOf, zeros, laidOr}
 use Rattle.layers.specs.declared.HeaderRead.{HeaderRead}
 use Rattle.layers.specs.declared.HeaderRead.the-variants.{Got, Refused as NoHeader}
 use Rattle.layers.proofs.HeaderRead.{the-type as header-type}
 use Rattle.layers.specs.declared.PlaceRead.{PlaceRead}
 use Rattle.layers.specs.declared.PlaceRead.the-variants.{At, Refused}
 use Rattle.layers.proofs.PlaceRead.{the-type as place-type}
-use Rattle.reader.specs.declared.Verdict.{Verdict}
 use Rattle.reader.specs.declared.Verdict.the-variants.{Accepted, Refused as Unread}
 use Rattle.layers.proofs.Meaning.{map-done}
 
@@ -102,10 +101,7 @@ pub record Zeroed (l₀ l : List ℕ) (i : ℕ) : Type 0 where
   pub zero-to : (k : ℕ) → k < i → getD l k 0 ≡ 0
 
 pub zeroed-none : (l : List ℕ) → Zeroed l l 0
-zeroed-none l = record { long = refl; zero-to = λ k h. absurd (none k h) }
-  where
-    none : (k : ℕ) → k < 0 → ⊥
-    none k h = omega arith
+zeroed-none l = record { long = refl; zero-to = λ k h. absurd (not-suc-le-zero h) }
 
 pub zeroed-more : (l₀ l : List ℕ) (i : ℕ) → Zeroed l₀ l i → i < length l → Zeroed l₀ (set l i 0) (i + 1)
 zeroed-more l₀ l i h m = record { long = length-set l i 0 ∙ h .long; zero-to = λ k q. go k (eq-or-lt-of-le (at-most k q)) }

@@ -5,31 +5,33 @@ use mathlib.Core.List.{List, [], _∷_}
 use mathlib.Core.Logic.{_⊎_, inl, inr}
 use Prim.Native.Nat.{ℕ, suc, _+_, _-_, _*_, _≤_, _<_}
 use native.Mathlib.Omega.{arith}
+use native.Mathlib.Nat.{le-antisymm}
 use native.Mathlib.Numerals.{add-one}
-use lib.Dec.{T, eqb, leb, leb→le}
+use lib.Dec.{T, eqb}
 use lib.ListN.{length, getD, set, drop, length-set}
-use lib.Seq.{drop-cons}
 use denote.Enum.Declared.{tagOf}
-use Rattle.laws.specs.Choice.{both, both-left, both-right}
+use Rattle.laws.specs.Choice.{alike, alike-same}
 use Rattle.laws.specs.Rows.{lt-or-ge}
 use Rattle.laws.specs.Table.{allB, all-at}
+use Rattle.laws.specs.Lists.{drop-on}
 use Rattle.refusals.specs.declared.Refusal.{Refusal}
 use Rattle.bits.specs.Bits.{Bit, bitsLeft}
-use Rattle.bits.specs.Value.{left-none, left-more}
+use Rattle.bits.specs.Value.{left-none}
 use Rattle.bits.specs.Read.{Read, got, refused, judged}
 use Rattle.bits.specs.Code.{word}
-use Rattle.bits.specs.Answer.{Within}
 use Rattle.words.specs.Tables.{table1}
 use Rattle.words.specs.Words.{isMC}
 use Rattle.format.specs.Format.{groupCount, groupNumbers}
+use Rattle.format.specs.Room.{groups-listed}
 use Rattle.format.specs.declared.Format.{Format}
 use Rattle.format.specs.declared.Format.the-variants.{Qcif, Cif}
 use Rattle.description.specs.Vector.{Vector, Before, atStart, zeroVector}
 use Rattle.description.specs.Value.{Macroblock, after}
 use Rattle.description.specs.Flat.{Flat, putMacroblocks, putGroups}
-use Rattle.description.specs.Proper.{If, ProperVector, ProperMacroblock}
+use Rattle.description.specs.Proper.{If, ProperVector}
 use Rattle.description.specs.Valid.{isQuantiser}
-use Rattle.layers.specs.Answer.{Kept, KeptBehind, componentOf, vectorOf, beforeOf, asMba, asMacroblock, mapRead, leaving, flat, Sent, putSent, macroblockRefusal}
+use Rattle.description.specs.Fields.{flat}
+use Rattle.layers.specs.Answer.{KeptBehind, beforeOf, asMba, asMacroblock, mapRead, Sent, putSent, macroblockRefusal}
 use Rattle.layers.specs.declared.Behind.{Behind}
 use Rattle.layers.specs.declared.MbaRead.{MbaRead}
 use Rattle.layers.specs.declared.MbaRead.the-variants.{Step, Stuffing, Ended, Refused as NoMba}
@@ -37,60 +39,33 @@ use Rattle.layers.specs.declared.MacroblockRead.{MacroblockRead}
 use Rattle.layers.specs.declared.MacroblockRead.the-variants.{Got, Refused}
 use Rattle.layers.proofs.MacroblockRead.{the-type as macroblock-type}
 use Rattle.layers.specs.Layers.{Met, mba-reads, macroblock-reads, group-head-reads}
-use Rattle.layers.specs.Grammar.{Mba, step, stuffed, ended, mbaOf, mba, macroblock, macroblocksFrom, none, groupHead, groupsRead}
+use Rattle.layers.specs.Grammar.{Mba, step, stuffed, ended, mbaOf, mba, macroblock, none, groupHead, groupsRead}
 use Rattle.layers.proofs.Meaning.{was-got, onward}
-use Rattle.layers.proofs.TypeSays.{alike, alike-same}
 use Rattle.layers.proofs.MacroblockWhole.{vector-kept}
 use Rattle.layers.proofs.MacroblockSteps.{opened}
 use Rattle.reader.proofs.MacroblocksTurn.{MacroblocksSoFar, macroblocks-first, macroblocks-refused, macroblocks-ended, macroblocks-stuffed, macroblocks-inside, macroblocks-more}
 use Rattle.reader.proofs.GroupsTurn.{macroblocksAt, quantised, GroupsSoFar, groups-done, groups-head, groups-inside, groups-more}
 
 -- ---- the order of groups, by one test of each format
-abbrev ordered : Format → ℕ → Bool
-ordered f g = both (alike (eqb (suc g) (groupCount f)) (none (drop (suc g) (groupNumbers f)))) (both (leb 1 (getD (groupNumbers f) g 0)) (leb (getD (groupNumbers f) g 0) 12))
+abbrev lastOf : Format → ℕ → Bool
+lastOf f g = alike (eqb (suc g) (groupCount f)) (none (drop (suc g) (groupNumbers f)))
 
-all-ordered : (f : Format) → T (allB (groupCount f) (ordered f))
-all-ordered Qcif = tt
-all-ordered Cif = tt
+all-last : (f : Format) → T (allB (groupCount f) (lastOf f))
+all-last Qcif = tt
+all-last Cif = tt
 
 module _ (f : Format) (g : ℕ) (l : g < groupCount f) where
-  in-order : T (ordered f g)
-  in-order = all-at (groupCount f) (ordered f) (all-ordered f) g l
-
   last-is : eqb (g + 1) (groupCount f) ≡ none (drop (g + 1) (groupNumbers f))
   last-is =
       let e : g + 1 ≡ suc g = add-one g in
-      rw e (alike-same (eqb (suc g) (groupCount f)) (none (drop (suc g) (groupNumbers f))) (both-left (alike (eqb (suc g) (groupCount f)) (none (drop (suc g) (groupNumbers f)))) _ in-order))
-
-  bounds : T (both (leb 1 (getD (groupNumbers f) g 0)) (leb (getD (groupNumbers f) g 0) 12))
-  bounds = both-right (alike (eqb (suc g) (groupCount f)) (none (drop (suc g) (groupNumbers f)))) _ in-order
-
-  pub number-low : 1 ≤ getD (groupNumbers f) g 0
-  number-low = leb→le 1 _ (both-left (leb 1 (getD (groupNumbers f) g 0)) (leb (getD (groupNumbers f) g 0) 12) bounds)
-
-  pub number-high : getD (groupNumbers f) g 0 ≤ 12
-  number-high = leb→le _ 12 (both-right (leb 1 (getD (groupNumbers f) g 0)) (leb (getD (groupNumbers f) g 0) 12) bounds)
-
-  drop-on : drop g (groupNumbers f) ≡ getD (groupNumbers f) g 0 ∷ drop (g + 1) (groupNumbers f)
-  drop-on = drop-cons (groupNumbers f) g 0 (many f l) ∙ ap (λ (k : ℕ). getD (groupNumbers f) g 0 ∷ drop k (groupNumbers f)) (sym (add-one g))
-    where
-      many : (f : Format) → g < groupCount f → g < length (groupNumbers f)
-      many Qcif l = l
-      many Cif l = l
+      rw e (alike-same (eqb (suc g) (groupCount f)) (none (drop (suc g) (groupNumbers f))) (all-at (groupCount f) (lastOf f) (all-last f) g l))
 
 drop-all : (f : Format) (g : ℕ) → g ≤ groupCount f → groupCount f ≤ g → drop g (groupNumbers f) ≡ []
-drop-all f g l m = ap (λ (k : ℕ). drop k (groupNumbers f)) (same g (groupCount f) l m) ∙ none-left f
+drop-all f g l m = ap (λ (k : ℕ). drop k (groupNumbers f)) (le-antisymm l m) ∙ none-left f
   where
-    same : (a b : ℕ) → a ≤ b → b ≤ a → a ≡ b
-    same a b l m = omega arith
-
     none-left : (f : Format) → drop (groupCount f) (groupNumbers f) ≡ []
     none-left Qcif = refl
     none-left Cif = refl
-
-pub count-small : (f : Format) → groupCount f ≤ 12
-count-small Qcif = omega arith
-count-small Cif = omega arith
 
 -- ---- where an MBA place leads
 pub record Led (last : Bool) (address n p : ℕ) (x : Mba) (q : ℕ) : Type 0 where
@@ -224,7 +199,7 @@ module _ {start : Read Flat} {s : List ℕ} {n : ℕ} {f : Format} {head ms ls :
 
   module _ (l : g < groupCount f) where
     on : GroupsSoFar start s n f (getD (groupNumbers f) g 0 ∷ drop (g + 1) (groupNumbers f)) (flat head ms ls) g p
-    on = subst (λ (xs : List ℕ). GroupsSoFar start s n f xs (flat head ms ls) g p) (drop-on f g l) (h .same)
+    on = subst (λ (xs : List ℕ). GroupsSoFar start s n f xs (flat head ms ls) g p) (drop-on (groupNumbers f) g (omega (arith, l, groups-listed f))) (h .same)
 
     pub picture-no-head : (number : ℕ) (r : Refusal) → number ≡ getD (groupNumbers f) g 0 → groupHead number (bitsLeft s n p) p ≡ refused r → refused r ≡ start
     picture-no-head number r e d = groups-head on r (sym d ∙ ap (λ (k : ℕ). groupHead k (bitsLeft s n p) p) e)

@@ -6,7 +6,7 @@ use Prim.Native.Nat.{ℕ, _+_, _*_, _≤_}
 use native.Mathlib.Omega.{arith}
 use lib.Dec.{T, eqb, eqb→eq}
 use lib.ListN.{length, take, drop, drop-of-length-le}
-use lib.Seq.{take-length, length-take-le}
+use lib.Seq.{take-length}
 use denote.Enum.Declared.{tagOf}
 use Rattle.laws.specs.Choice.{pick, both, both-left, both-right, true-T}
 use Rattle.refusals.specs.declared.Reason.the-variants.{Length}
@@ -17,7 +17,7 @@ use Rattle.format.specs.Format.{groupCount}
 use Rattle.format.specs.declared.Format.{Format}
 use Rattle.description.specs.Flat.{Flat}
 use Rattle.description.specs.Valid.{lengthsOf}
-use Rattle.layers.specs.Answer.{flat}
+use Rattle.description.specs.Fields.{flat}
 use Rattle.reader.specs.Described.{Lengths, described, verdictOf, laidOr}
 use Rattle.reader.specs.ReadOf.{readOf, flatAfter}
 use Rattle.reader.specs.declared.Verdict.{Verdict}
@@ -77,7 +77,3 @@ module _ (f : Format) (s : List ℕ) (n : ℕ) (before : Flat) {o : Bool} (e : o
   pub fit : o ≡ true → {v : Verdict} {after : Flat} → v ≡ verdictOf (described f s n) → after ≡ flatAfter before (described f s n)
       → (v ≡ verdictOf (readOf f s n before)) × (after ≡ flatAfter before (readOf f s n before))
   fit h w b = (w ∙ sym (ap verdictOf (on true h)), b ∙ sym (ap (flatAfter before) (on true h)))
-
--- a part of the scratch
-pub part-long : {n : ℕ} (array : List ℕ) → n ≤ length array → n ≡ length (take n array)
-part-long {n} array l = sym (length-take-le n array l)

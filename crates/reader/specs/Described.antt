@@ -9,7 +9,8 @@ use Rattle.bits.specs.Read.{Read, got, refused, endless}
 use Rattle.format.specs.Format.{groupCount}
 use Rattle.format.specs.declared.Format.{Format}
 use Rattle.description.specs.Flat.{Flat, laid}
-use Rattle.layers.specs.Answer.{mapRead, flat}
+use Rattle.description.specs.Fields.{flat}
+use Rattle.layers.specs.Answer.{mapRead}
 use Rattle.layers.specs.Grammar.{reading}
 use Rattle.reader.specs.declared.Verdict.{Verdict}
 use Rattle.reader.specs.declared.Verdict.the-variants.{Accepted, Refused}

@@ -3,9 +3,9 @@ use format::Format;
 use refusals::Reason;
 use refusals::Refusal;
 ghost use mathlib.Core.Path.{_≡_};
-ghost use Rattle.layers.specs.Answer.{flat};
 ghost use Rattle.reader.specs.Described.{Lengths, described, verdictOf};
 ghost use Rattle.reader.specs.ReadOf.{flatAfter, ReadSays, ReadLeaves};
+ghost use Rattle.description.specs.Fields.{flat};
 
 mod opening;
 pub mod parse;

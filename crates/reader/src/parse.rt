@@ -14,7 +14,8 @@ ghost use lib.Dec.{ltb};
 ghost use lib.ListN.{length, replicate};
 ghost use Rattle.laws.specs.Choice.{either};
 ghost use Rattle.format.specs.Format.{limit, groupCount};
-ghost use Rattle.layers.specs.Answer.{flat, headerRefusal};
+ghost use Rattle.description.specs.Fields.{flat};
+ghost use Rattle.layers.specs.Answer.{headerRefusal};
 ghost use Rattle.reader.specs.Described.{Lengths, described, verdictOf, laidOr};
 
 fn header_refusal(read: HeaderRead) -> Refusal

@@ -19,7 +19,8 @@ ghost use Rattle.bits.specs.Answer.{Within};
 ghost use Rattle.words.specs.Lookup.{Tables};
 ghost use Rattle.format.specs.Format.{groupCount, groupNumbers};
 ghost use Rattle.description.specs.Flat.{putGroups};
-ghost use Rattle.layers.specs.Answer.{mapRead, leaving, flat, macroblockRefusal};
+ghost use Rattle.description.specs.Fields.{flat};
+ghost use Rattle.layers.specs.Answer.{mapRead, leaving, macroblockRefusal};
 ghost use Rattle.layers.specs.Grammar.{groupsRead};
 
 fn macroblock_refusal(read: MacroblockRead) -> Refusal

@@ -1,13 +1,13 @@
 -- What is known of a block that passed the checks, and of what it comes to. Assumes nothing.
 use Prim.Native.Nat.{ℕ, _+_, _*_, _≤_, _<_}
-use mathlib.Core.Path.{_≡_, refl, sym, ap, _∙_}
-use mathlib.Core.Bool.{Bool, true, false, false≢true}
+use mathlib.Core.Path.{_≡_, refl}
+use mathlib.Core.Bool.{Bool, true, false}
 use mathlib.Core.List.{List}
 use native.Mathlib.Omega.{arith}
 use borrow.Author.Tests.{eqb-true}
 use lib.Dec.{eqb}
 use lib.ListN.{length}
-use Rattle.laws.specs.Choice.{pick, both}
+use Rattle.laws.specs.Choice.{pick, alike, two-of}
 use Rattle.refusals.specs.declared.Reason.the-variants.{UntrueMark}
 use Rattle.refusals.specs.Number.{refusal}
 use Rattle.format.specs.declared.Format.{Format}
@@ -22,7 +22,7 @@ use Rattle.stores.specs.Stores.{Stores}
 use Rattle.receiver.specs.declared.Receiver.{Receiver}
 use Rattle.receiver.specs.declared.Received.{Received}
 use Rattle.receiver.specs.Coding.{Found, accepted, refused, Coding}
-use Rattle.receiver.specs.Receive.{Event, alike, markOf, failed, finished, named, ended, answerOf, advance, collected, storedBy, received}
+use Rattle.receiver.specs.Receive.{Event, markOf, failed, finished, named, ended, answerOf, advance, collected, storedBy, received}
 
 -- a good block of the clip, and buffers of their named lengths: the part has its room
 pub record Ready (format : Format) (header : Header) (block collection first second : List ℕ) : Type 0 where
@@ -33,10 +33,6 @@ pub record Ready (format : Format) (header : Header) (block collection first sec
   pub room : 500 * header .part + 500 ≤ length collection
   pub first-long : length first ≡ storeLength format
   pub second-long : length second ≡ storeLength format
-
-two-of : (a b : Bool) → both a b ≡ true → (a ≡ true) × (b ≡ true)
-two-of true b e = (refl, e)
-two-of false b e = absurd (false≢true e)
 
 greatest : (format : Format) (part : ℕ) → part ≤ greatestPart format → (part ≤ 65) × (500 * part + 500 ≤ collectionLength format)
 greatest Qcif part l = (omega arith, omega arith)

@@ -4,7 +4,7 @@ use mathlib.Core.Bool.{Bool, true, false}
 use mathlib.Core.List.{List}
 use lib.Dec.{eqb, ltb}
 use lib.ListN.{length}
-use Rattle.laws.specs.Choice.{pick, both, either, opposite}
+use Rattle.laws.specs.Choice.{pick, both, either, opposite, alike}
 use Rattle.refusals.specs.declared.Reason.the-variants.{UntrueMark, BlockField}
 use Rattle.refusals.specs.declared.Refusal.{Refusal}
 use Rattle.refusals.specs.Number.{refusal}
@@ -91,10 +91,6 @@ countOf header = 4000 * header .part + header .used
 -- the refresh mark of part 0 of what is collected
 abbrev pub markOf : Receiver → Header → Bool
 markOf r header = pick (eqb (header .part) 0) (header .refresh) (r .refresh)
-
-abbrev pub alike : Bool → Bool → Bool
-alike true b = b
-alike false b = opposite b
 
 -- the lent buffers but the block
 pub record Buffers : Type 0 where

@@ -1,18 +1,17 @@
 -- A picture with or without fill, by the verdict of each read. Assumes nothing.
-use Prim.Native.Nat.{ℕ, min, max, _<_, _≤_}
+use Prim.Native.Nat.{ℕ, _<_, _≤_}
 use native.Mathlib.Omega.{arith}
 use borrow.Author.Tests.{le-leb, lt-leb}
 use mathlib.Core.Path.{_≡_, refl, sym, ap, subst, _∙_}
 use mathlib.Core.Bool.{Bool, true, false}
 use mathlib.Core.List.{List}
 use lib.Dec.{leb}
-use Rattle.laws.specs.Choice.{pick, both}
+use Rattle.laws.specs.Choice.{pick, both, second-no}
 use Rattle.refusals.specs.declared.Reason.the-variants.{Length}
 use Rattle.refusals.specs.declared.Refusal.{Refusal}
 use Rattle.refusals.specs.Number.{number, refusal}
 use Rattle.bits.specs.Read.{Read, got, refused, endless}
 use Rattle.format.specs.declared.Format.{Format}
-use Rattle.format.specs.Format.{limit}
 use Rattle.description.specs.Flat.{Flat}
 use Rattle.reader.specs.declared.Verdict.{Verdict}
 use Rattle.reader.specs.declared.Verdict.the-variants.{Accepted, Refused}
@@ -21,10 +20,6 @@ use Rattle.reader.specs.ReadOf.{readOf, flatAfter}
 use Rattle.stream.specs.Filled.{countOf, amongZeros, orElse, unfilled, byFirst, filled}
 
 -- ---- a refusal among the zeros
-neither : (a : Bool) → both a false ≡ false
-neither true = refl
-neither false = refl
-
 module _ (why : Refusal) (ones : ℕ) {n : ℕ} (e : n ≡ number (why .reason)) where
   pub not-below : n < 3 → false ≡ amongZeros why ones
   not-below l =
@@ -34,7 +29,7 @@ module _ (why : Refusal) (ones : ℕ) {n : ℕ} (e : n ≡ number (why .reason))
   pub not-above : 13 < n → false ≡ amongZeros why ones
   not-above l =
       let high : 13 < number (why .reason) = omega (arith, e, l) in
-      sym (ap (λ (t : Bool). both t (leb ones (why .place))) (ap (λ (t : Bool). both (leb 3 (number (why .reason))) t) (lt-leb (number (why .reason)) 13 high) ∙ neither (leb 3 (number (why .reason)))))
+      sym (ap (λ (t : Bool). both t (leb ones (why .place))) (second-no (leb 3 (number (why .reason))) _ (lt-leb (number (why .reason)) 13 high)))
 
   pub by-place : 3 ≤ n → n ≤ 13 → leb ones (why .place) ≡ amongZeros why ones
   by-place l m =

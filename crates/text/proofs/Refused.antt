@@ -2,12 +2,12 @@
 use Prim.Native.Nat.{ℕ, _+_, _≤_, _<_}
 use native.Mathlib.Omega.{arith}
 use borrow.Author.Tests.{lt-leb, le-leb}
-use mathlib.Core.Path.{_≡_, refl, sym, ap, subst, _∙_}
-use mathlib.Core.Bool.{Bool, true, false}
+use mathlib.Core.Path.{_≡_, sym, ap, subst}
+use mathlib.Core.Bool.{Bool}
 use mathlib.Core.List.{List, [], _++_}
 use lib.Dec.{leb}
 use lib.ListN.{length}
-use Rattle.laws.specs.Choice.{pick, both}
+use Rattle.laws.specs.Choice.{pick, both, second-no}
 use Rattle.text.specs.Text.{decimal, atPlace, atWord, refusedWord, refusalText}
 use Rattle.text.specs.Puts.{Puts, puts-then, puts-none}
 
@@ -15,13 +15,9 @@ pub below-three : (n place : ℕ) → n < 3 → [] ≡ atPlace n place
 unfolding atPlace
 below-three n place l = sym (ap (λ (b : Bool). pick (both b (leb n 13)) (atWord ++ decimal place) []) (lt-leb 3 n l))
 
-neither : (a : Bool) → both a false ≡ false
-neither true = refl
-neither false = refl
-
 pub past-thirteen : (n place : ℕ) → 13 < n → [] ≡ atPlace n place
 unfolding atPlace
-past-thirteen n place l = sym (ap (λ (b : Bool). pick b (atWord ++ decimal place) []) (ap (λ (b : Bool). both (leb 3 n) b) (lt-leb n 13 l) ∙ neither (leb 3 n)))
+past-thirteen n place l = sym (ap (λ (b : Bool). pick b (atWord ++ decimal place) []) (second-no (leb 3 n) (leb n 13) (lt-leb n 13 l)))
 
 -- a refusal with no place
 pub refused-plain : {n number at middle end : ℕ} {out between left : List ℕ} (place : ℕ) → n ≡ number → [] ≡ atPlace n place → middle ≤ length out

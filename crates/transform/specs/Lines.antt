@@ -16,7 +16,8 @@ use mir.Facts.{toZ-ofZ}
 use borrow.Author.Needs.{sfits-of}
 use borrow.Author.Count.{below-more}
 use Rattle.laws.specs.Integer.{Low}
-use Rattle.laws.specs.Block.{Is, Shape, cell, put, put-shape, cell-same, cell-other, lt-or-ge}
+use Rattle.laws.specs.Rows.{Starts, lt-or-ge}
+use Rattle.laws.specs.Block.{Is, Shape, cell, put, put-shape, cell-same, cell-other}
 
 abbrev pub entry : List ℤ → ℕ → ℤ
 entry row i = getD row i (pos 0)
@@ -26,28 +27,8 @@ pub record Line (g : ℕ → ℤ) (r : List ℤ) : Type 0 where
   pub size : length r ≡ 8
   pub entries : (x : ℕ) → x < 8 → entry r x ≡ g x
 
--- and one whose first n entries are
-pub record Entries (g : ℕ → ℤ) (n : ℕ) (r : List ℤ) : Type 0 where
-  pub size : length r ≡ 8
-  pub first : (x : ℕ) → x < n → entry r x ≡ g x
-
-module _ (g : ℕ → ℤ) where
-  pub entries-none : {r : List ℤ} → length r ≡ 8 → Entries g 0 r
-  entries-none e = record { size = e; first = λ x l. absurd (not-suc-le-zero l) }
-
-  pub entries-more : {n : ℕ} {r : List ℤ} {a : ℤ} → Entries g n r → n < 8 → a ≡ g n → Entries g (n + 1) (set r n a)
-  entries-more {n} {r} {a} h l e =
-      record {
-        size = length-set r n a ∙ h .size;
-        first = below-more (λ x. entry (set r n a) x ≡ g x) n (λ x m. getD-set-other r n x a (pos 0) (apart m) ∙ h .first x m)
-            (getD-set-same r n a (pos 0) (omega (arith, h .size)) ∙ e);
-      }
-    where
-      apart : {x n : ℕ} → x < n → x ≡ n → ⊥
-      apart m f = omega arith
-
-  pub entries-all : {n : ℕ} {r : List ℤ} → Entries g n r → 8 ≤ n → Line g r
-  entries-all h l = record { size = h .size; entries = λ x m. h .first x (lt-of-lt-of-le m l) }
+pub starts-line : {n : ℕ} {g : ℕ → ℤ} {r : List ℤ} → Starts (pos 0) 8 n g r → 8 ≤ n → Line g r
+starts-line h l = record { size = h .size; entries = λ x m. h .first x (lt-of-lt-of-le m l) }
 
 -- Each number of a row, and of a block, is at most m in size.
 abbrev pub SmallRow : ℕ → List ℤ → Type 0

@@ -5,39 +5,30 @@ use mathlib.Core.List.{List, [], _∷_}
 use Prim.Native.Nat.{ℕ, zero, suc, _+_, _-_, _*_, _≤_, _<_}
 use native.Mathlib.Omega.{arith}
 use native.Mathlib.Nat.{add-zero}
-use native.Mathlib.Numerals.{add-one}
 use borrow.Author.Tests.{lt-ltb, le-ltb, le-leb, lt-leb, eq-eqb, ne-eqb}
-use lib.Dec.{T, leb, ltb, eqb, leb→le, eqb→eq, lit≤}
+use lib.Dec.{T, leb, ltb, eqb, eqb→eq, lit≤}
 use types.Run.{OneOf}
 use mathlib.Core.Logic.{inl, inr}
 use Rattle.words.specs.Words.{isIntra, isMC, hasMQUANT, hasCBP}
 use lib.ListN.{length, getD, take, drop, length-drop}
-use lib.Seq.{drop-cons, drop-length, drop-drop, getD-drop, take-all, length-take-le}
+use lib.Seq.{drop-length, drop-drop, getD-drop, take-all, length-take-le}
 use lib.IntN.{ℤ, pos, negsuc, natAbs}
-use Rattle.laws.specs.Choice.{pick, both, either, opposite, either-right, both-left, both-right, true-T}
+use Rattle.laws.specs.Choice.{pick, both, either, opposite, either-right, both-left, both-right, true-T, alike, alike-same}
 use Rattle.laws.specs.Table.{allB, all-at}
+use Rattle.laws.specs.Lists.{drop-on}
 use Rattle.format.specs.Format.{formatBit, groupNumbers, groupCount, width, height, column, row, headLength, macroblocksLength, levelsLength}
 use Rattle.format.specs.declared.Format.{Format}
 use Rattle.format.specs.declared.Format.the-variants.{Qcif, Cif}
+use Rattle.format.specs.Room.{groups-listed}
 use Rattle.description.specs.Vector.{inRange, inside}
 use Rattle.description.specs.Flat.{numberOf}
-use Rattle.description.specs.Valid.{all, within, isZero, isQuantiser, isLevel, codesFirst, validVector, validLevels, validMacroblock, validMacroblocks, validGroups, lengthsOf, validHead, valid}
-use Rattle.description.specs.Spread.{flat}
+use Rattle.description.specs.Valid.{all, isZero, isQuantiser, isLevel, codesFirst, validVector, validLevels, validMacroblock, validMacroblocks, validGroups, lengthsOf, validHead, valid}
+use Rattle.description.specs.Fields.{flat}
 
 -- ---- a test that is the same on a range of numbers, computed once
-abbrev agree : Bool → Bool → Bool
-agree true b = b
-agree false b = opposite b
-
-agree-yes : (a b : Bool) → T (agree a b) → a ≡ b
-agree-yes true true t = refl
-agree-yes true false t = absurd t
-agree-yes false true t = absurd t
-agree-yes false false t = refl
-
-pub ranged : (p : ℕ → Bool) (b : Bool) (from to : ℕ) → T (allB to (λ k. either (ltb k from) (agree b (p k)))) → (k : ℕ) → from ≤ k → k < to → b ≡ p k
+pub ranged : (p : ℕ → Bool) (b : Bool) (from to : ℕ) → T (allB to (λ k. either (ltb k from) (alike b (p k)))) → (k : ℕ) → from ≤ k → k < to → b ≡ p k
 ranged p b from to t k l h =
-    agree-yes b (p k) (either-right (ltb k from) (agree b (p k)) (le-ltb k from l) (all-at to (λ k. either (ltb k from) (agree b (p k))) t k h))
+    alike-same b (p k) (either-right (ltb k from) (alike b (p k)) (le-ltb k from l) (all-at to (λ k. either (ltb k from) (alike b (p k))) t k h))
 
 -- ---- tests of one byte
 pub quantiser-zero : (b : ℕ) → b ≡ 0 → false ≡ isQuantiser b
@@ -114,9 +105,6 @@ crossed true false false d = refl
 crossed false b c d = refl
 
 -- ---- every byte
-pub step : (l : List ℕ) (i : ℕ) → i < length l → drop i l ≡ getD l i 0 ∷ drop (i + 1) l
-step l i h = drop-cons l i 0 h ∙ ap (λ (n : ℕ). getD l i 0 ∷ drop n l) (sym (add-one i))
-
 pub record AllSoFar (whole : Bool) (good : ℕ → Bool) (bytes : List ℕ) (i : ℕ) : Type 0 where
   pub inside : i ≤ length bytes
   pub same : whole ≡ all good (drop i bytes)
@@ -132,7 +120,7 @@ module _ {whole : Bool} {good : ℕ → Bool} {bytes : List ℕ} {i : ℕ} (h : 
 
   module _ (l : i < length bytes) where
     on : whole ≡ both (good (getD bytes i 0)) (all good (drop (i + 1) bytes))
-    on = h .same ∙ ap (all good) (step bytes i l)
+    on = h .same ∙ ap (all good) (drop-on bytes i l)
 
     pub all-no : good (getD bytes i 0) ≡ false → false ≡ whole
     all-no e = sym (on ∙ ap (λ (b : Bool). both b (all good (drop (i + 1) bytes))) e)
@@ -236,20 +224,6 @@ module _ {whole : Bool} {f : Format} {number : ℕ} {fields levels : List ℕ} {
       }
 
 -- ---- the groups: g are behind
-pub count-is : (f : Format) → groupCount f ≡ length (groupNumbers f)
-count-is Qcif = refl
-count-is Cif = refl
-
--- a group's number is 1 to 12
-low-number : (f : Format) → T (allB (groupCount f) (λ g. within 1 12 (getD (groupNumbers f) g 0)))
-low-number Qcif = tt
-low-number Cif = tt
-
-pub number-within : (f : Format) (g : ℕ) → g < groupCount f → (1 ≤ getD (groupNumbers f) g 0) × (getD (groupNumbers f) g 0 ≤ 12)
-number-within f g l =
-    let n = getD (groupNumbers f) g 0 in
-    let t = all-at (groupCount f) (λ g. within 1 12 (getD (groupNumbers f) g 0)) (low-number f) g l in
-    (leb→le 1 n (both-left (leb 1 n) (leb n 12) t), leb→le n 12 (both-right (leb 1 n) (leb n 12) t))
 
 pub record GroupsSoFar (whole : Bool) (f : Format) (fields levels : List ℕ) (g : ℕ) : Type 0 where
   pub within-count : g ≤ groupCount f
@@ -267,7 +241,7 @@ module _ {whole : Bool} {f : Format} {fields levels : List ℕ} {g : ℕ} (h : G
   pub groups-done : groupCount f ≤ g → true ≡ whole
   unfolding validGroups
   groups-done l =
-      let e : g ≡ length (groupNumbers f) = omega (arith, h .within-count, count-is f) in
+      let e : g ≡ length (groupNumbers f) = omega (arith, h .within-count, groups-listed f) in
       sym (h .same ∙ ap (λ (ns : List ℕ). validGroups f ns (drop (g * 132) fields) (drop (g * 12672) levels)) (ap (λ (n : ℕ). drop n (groupNumbers f)) e ∙ drop-length (groupNumbers f)))
 
   module _ (l : g < groupCount f) (r : Bool) (m : r ≡ validMacroblocks 33 f (getD (groupNumbers f) g 0) 1 (drop (g * 132) fields) (drop (g * 12672) levels)) where
@@ -276,7 +250,7 @@ module _ {whole : Bool} {f : Format} {fields levels : List ℕ} {g : ℕ} (h : G
         let a : g * 132 + 132 ≡ (g + 1) * 132 = omega arith in
         let b : g * 12672 + 12672 ≡ (g + 1) * 12672 = omega arith in
         h .same
-        ∙ ap (λ (ns : List ℕ). validGroups f ns (drop (g * 132) fields) (drop (g * 12672) levels)) (step (groupNumbers f) g (omega (arith, count-is f)))
+        ∙ ap (λ (ns : List ℕ). validGroups f ns (drop (g * 132) fields) (drop (g * 12672) levels)) (drop-on (groupNumbers f) g (omega (arith, groups-listed f)))
         ∙ groups-one f (getD (groupNumbers f) g 0) (drop (g + 1) (groupNumbers f)) (drop (g * 132) fields) (drop (g * 12672) levels)
         ∙ ap₂ both (sym m)
         (ap₂ (validGroups f (drop (g + 1) (groupNumbers f)))
@@ -474,10 +448,6 @@ group-part f fields levels g number r n e = e ∙ (λ i. validMacroblocks 33 f (
 
 pub part-length : (l : List ℕ) (a n : ℕ) → a + n ≤ length l → n ≤ length (take (length l - a) (drop a l))
 part-length l a n h = omega (arith, ap length (part-rest l a), length-drop a l)
-
-pub counts : (f : Format) → groupCount f ≤ 12
-counts Qcif = lit≤ tt
-counts Cif = lit≤ tt
 
 pub piece-length : (l : List ℕ) (a n : ℕ) → a + n ≤ length l → length (take (a + n - a) (drop a l)) ≡ n
 piece-length l a n h =

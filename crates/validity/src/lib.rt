@@ -4,8 +4,8 @@ ghost use mathlib.Core.Path.{_≡_};
 ghost use Prim.Native.Nat.{_+_, _*_, _≤_};
 ghost use lib.ListN.{length, drop};
 ghost use Rattle.format.specs.Format.{macroblocksLength, levelsLength, groupNumbers};
-ghost use Rattle.description.specs.Spread.{flat};
 ghost use Rattle.description.specs.Valid.{all, isQuantiser, lengthsOf, validHead, validMacroblocks, validGroups, valid as isValid};
+ghost use Rattle.description.specs.Fields.{flat};
 
 pub mod kind;
 pub mod levels;

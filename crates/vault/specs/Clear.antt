@@ -1,15 +1,15 @@
 -- Laws of `clear`: unused bits zero, byte by byte. Assumes nothing.
 use mathlib.Core.Path.{_≡_, refl, ap, _∙_}
-use mathlib.Core.Bool.{Bool, true, false}
+use mathlib.Core.Bool.{true, false}
 use mathlib.Core.Logic.{⊎-elim}
 use mathlib.Core.List.{List}
 use Prim.Native.Nat.{ℕ, zero, suc, _+_, _/_, _%_, _^_, _≤_, _<_}
-use native.Mathlib.Nat.{le-refl, eq-or-lt-of-le, le-of-suc-le-suc, not-suc-le-zero}
+use native.Mathlib.Nat.{le-refl, eq-or-lt-of-le, le-of-suc-le-suc, not-suc-le-zero, le-step, mod-one}
 use native.Mathlib.Numerals.{add-one}
 use native.Mathlib.Omega.{arith}
 use lib.ListN.{getD}
 use borrow.Author.Tests.{eq-eqb, ne-eqb}
-use Rattle.laws.specs.Choice.{both}
+use Rattle.laws.specs.Choice.{two-of, first-no, second-no}
 use Rattle.vault.specs.Block.{unused, clear}
 
 module _ (used : ℕ) (payload : List ℕ) where
@@ -20,31 +20,18 @@ module _ (used : ℕ) (payload : List ℕ) where
   pub clear-all : (n : ℕ) → ((i : ℕ) → i < n → left i ≡ 0) → clear used payload n ≡ true
   unfolding clear
   clear-all zero h = refl
-  clear-all (suc n) h = rw (clear-all n (λ i l. h i (up i n l)), eq-eqb (left n) 0 (h n (le-refl (suc n))))
-    where
-      up : (i n : ℕ) → i < n → i < suc n
-      up i n l = omega arith
+  clear-all (suc n) h = rw (clear-all n (λ i l. h i (le-step l)), eq-eqb (left n) 0 (h n (le-refl (suc n))))
 
   -- bytes before the one in which the unused bits begin have none
   pub clear-start : (n : ℕ) → n ≤ used / 8 → clear used payload n ≡ true
-  clear-start n l = clear-all n (λ i k. ap (λ (m : ℕ). getD payload i 0 % 2 ^ m) (none i k) ∙ one (getD payload i 0))
+  clear-start n l = clear-all n (λ i k. ap (λ (m : ℕ). getD payload i 0 % 2 ^ m) (none i k) ∙ mod-one (getD payload i 0))
     where
       none : (i : ℕ) → i < n → unused used i ≡ 0
       none i k = omega arith
 
-      one : (x : ℕ) → x % 1 ≡ 0
-      one x = omega arith
-
   pub clear-more : (i : ℕ) → clear used payload i ≡ true → left i ≡ 0 → clear used payload (i + 1) ≡ true
   unfolding clear
   clear-more i h e = rw (add-one i, h, eq-eqb (left i) 0 e)
-
-  false-both : (a b : Bool) → a ≡ false → both a b ≡ false
-  false-both a b e = rw e
-
-  both-false : (a b : Bool) → b ≡ false → both a b ≡ false
-  both-false true b e = e
-  both-false false b e = refl
 
   -- one byte whose unused bits are not zero
   pub clear-fails : (i n : ℕ) → i < n → (left i ≡ 0 → ⊥) → clear used payload n ≡ false
@@ -52,13 +39,9 @@ module _ (used : ℕ) (payload : List ℕ) where
   clear-fails i zero l h = absurd (not-suc-le-zero l)
   clear-fails i (suc n) l h =
       ⊎-elim
-      (λ e. both-false (clear used payload n) _ (ne-eqb (left n) 0 (λ z. h (ap left e ∙ z))))
-      (λ s. false-both (clear used payload n) _ (clear-fails i n s h))
+      (λ e. second-no (clear used payload n) _ (ne-eqb (left n) 0 (λ z. h (ap left e ∙ z))))
+      (λ s. first-no (clear used payload n) _ (clear-fails i n s h))
       (eq-or-lt-of-le (le-of-suc-le-suc l))
-
-  both-true : (a b : Bool) → both a b ≡ true → a ≡ true
-  both-true true b e = refl
-  both-true false b e = e
 
   pub clear-less : (n m : ℕ) → n ≤ m → clear used payload m ≡ true → clear used payload n ≡ true
   unfolding clear
@@ -69,5 +52,5 @@ module _ (used : ℕ) (payload : List ℕ) where
   clear-less n (suc m) l h =
       ⊎-elim
       (λ e. ap (clear used payload) e ∙ h)
-      (λ s. clear-less n m (le-of-suc-le-suc s) (both-true (clear used payload m) _ h))
+      (λ s. clear-less n m (le-of-suc-le-suc s) (two-of (clear used payload m) _ h .0))
       (eq-or-lt-of-le l)

@@ -9,7 +9,7 @@ use lib.ListN.{length, take}
 use lib.Seq.{take-at}
 use lib.Dec.{eqb, leb}
 use borrow.Author.Tests.{leb-true, ltb-true, eqb-true, eq-eqb}
-use Rattle.laws.specs.Choice.{pick, both, either, opposite}
+use Rattle.laws.specs.Choice.{pick, both, either, two-of, if-so}
 use Rattle.laws.specs.Splice.{getD-past}
 use Rattle.format.specs.declared.Format.{Format}
 use Rattle.refusals.specs.declared.Reason.{Reason}
@@ -118,16 +118,9 @@ pub record Sound (format : Format) (block : List ℕ) (header : Header) : Type 0
   pub used-most : header .used ≤ 4000
   pub used-full : header .last ≡ false → header .used ≡ 4000
 
-two-of : (a b : Bool) → both a b ≡ true → (a ≡ true) × (b ≡ true)
-two-of true b e = (refl, e)
-two-of false b e = absurd (false≢true e)
-
 unless : (a b : Bool) → either a b ≡ true → a ≡ false → b ≡ true
 unless true b e f = absurd (false≢true (sym f))
 unless false b e f = e
-
-refreshed : (r b : Bool) → either (opposite r) b ≡ true → r ≡ true → b ≡ true
-refreshed r b e f = unless (opposite r) b e (ap opposite f)
 
 never : (refusal : Refusal) (header : Header) → Refused refusal ≡ Good header → ⊥
 never refusal header e = let z : _≡_ {A = ℕ} 0 1 = cc in omega arith
@@ -156,7 +149,7 @@ rules-of format block header l h r =
       clip-is = leb-true 1 (header .clip) (clip .0);
       picture-is = ltb-true (header .picture) pictures (picture .0);
       part-is = leb-true (header .part) (greatestPart format) (part .0);
-      refresh-is = λ m. eqb-true (header .part) 0 (refreshed (header .refresh) (eqb (header .part) 0) (refresh .0) m);
+      refresh-is = λ m. eqb-true (header .part) 0 (if-so (header .refresh) (eqb (header .part) 0) (refresh .0) m);
       used-is = leb-true 1 (header .used) (used .0);
       used-most = leb-true (header .used) 4000 (most .0);
       used-full = λ m. eqb-true (header .used) 4000 (unless (header .last) (eqb (header .used) 4000) (most .1) m);

@@ -2,24 +2,23 @@
 use mathlib.Core.Path.{_≡_, refl, sym, ap, _∙_}
 use mathlib.Core.Bool.{Bool, true, false}
 use mathlib.Core.List.{List, [], _∷_, _++_}
-use Prim.Native.Nat.{ℕ, zero, suc, _+_, _-_, _*_, _/_, _%_, _^_, _<_, _≤_}
-use native.Mathlib.Nat.{add-mul, pow-suc}
+use Prim.Native.Nat.{ℕ, suc, _+_, _-_, _*_, _/_, _%_, _^_, _<_, _≤_}
+use native.Mathlib.Nat.{pow-suc}
 use native.Mathlib.Omega.{arith}
-use borrow.Author.Tests.{lt-ltb, le-ltb, ne-eqb, eq-eqb}
+use borrow.Author.Tests.{lt-ltb, le-ltb, ne-eqb}
 use lib.Dec.{T, eqb, ltb, leb, eqb→eq, leb→le}
 use lib.ListN.{length, getD}
-use Rattle.laws.specs.Choice.{pick, both, either, opposite, both-left, both-right, either-right, true-T, T-true, true-false}
+use Rattle.laws.specs.Choice.{pick, both, either, opposite, both-left, both-right, either-right, T-true, true-false, opposite-no, second-no}
 use Rattle.laws.specs.Table.{allB, all-at}
 use Rattle.bits.specs.Bits.{Bit, O, I, bitsOf, same}
 use Rattle.bits.specs.Code.{Entry, entry, wordOf, has}
 use Rattle.bits.specs.Numbers.{bitsOf-append}
 use Rattle.bits.specs.Fields.{length-bitsOf}
-use Rattle.words.specs.Tables.{pair, endOfBlock, escape, pairs, firstTable5, laterTable5}
-use Rattle.words.specs.Words.{Coefficient, coefficient, negative, size, tcoeffOf}
+use Rattle.words.specs.Tables.{pair, endOfBlock, escape, pairs, firstTable5, laterTable5, tableOf}
+use Rattle.words.specs.Words.{coefficient, negative, size, tcoeffOf}
 use Rattle.words.specs.Lookup.{alike, spells, spelt}
 use Rattle.words.specs.Back.{Sendable, size-some, negative-small}
 use Rattle.words.specs.Written.{made, Writes}
-use Rattle.words.specs.declared.Codeword.{Codeword}
 
 pub writes : (w : List Bit) (k x : ℕ) → bitsOf k x ≡ w → 1 ≤ k → k ≤ 24 → x < 2 ^ k → Writes w (made k x)
 writes w k x e a b c = record { is = e; length-is = sym (length-bitsOf k x) ∙ ap length e; some = a; short = b; small = c }
@@ -77,9 +76,6 @@ entry-writes t from n table ok m k x l h ek ex =
     writes (wordOf table m) k x (rw (ek, ex) (s .is)) (omega arith) (omega arith) (rw (ek, ex) (s .small))
 
 -- ---- a coefficient
-abbrev pub tableOf : Bool → List Entry
-tableOf first = pick first firstTable5 laterTable5
-
 -- no pair of a run above 26
 nonePast : List Entry → Bool
 nonePast table = allB 1024 (λ m. either (ltb m 432) (either (eqb (m % 16) 0) (opposite (has table m))))
@@ -89,14 +85,10 @@ unfolding nonePast pairs firstTable5 laterTable5 has
 none-past true = tt
 none-past false = tt
 
-opposite-true : (b : Bool) → T (opposite b) → b ≡ false
-opposite-true true t = absurd t
-opposite-true false t = refl
-
 past : (first : Bool) (m : ℕ) → 432 ≤ m → m < 1024 → (m % 16 ≡ 0 → ⊥) → has (tableOf first) m ≡ false
 unfolding nonePast
 past first m l h n =
-    opposite-true _
+    opposite-no _
     (either-right (eqb (m % 16) 0) _ (ne-eqb (m % 16) 0 n)
     (either-right (ltb m 432) _ (le-ltb m 432 l) (all-at 1024 (λ m. either (ltb m 432) (either (eqb (m % 16) 0) (opposite (has (tableOf first) m)))) (none-past first) m h)))
 
@@ -159,11 +151,7 @@ module _ (first : Bool) (run code lv n : ℕ) (g : Sendable (coefficient run cod
   escape-large l = escape-where (rw (le-ltb (size code) 16 (rw el at l)))
 
   without : has (tableOf first) (pair run lv) ≡ false → both (ltb (size code) 16) (has (tableOf first) (pair run (size code))) ≡ false
-  without e = rw (← el, e) (go (ltb lv 16))
-    where
-      go : (b : Bool) → both b false ≡ false
-      go true = refl
-      go false = refl
+  without e = rw (← el, e) (second-no (ltb lv 16) false refl)
 
   level-some : 1 ≤ lv
   level-some = rw el (size-some code (g .byte) (g .level))

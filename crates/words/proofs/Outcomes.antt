@@ -1,26 +1,26 @@
 -- An entry of Table 5 that passed the test: what the read of a coefficient comes to, by the entry's two parts. Assumes nothing.
-use mathlib.Core.Path.{_≡_, refl, sym, ap, subst, _∙_}
+use mathlib.Core.Path.{_≡_, refl, sym, ap, _∙_}
 use mathlib.Core.Bool.{Bool, true, false}
-use mathlib.Core.List.{List, [], _∷_}
-use Prim.Native.Nat.{ℕ, zero, suc, _+_, _-_, _*_, _/_, _%_, _^_, _<_, _≤_}
+use mathlib.Core.List.{List}
+use Prim.Native.Nat.{ℕ, zero, suc, _+_, _-_, _/_, _%_, _^_, _<_, _≤_}
 use native.Mathlib.Nat.{div-one, add-zero, add-assoc, mod-lt}
 use native.Mathlib.Omega.{arith}
-use borrow.Author.Tests.{lt-ltb, le-ltb, ltb-true, ltb-false, le-leb, lt-leb, leb-true, leb-false, eq-eqb, ne-eqb, eqb-true, eqb-false}
+use borrow.Author.Tests.{le-ltb, ltb-true, ltb-false, le-leb, lt-leb, leb-true, leb-false, eq-eqb, ne-eqb, eqb-true, eqb-false}
 use lib.Dec.{T, lit<, eqb, ltb, leb, eqb→eq, leb→le}
 use lib.ListN.{getD}
 use Rattle.laws.specs.Choice.{pick, either, both-left, both-right, either-right}
 use Rattle.laws.specs.Table.{allB, all-at}
 use Rattle.refusals.specs.declared.Reason.the-variants.{BitsEnd, NoCodeword, Forbidden}
 use Rattle.bits.specs.Bits.{Bit, bitsOf, value, bitsFrom, bitsLeft}
-use Rattle.bits.specs.Read.{Read, got, bad, settle, field}
+use Rattle.bits.specs.Read.{got, bad, settle}
 use Rattle.bits.specs.Code.{Entry, word}
 use Rattle.bits.specs.Value.{value-lt, value-first, value-within}
 use Rattle.bits.specs.Numbers.{bits-value}
 use Rattle.bits.specs.Fields.{field-at, field-short}
 use Rattle.bits.specs.Tree.{noEmpty, some}
 use Rattle.bits.specs.Windows.{Decided, undecided, dead, ended, decide, settled, said, decided-word}
-use Rattle.words.specs.Tables.{endOfBlock, escape, pairs, firstTable5, laterTable5}
-use Rattle.words.specs.Words.{Event, sent, over, coefficient, signed, forbidden, allowed, coefficientRead}
+use Rattle.words.specs.Tables.{endOfBlock, escape, pairs, firstTable5, laterTable5, tableOf}
+use Rattle.words.specs.Words.{sent, over, coefficient, signed, forbidden, allowed, coefficientRead}
 use Rattle.words.specs.Lookup.{tail, sizeOf, meaningOf, levelled, agrees, looks, placed, firstAt, laterAt, Tables}
 use Rattle.words.specs.Coefficients.{coefficient-refused, end-read, escape-short-run, escape-short-level, escape-read, pair-short, pair-read, forbidden-yes, forbidden-no, settle-allowed, settle-forbidden}
 
@@ -253,7 +253,7 @@ module _ {table : List Entry} {s : List ℕ} {n at e : ℕ} (inside : at ≤ n) 
 
 -- ---- the entry that the code looks up
 pub known : (t s : List ℕ) (n at w : ℕ) (first : Bool) → Tables t → w ≡ value s at 24
-    → (d : Decided) × Says (pick first firstTable5 laterTable5) s n at (getD t (placed (pick first firstAt laterAt) (w / 2048)) 0) d
+    → (d : Decided) × Says (tableOf first) s n at (getD t (placed (pick first firstAt laterAt) (w / 2048)) 0) d
 unfolding pairs firstTable5 laterTable5
 known t s n at w first ok v =
     let x : w / 2048 ≡ value s at 13 = ap (λ (i : ℕ). i / 2048) v ∙ value-first s at 13 11 in

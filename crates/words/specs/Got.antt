@@ -1,21 +1,21 @@
 -- What a read of Tables 1 to 5 that found something has found: a meaning of the table, past where it began, with fewer bits left. Assumes nothing.
-use mathlib.Core.Path.{_≡_, refl, sym, ap, _∙_}
+use mathlib.Core.Path.{_≡_, refl, sym, _∙_}
 use mathlib.Core.Bool.{Bool, true, false}
-use mathlib.Core.List.{List, [], _∷_}
-use Prim.Native.Nat.{ℕ, zero, suc, _+_, _-_, _*_, _/_, _%_, _^_, _<_, _≤_}
+use mathlib.Core.List.{List}
+use Prim.Native.Nat.{ℕ, zero, suc, _+_, _-_, _/_, _%_, _<_, _≤_}
 use native.Mathlib.Omega.{arith}
 use borrow.Author.Tests.{eqb-true, eqb-false, ne-eqb}
 use lib.Dec.{T, eqb, ltb, leb, leb→le}
 use lib.ListN.{length}
-use Rattle.laws.specs.Choice.{pick, both, either, both-left, both-right, either-right}
+use Rattle.laws.specs.Choice.{both, either, both-left, both-right, either-right}
 use Rattle.refusals.specs.declared.Refusal.{Refusal}
 use Rattle.bits.specs.Bits.{Bit}
 use Rattle.bits.specs.Read.{Read, got, refused, endless, settle, field}
 use Rattle.bits.specs.Code.{Entry, word}
 use Rattle.bits.specs.Codes.{each, WordGot, word-got}
 use Rattle.bits.specs.Fields.{field-taken}
-use Rattle.words.specs.Tables.{table1, table2, table3, table4, endOfBlock, escape, pairs, firstTable5, laterTable5}
-use Rattle.words.specs.Words.{coefficient, Event, sent, over, signed, escaped, paired, allowed, forbidden, tcoeff, coefficientRead}
+use Rattle.words.specs.Tables.{table1, table2, table3, table4, endOfBlock, escape, pairs, firstTable5, laterTable5, tableOf}
+use Rattle.words.specs.Words.{coefficient, Event, sent, over, signed, allowed, forbidden, tcoeff, coefficientRead}
 use Rattle.words.specs.Coefficients.{end-read, escape-from, escape-read, pair-from, pair-read, settle-allowed, settle-forbidden}
 use Rattle.words.specs.Back.{Sendable}
 
@@ -149,7 +149,7 @@ module _ (table : List Entry) (ok : T (each meaningful table)) (bs : List Bit) (
   word-read endless w = absurd (no-end event cs p (sym (endless-read w) ∙ e))
 
 pub coefficient-got : (first : Bool) (bs : List Bit) (at : ℕ) (event : Event) (cs : List Bit) (p : ℕ)
-    → coefficientRead (pick first firstTable5 laterTable5) bs at ≡ got event cs p → CoefficientGot bs at event cs p
+    → coefficientRead (tableOf first) bs at ≡ got event cs p → CoefficientGot bs at event cs p
 unfolding pairs firstTable5 laterTable5
 coefficient-got true bs at event cs p e = word-read firstTable5 tt bs at event cs p e (word firstTable5 bs at) refl
 coefficient-got false bs at event cs p e = word-read laterTable5 tt bs at event cs p e (word laterTable5 bs at) refl

@@ -10,16 +10,17 @@ use borrow.Author.Tests.{eq-eqb, ne-eqb}
 use lib.Dec.{T, leb, eqb, leb→le, lit≤, eqb·suc-zero}
 use lib.ListN.{length, getD, take, drop, length-drop}
 use lib.Seq.{drop-length, drop-drop, getD-drop, getD-take}
-use Rattle.laws.specs.Choice.{pick, both, either, opposite, both-left, both-right, both-make, true-false}
+use Rattle.laws.specs.Choice.{both, either, opposite, both-left, both-right, both-make, true-false, opposite-no}
+use Rattle.laws.specs.Lists.{drop-on}
 use Rattle.bits.specs.Bits.{Bit, bitsOf}
 use Rattle.bits.specs.Code.{wordOf}
-use Rattle.words.specs.Tables.{endOfBlock, firstTable5, laterTable5}
+use Rattle.words.specs.Tables.{endOfBlock, laterTable5, tableOf}
 use Rattle.words.specs.Words.{Coefficient, coefficient, tcoeffOf, forbidden}
 use Rattle.words.specs.Back.{Sendable}
 use Rattle.description.specs.Value.{Block}
-use Rattle.validity.proofs.Steps.{step}
 use Rattle.description.specs.Flat.{gather, gathers}
 use Rattle.description.specs.Valid.{all, isZero, isLevel, codesFirst}
+use Rattle.description.specs.Levels.{all-index}
 use Rattle.writer.specs.Write.{coefficientsOf, blockOf, blocksOf, present, patternOf}
 use Rattle.writer.specs.Sound.{codedOf}
 use Rattle.writer.specs.Put.{Wrote, Room, wrote-none, wrote-as, wrote-most, wrote-then, room-after}
@@ -27,25 +28,6 @@ use Rattle.writer.specs.Put.{Wrote, Room, wrote-none, wrote-as, wrote-mo
 -- ---- lists
 pub past : (l : List ℕ) (n : ℕ) → length l ≡ n → drop n l ≡ []
 past l n e = ap (λ (k : ℕ). drop k l) (sym e) ∙ drop-length l
-
-pub all-index : (good : ℕ → Bool) (l : List ℕ) → T (all good l) → (k : ℕ) → k < length l → T (good (getD l k 0))
-all-index good [] t k h = absurd (omega arith)
-all-index good (x ∷ xs) t zero h = both-left (good x) (all good xs) t
-all-index good (x ∷ xs) t (suc k) h = all-index good xs (both-right (good x) (all good xs) t) k (omega arith)
-
-pub all-drop : (good : ℕ → Bool) (n : ℕ) (l : List ℕ) → T (all good l) → T (all good (drop n l))
-all-drop good zero l t = t
-all-drop good (suc n) [] t = t
-all-drop good (suc n) (x ∷ xs) t = all-drop good n xs (both-right (good x) (all good xs) t)
-
-pub all-take : (good : ℕ → Bool) (n : ℕ) (l : List ℕ) → T (all good l) → T (all good (take n l))
-all-take good zero l t = tt
-all-take good (suc n) [] t = tt
-all-take good (suc n) (x ∷ xs) t = both-make (good x) (all good (take n xs)) (both-left (good x) (all good xs) t) (all-take good n xs (both-right (good x) (all good xs) t))
-
-pub opposite-no : (b : Bool) → T (opposite b) → b ≡ false
-opposite-no true t = absurd t
-opposite-no false t = refl
 
 pub piece : (l : List ℕ) (a n : ℕ) → take (a + n - a) (drop a l) ≡ take n (drop a l)
 piece l a n = let e : a + n - a ≡ n = omega arith in ap (λ (k : ℕ). take k (drop a l)) e
@@ -79,7 +61,7 @@ gather-none : (run : ℕ) → gather run [] ≡ []
 unfolding gather
 gather-none run = refl
 
-coded-cons : (first : Bool) (c : Coefficient) (cs : Block) → codedOf first (c ∷ cs) ≡ tcoeffOf (pick first firstTable5 laterTable5) c ++ codedOf false cs
+coded-cons : (first : Bool) (c : Coefficient) (cs : Block) → codedOf first (c ∷ cs) ≡ tcoeffOf (tableOf first) c ++ codedOf false cs
 unfolding coefficientsOf
 coded-cons true c cs = refl
 coded-cons false c cs = refl
@@ -109,7 +91,7 @@ module _ {whole : List Bit} {levels : List ℕ} {s : List ℕ} {at : ℕ} {t : L
       low = omega (arith, h .low);
       bits = h .bits;
       wrote = wrote-most (h .wrote) (24 * (k + 1)) (omega arith);
-      same = h .same ∙ ap (λ (b : Block). h .bits ++ codedOf first b) (ap (gather run) (step levels k (omega arith)) ∙ gather-zero run (getD levels k 0) (drop (k + 1) levels) z);
+      same = h .same ∙ ap (λ (b : Block). h .bits ++ codedOf first b) (ap (gather run) (drop-on levels k (omega arith)) ∙ gather-zero run (getD levels k 0) (drop (k + 1) levels) z);
     }
 
     module _ (room : Room s at 1560) where
@@ -117,10 +99,10 @@ module _ {whole : List Bit} {levels : List ℕ} {s : List ℕ} {at : ℕ} {t : L
       coded-room l = room-after (h .wrote) room (omega arith) 24 (omega arith)
 
       pub coded-more : {u : List ℕ} {q : ℕ} → k < 64 → (getD levels k 0 ≡ 0 → ⊥)
-          → Wrote 24 (tcoeffOf (pick first firstTable5 laterTable5) (coefficient run (getD levels k 0))) t place u q → CodedSoFar whole levels s at u false 0 (k + 1) q
+          → Wrote 24 (tcoeffOf (tableOf first) (coefficient run (getD levels k 0))) t place u q → CodedSoFar whole levels s at u false 0 (k + 1) q
       coded-more l n g =
           let c : Coefficient = coefficient run (getD levels k 0) in
-          let w : List Bit = tcoeffOf (pick first firstTable5 laterTable5) c in
+          let w : List Bit = tcoeffOf (tableOf first) c in
           record {
             inside = omega arith;
             low = omega arith;
@@ -128,7 +110,7 @@ module _ {whole : List Bit} {levels : List ℕ} {s : List ℕ} {at : ℕ} {t : L
             wrote = wrote-most (wrote-then (h .wrote) room (omega arith) g) (24 * (k + 1)) (omega arith);
             same =
                 h .same
-                ∙ ap (λ (b : Block). h .bits ++ codedOf first b) (ap (gather run) (step levels k (omega arith)) ∙ gather-code run (getD levels k 0) (drop (k + 1) levels) n)
+                ∙ ap (λ (b : Block). h .bits ++ codedOf first b) (ap (gather run) (drop-on levels k (omega arith)) ∙ gather-code run (getD levels k 0) (drop (k + 1) levels) n)
                 ∙ ap (λ (x : List Bit). h .bits ++ x) (coded-cons first c (gather 0 (drop (k + 1) levels)))
                 ∙ sym (append-assoc (h .bits) w (codedOf false (gather 0 (drop (k + 1) levels))));
           }
@@ -155,7 +137,7 @@ module _ (levels : List ℕ) (intra : Bool) {s : List ℕ} {at : ℕ} (room : Ro
   block-intra size e some a b =
       let no-zero : isZero (getD levels 0 0) ≡ false = opposite-no (isZero (getD levels 0 0)) (subst (λ (x : Bool). T (either (opposite x) (opposite (isZero (getD levels 0 0))))) e some) in
       let n : getD levels 0 0 ≡ 0 → ⊥ = λ z. true-false (sym (eq-eqb (getD levels 0 0) 0 z) ∙ no-zero) in
-      let is : gather 0 levels ≡ coefficient 0 (getD levels 0 0) ∷ gather 0 (drop 1 levels) = ap (gather 0) (step levels 0 (omega arith)) ∙ gather-code 0 (getD levels 0 0) (drop 1 levels) n in
+      let is : gather 0 levels ≡ coefficient 0 (getD levels 0 0) ∷ gather 0 (drop 1 levels) = ap (gather 0) (drop-on levels 0 (omega arith)) ∙ gather-code 0 (getD levels 0 0) (drop 1 levels) n in
       wrote-as (wrote-then a room (lit≤ tt) b)
       (sym (ap₂ blockOf e is))
 

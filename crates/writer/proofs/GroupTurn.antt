@@ -3,49 +3,32 @@ use mathlib.Core.Path.{_≡_, refl, sym, ap, ap₂, subst, _∙_}
 use mathlib.Core.List.{List, [], _∷_, _++_, append-assoc, append-nil}
 use Prim.Native.Nat.{ℕ, zero, suc, _+_, _-_, _*_, _≤_, _<_}
 use native.Mathlib.Omega.{arith}
-use native.Mathlib.Nat.{zero-add}
+use native.Mathlib.Nat.{pos-of-ne-zero}
 use lib.Dec.{T, leb, eqb, leb→le, eqb→eq, lit≤}
 use lib.ListN.{length, getD, take, drop, length-drop}
-use lib.Seq.{drop-drop, getD-drop, getD-take, take-take, take-nil}
+use lib.Seq.{drop-drop, getD-drop, getD-take}
 use Rattle.laws.specs.Choice.{both, both-left, both-right}
-use Rattle.laws.specs.Table.{lowB, low-at}
+use Rattle.laws.specs.Lists.{drop-on}
 use Rattle.writer.specs.Output.{written}
 use Rattle.bits.specs.Bits.{Bit, bitsOf}
 use Rattle.format.specs.Format.{formatBit, groupNumbers, groupCount, headLength, macroblocksLength, levelsLength}
+use Rattle.format.specs.Room.{groups-most, groups-listed, number-most}
 use Rattle.format.specs.declared.Format.{Format}
 use Rattle.format.specs.declared.Format.the-variants.{Qcif, Cif}
 use Rattle.description.specs.Vector.{Before, atStart}
 use Rattle.description.specs.Value.{Macroblock, Group, after}
-use Rattle.description.specs.Flat.{numberOf, gather, gathers, macroblocksIn, groupsIn, pictureIn}
-use Rattle.description.specs.Spread.{flat}
+use Rattle.description.specs.Flat.{numberOf, gathers, macroblocksIn, groupsIn, pictureIn}
 use Rattle.description.specs.Valid.{all, isQuantiser, validMacroblock, validMacroblocks, validGroups, lengthsOf, validHead, valid}
+use Rattle.description.specs.Levels.{all-index, gathers-take}
+use Rattle.description.specs.Fields.{flat}
 use Rattle.writer.specs.Write.{macroblockOf, macroblocksOf, groupOf, groupsOf, pictureOf}
 use Rattle.writer.specs.Sound.{Near, Sound, SoundGroup, behind, macroblockIn, groupIn}
 use Rattle.writer.specs.Put.{Wrote, Room, wrote-none, wrote-as, wrote-most, wrote-then, room-after}
-use Rattle.validity.proofs.Steps.{step, count-is, counts, part-rest}
-use Rattle.writer.proofs.BlockTurn.{past, all-index, piece}
+use Rattle.validity.proofs.Steps.{part-rest}
+use Rattle.writer.proofs.BlockTurn.{past, piece}
 use Rattle.writer.proofs.MacroblockSteps.{sound}
 
 -- ---- a macroblock of the slices
--- its blocks are those of its own 384 levels
-take-drop : (m n : ℕ) (l : List ℕ) → drop m (take (m + n) l) ≡ take n (drop m l)
-take-drop zero n l = ap (λ (k : ℕ). take k l) (zero-add n)
-take-drop (suc m) n [] = ap (drop (suc m)) (take-nil (suc m + n)) ∙ sym (take-nil n)
-take-drop (suc m) n (x ∷ xs) = let e : suc m + n ≡ suc (m + n) = omega arith in ap (λ (k : ℕ). drop (suc m) (take k (x ∷ xs))) e ∙ take-drop m n xs
-
-gathers-take : (k n : ℕ) (l : List ℕ) → n ≡ k * 64 → gathers k (take n l) ≡ gathers k l
-unfolding gathers
-gathers-take zero n l e = refl
-gathers-take (suc k) n l e =
-    let m : n ≡ 64 + k * 64 = omega arith in
-    (λ i. gather 0 (first i) ∷ gathers k (rest i)) ∙ ap (λ (x : _). gather 0 (take 64 l) ∷ x) (gathers-take k (k * 64) (drop 64 l) refl)
-  where
-    first : take 64 (take n l) ≡ take 64 l
-    first = take-take 64 n l (omega arith)
-
-    rest : drop 64 (take n l) ≡ take (k * 64) (drop 64 l)
-    rest = let m : n ≡ 64 + k * 64 = omega arith in ap (λ (j : ℕ). drop 64 (take j l)) m ∙ take-drop 64 (k * 64) l
-
 field-at : (fields : List ℕ) (k j : ℕ) → j < 4 → getD (take (k * 4 + 4 - k * 4) (drop (k * 4) fields)) j 0 ≡ getD (drop (k * 4) fields) j 0
 field-at fields k j l = ap (λ (x : List ℕ). getD x j 0) (piece fields (k * 4) 4) ∙ getD-take 4 (drop (k * 4) fields) j 0 l
 
@@ -131,13 +114,9 @@ module _ {whole : List Bit} {fields levels : List ℕ} {s : List ℕ} {at : ℕ}
       module _ (e : getD fields (k * 4) 0 ≡ 0 → ⊥) where
         pub macroblock-sound : SoundGroup fields levels → Sound (take (k * 4 + 4 - k * 4) (drop (k * 4) fields)) (take (k * 384 + 384 - k * 384) (drop (k * 384) levels))
         macroblock-sound g =
-            let some : 1 ≤ getD fields (k * 4) 0 = positive (getD fields (k * 4) 0) e in
+            let some : 1 ≤ getD fields (k * 4) 0 = pos-of-ne-zero e in
             subst (λ (x : List ℕ). Sound x (take (k * 384 + 384 - k * 384) (drop (k * 384) levels))) (sym (piece fields (k * 4) 4))
             (subst (λ (y : List ℕ). Sound (take 4 (drop (k * 4) fields)) y) (sym (piece levels (k * 384) 384)) (g .each k l some))
-          where
-            positive : (n : ℕ) → (n ≡ 0 → ⊥) → 1 ≤ n
-            positive zero n = absurd (n refl)
-            positive (suc m) n = omega arith
 
         module _ (room : Room s at 318384) where
           pub macroblocks-room : Room t place 9648
@@ -150,7 +129,7 @@ module _ {whole : List Bit} {fields levels : List ℕ} {s : List ℕ} {at : ℕ}
             type = field-at fields k 0 (omega arith) i;
             mquant = field-at fields k 1 (omega arith) i;
             vector = record { horizontal = numberOf (field-at fields k 2 (omega arith) i); vertical = numberOf (field-at fields k 3 (omega arith) i) };
-            blocks = (ap (gathers 6) (piece levels (k * 384) 384) ∙ gathers-take 6 384 (drop (k * 384) levels) refl) i;
+            blocks = (ap (gathers 6) (piece levels (k * 384) 384) ∙ gathers-take 6 (drop (k * 384) levels)) i;
           }
 
           later : (j : ℕ) → getD (drop (k * 4) fields) j 0 ≡ getD fields (k * 4 + j) 0
@@ -286,15 +265,15 @@ module _ {whole : List Bit} {f : Format} {head macroblocks levels : List ℕ} {s
   where
     pub groups-done : groupCount f ≤ g → Wrote 3821760 whole s at t place
     groups-done l =
-        let e : length (groupNumbers f) ≡ g = omega (arith, h .inside, count-is f) in
+        let e : length (groupNumbers f) ≡ g = omega (arith, h .inside, groups-listed f) in
         wrote-most
         (wrote-as (h .wrote)
         (sym (h .same ∙ ap (λ (x : List Bit). h .bits ++ x) (ap (λ (ns : List ℕ). groupsOf ns (groupsIn (drop (g + 3) head) (drop (g * 132) macroblocks) (drop (g * 12672) levels))) (past (groupNumbers f) g e) ∙ groups-none _) ∙ append-nil (h .bits))))
-        3821760 (omega (arith, h .inside, counts f))
+        3821760 (omega (arith, h .inside, groups-most f))
 
     module _ (l : g < groupCount f) where
       pub groups-room : Room t place 318480
-      groups-room = room-after (h .wrote) room (omega (arith, counts f)) 318480 (omega (arith, counts f))
+      groups-room = room-after (h .wrote) room (omega (arith, groups-most f)) 318480 (omega (arith, groups-most f))
 
       pub gquant-low : getD head (g + 3) 0 ≤ 31
       gquant-low =
@@ -308,7 +287,7 @@ module _ {whole : List Bit} {f : Format} {head macroblocks levels : List ℕ} {s
       group-sound =
           subst (λ (x : List ℕ). SoundGroup x (take (length levels - g * 12672) (drop (g * 12672) levels))) (sym (part-rest macroblocks (g * 132)))
           (subst (λ (y : List ℕ). SoundGroup (drop (g * 132) macroblocks) y) (sym (part-rest levels (g * 12672)))
-          (groups-sound f (groupNumbers f) macroblocks levels g (d .grouped) (omega (arith, count-is f))))
+          (groups-sound f (groupNumbers f) macroblocks levels g (d .grouped) (omega (arith, groups-listed f))))
 
       pub groups-more : {u : List ℕ} {q : ℕ} (number : ℕ) → number ≡ getD (groupNumbers f) g 0
           → Wrote 318480 (groupOf number (groupIn (getD head (g + 3) 0) (take (length macroblocks - g * 132) (drop (g * 132) macroblocks)) (take (length levels - g * 12672) (drop (g * 12672) levels)))) t place u q
@@ -326,12 +305,12 @@ module _ {whole : List Bit} {f : Format} {head macroblocks levels : List ℕ} {s
           record {
             inside = omega arith;
             bits = h .bits ++ one;
-            wrote = wrote-most (wrote-then (h .wrote) room (omega (arith, counts f)) v) (318480 * (g + 1)) (omega arith);
+            wrote = wrote-most (wrote-then (h .wrote) room (omega (arith, groups-most f)) v) (318480 * (g + 1)) (omega arith);
             same =
                 h .same
                 ∙ ap (λ (x : List Bit). h .bits ++ x)
-                (ap₂ (λ (x y : List ℕ). groupsOf x (groupsIn y (drop (g * 132) macroblocks) (drop (g * 12672) levels))) (step (groupNumbers f) g (omega (arith, count-is f)))
-                (step head (g + 3) (omega (arith, d .head-long)) ∙ ap (λ (k : ℕ). gq ∷ drop k head) c)
+                (ap₂ (λ (x y : List ℕ). groupsOf x (groupsIn y (drop (g * 132) macroblocks) (drop (g * 12672) levels))) (drop-on (groupNumbers f) g (omega (arith, groups-listed f)))
+                (drop-on head (g + 3) (omega (arith, d .head-long)) ∙ ap (λ (k : ℕ). gq ∷ drop k head) c)
                 ∙ groups-one n (drop (g + 1) (groupNumbers f)) gq (drop (g + 1 + 3) head) (drop (g * 132) macroblocks) (drop (g * 12672) levels)
                 ∙ ap₂ (λ (x y : List ℕ). one ++ groupsOf (drop (g + 1) (groupNumbers f)) (groupsIn (drop (g + 1 + 3) head) x y))
                 (drop-drop 132 (g * 132) macroblocks ∙ ap (λ (k : ℕ). drop k macroblocks) a)
@@ -340,11 +319,7 @@ module _ {whole : List Bit} {f : Format} {head macroblocks levels : List ℕ} {s
           }
 
 pub number-low : (f : Format) (g n : ℕ) → n ≡ getD (groupNumbers f) g 0 → n ≤ 12
-number-low f g n e = omega (arith, low-at 12 (groupNumbers f) (go f) g)
-  where
-    go : (f : Format) → T (lowB 12 (groupNumbers f))
-    go Qcif = tt
-    go Cif = tt
+number-low f g n e = omega (arith, number-most f g)
 
 -- ---- the picture: its fields, then its groups
 pub format-bit : (f : Format) → formatBit f ≤ 1

@@ -2,10 +2,10 @@
 use mathlib.Core.Path.{_≡_, refl, sym, ap, subst, _∙_}
 use mathlib.Core.Bool.{Bool, true, false}
 use mathlib.Core.List.{List, [], _∷_}
-use Prim.Native.Nat.{ℕ, zero, suc, _+_, _-_, _%_, _^_, _≤_, _<_}
+use Prim.Native.Nat.{ℕ, _+_, _-_, _%_, _^_, _≤_, _<_}
 use native.Mathlib.Omega.{arith}
 use borrow.Author.Tests.{eq-eqb, ne-eqb}
-use lib.Dec.{T, leb, ltb, eqb, leb→le, ltb→lt, eqb→eq, lit≤, eqb·suc-zero}
+use lib.Dec.{T, leb, ltb, eqb, leb→le, ltb→lt, eqb→eq, lit≤}
 use mathlib.Core.Logic.{_⊎_, inl, inr, ⊎-elim}
 use lib.ListN.{length, getD}
 use lib.IntN.{ℤ, pos, natAbs, _+ℤ_, _-ℤ_}
@@ -144,20 +144,7 @@ pattern-sent type levels h t e = go (isIntra type) (intra-not type e) t
         (both-right (all isLevel levels) (opposite (all isZero levels))
         (subst (λ (x : Bool). T (pick x (both (all isLevel levels) (opposite (all isZero levels))) (all isZero levels))) e t))
 
--- the levels of any type are levels, and those of INTRA begin with codes
-zero-levels : (l : List ℕ) → T (all isZero l) → T (all isLevel l)
-zero-levels [] t = tt
-zero-levels (zero ∷ xs) t = zero-levels xs t
-zero-levels (suc x ∷ xs) t = absurd (subst T (ap (λ (b : Bool). both b (all isZero xs)) (eqb·suc-zero x)) t)
-
-pub all-levels : (type : ℕ) (levels : List ℕ) → T (validLevels type levels) → T (all isLevel levels)
-all-levels type levels t = go (isIntra type) (hasCBP type) t
-  where
-    go : (a b : Bool) → T (pick a (both (all isLevel levels) (codesFirst 6 levels)) (pick b (both (all isLevel levels) (opposite (all isZero levels))) (all isZero levels))) → T (all isLevel levels)
-    go true b t = both-left (all isLevel levels) (codesFirst 6 levels) t
-    go false true t = both-left (all isLevel levels) (opposite (all isZero levels)) t
-    go false false t = zero-levels levels t
-
+-- those of INTRA begin with codes
 pub all-codes : (type : ℕ) (levels : List ℕ) (intra : Bool) → intra ≡ isIntra type → T (validLevels type levels) → T (either (opposite intra) (codesFirst 6 levels))
 all-codes type levels intra e t = subst (λ (x : Bool). T (either (opposite x) (codesFirst 6 levels))) (sym e) (go (isIntra type) t)
   where

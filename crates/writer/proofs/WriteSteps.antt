@@ -16,17 +16,17 @@ use Rattle.refusals.specs.declared.Reason.the-variants.{Length, Invalid, AboveL
 use Rattle.refusals.specs.declared.Refusal.{Refusal}
 use Rattle.bits.specs.Bits.{Bit, bitsFrom}
 use Rattle.bits.specs.Write.{started, bytesOf, length-bytesOf, written-is}
+use Rattle.laws.specs.Lists.{drop-on}
 use Rattle.format.specs.Format.{limit, outputLength}
 use Rattle.format.specs.declared.Format.{Format}
 use Rattle.format.specs.declared.Format.the-variants.{Qcif, Cif}
 use Rattle.description.specs.Flat.{Flat}
-use Rattle.description.specs.Spread.{flat}
 use Rattle.description.specs.Valid.{lengthsOf, valid}
+use Rattle.description.specs.Fields.{flat}
 use Rattle.writer.specs.declared.Written.{Written}
 use Rattle.writer.specs.declared.Written.the-variants.{Bits, Refused}
 use Rattle.writer.specs.Put.{appended, Wrote, Room}
 use Rattle.writer.specs.Output.{written, writeOf, leaves, outputOf}
-use Rattle.validity.proofs.Steps.{step}
 
 -- ---- the copy
 pub record CopiedSoFar (from : List ℕ) (count : ℕ) (before after : List ℕ) (i : ℕ) : Type 0 where
@@ -45,7 +45,7 @@ module _ {from : List ℕ} {count : ℕ} {before after : List ℕ} {i : ℕ} (h 
         within = omega arith;
         long = length-set after i x ∙ h .long;
         is =
-            ap (λ (s : List ℕ). set s i x) (h .is ∙ ap (λ (s : List ℕ). take i from ++ s) (step before i (omega arith)))
+            ap (λ (s : List ℕ). set s i x) (h .is ∙ ap (λ (s : List ℕ). take i from ++ s) (drop-on before i (omega arith)))
             ∙ set-at (take i from) (getD before i 0) (drop (i + 1) before) x i (length-take-le i from (omega arith))
             ∙ sym (append-snoc (take i from) x (drop (i + 1) before))
             ∙ ap (λ (s : List ℕ). s ++ drop (i + 1) before) (sym (take-suc from i 0 (omega arith)) ∙ ap (λ (n : ℕ). take n from) (sym (add-one i)));

@@ -8,8 +8,8 @@ ghost use mathlib.Core.List.{_++_};
 ghost use lib.ListN.{length, take, drop};
 ghost use Rattle.laws.specs.Choice.{either};
 ghost use Rattle.refusals.specs.Number.{refusal};
-ghost use Rattle.description.specs.Spread.{flat};
 ghost use Rattle.description.specs.Valid.{lengthsOf};
+ghost use Rattle.description.specs.Fields.{flat};
 ghost use Rattle.format.specs.declared.Format.the-variants.{Qcif, Cif};
 ghost use Rattle.writer.specs.Output.{WriteSays, WriteLeaves};
 

@@ -4,8 +4,8 @@ use Prim.Native.Nat.{ℕ, _+_, _-_, _≤_, _<_}
 use native.Mathlib.Omega.{arith}
 use mathlib.Core.Path.{_≡_, refl, sym, ap, _∙_}
 use lib.ListN.{length, drop}
-use Rattle.arguments.specs.Words.{alike}
-use Rattle.arguments.proofs.Left.{alike-long, alike-more, alike-fails, alike-end}
+use Rattle.laws.specs.Lists.{alike, alike-lengths}
+use Rattle.arguments.proofs.Left.{alike-more, alike-fails, alike-end}
 use Rattle.arguments.proofs.same.Statement.{statement}
 use Rattle.arguments.proofs.same.Tie as tie
 
@@ -16,7 +16,7 @@ abbrev μ-loop : tie.MeasureT-loop
 μ-loop word wanted i₀ i = length word - i
 
 returns : tie.Need-returns Inv-loop μ-loop
-returns c = sym (alike-long (c .before .args .word .now) (c .before .args .wanted .now) (c .if1 .taken))
+returns c = sym (alike-lengths (c .before .args .word .now) (c .before .args .wanted .now) (c .if1 .taken))
 
 loop-holds : tie.Need-loop-holds Inv-loop μ-loop
 loop-holds c = (omega arith, (c .if1 .left, refl))

@@ -1,9 +1,11 @@
 -- `checks::same` meets its contract. Assumes nothing.
 use Prim.Native.Nat.{_-_}
+use mathlib.Core.Path.{sym}
 use native.Mathlib.Omega.{arith}
 use lib.ListN.{length}
 use borrow.Author.Needs.{needs}
-use Rattle.checks.proofs.Turns.{AlikeSoFar, alike-none, alike-more, alike-all, other-lengths, other-byte}
+use Rattle.laws.specs.Lists.{alike-lengths}
+use Rattle.checks.proofs.Turns.{AlikeSoFar, alike-none, alike-more, alike-all, other-byte}
 use Rattle.checks.proofs.same.Statement.{statement}
 use Rattle.checks.proofs.same.Tie as tie
 
@@ -14,7 +16,7 @@ abbrev μ-loop : tie.MeasureT-loop
 μ-loop a b i₀ i = length a - i
 
 returns : tie.Need-returns Inv-loop μ-loop
-returns c = other-lengths _ _ (c .if1 .taken)
+returns c = sym (alike-lengths _ _ (c .if1 .taken))
 
 loop-holds : tie.Need-loop-holds Inv-loop μ-loop
 loop-holds c = alike-none _ _ (c .if1 .left)

@@ -2,10 +2,9 @@ use mathlib.Core.Path.{_≡_, sym, ap, _∙_}
 use native.Mathlib.Omega.{arith}
 use lib.ListN.{length}
 use lib.Seq.{length-take-le}
+use Rattle.format.specs.Room.{part-long, groups-most}
 use Rattle.reader.specs.Described.{verdictOf}
 use Rattle.decoder.specs.Decoded.{storeAfter}
-use Rattle.reader.proofs.PictureTurn.{count-small}
-use Rattle.reader.proofs.ReadSteps.{part-long}
 use Rattle.decoder.proofs.Steps.{unfit-reference, unfit-store, fit}
 use borrow.Author.Needs.{needs}
 use Rattle.decoder.proofs.decode.Statement.{statement}
@@ -44,7 +43,7 @@ levels-length-requires c κs = search needs
 
 -- src/lib.rt:68:9
 array-borrow-prefix-head : tie.Need-array-borrow-prefix-head
-array-borrow-prefix-head c = omega (arith, c .before .before .head-length .ensures, count-small (c .before .before .before .before .before .before .before .before .before .args .format))
+array-borrow-prefix-head c = omega (arith, c .before .before .head-length .ensures, groups-most (c .before .before .before .before .before .before .before .before .before .args .format))
 
 -- src/lib.rt:68:9
 slice-aggregate-decode-in : tie.Need-slice-aggregate-decode-in
@@ -52,7 +51,7 @@ slice-aggregate-decode-in c = part-long _ (array-borrow-prefix-head (c .before))
 
 -- src/lib.rt:69:9
 array-borrow-prefix-macroblocks : tie.Need-array-borrow-prefix-macroblocks
-array-borrow-prefix-macroblocks c = omega (arith, c .before .before .macroblocks-length .ensures, count-small (c .before .before .before .before .before .before .before .before .before .before .args .format))
+array-borrow-prefix-macroblocks c = omega (arith, c .before .before .macroblocks-length .ensures, groups-most (c .before .before .before .before .before .before .before .before .before .before .args .format))
 
 -- src/lib.rt:69:9
 slice-aggregate-decode-in-2 : tie.Need-slice-aggregate-decode-in-2
@@ -60,7 +59,7 @@ slice-aggregate-decode-in-2 c = part-long _ (array-borrow-prefix-macroblocks (c 
 
 -- src/lib.rt:70:9
 array-borrow-prefix-levels : tie.Need-array-borrow-prefix-levels
-array-borrow-prefix-levels c = omega (arith, c .before .before .levels-length .ensures, count-small (c .before .before .before .before .before .before .before .before .before .before .before .args .format))
+array-borrow-prefix-levels c = omega (arith, c .before .before .levels-length .ensures, groups-most (c .before .before .before .before .before .before .before .before .before .before .before .args .format))
 
 -- src/lib.rt:70:9
 slice-aggregate-decode-in-3 : tie.Need-slice-aggregate-decode-in-3

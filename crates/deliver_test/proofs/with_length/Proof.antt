@@ -1,6 +1,6 @@
 -- `deliver_test::with_length` meets its contract: the block lies in the array. Assumes nothing.
 use borrow.Author.Needs.{needs}
-use Rattle.checks.specs.Room.{part-long}
+use Rattle.format.specs.Room.{part-long}
 use Rattle.deliver_test.proofs.with_length.Statement.{statement}
 use Rattle.deliver_test.proofs.with_length.Tie as tie
 

@@ -78,7 +78,15 @@ same-length-6 : tie.Need-same-length-6
 same-length-6 c = search needs
 
 returns-2 : tie.Need-returns-2
-returns-2 c = let a = c .before .before .before .before .before .before .before .before .before .before .before .before .before .before .before .before .before .before .before .before .args in c .before .before .before .before .before .before .go-on2 .ensures ∙ first-good (a .format) (a .clip) (a .block .now) (buffers (a .collection .now) (a .first .now) (a .second .now)) (c .before .before .before .before .before .before .before .before .before .before .before .before .before .before .enum-told .given .1) (c .before .before .before .before .before .before .before .before .before .before .before .before .before .find .ensures) (c .before .before .before .before .before .before .before .before .before .before .before .receiver .given .1)
+returns-2 c =
+    let at-go-on2 = c .before .before .before .before .before .before in
+    let at-receiver = at-go-on2 .before .before .before .before .before in
+    let at-find = at-receiver .before .before in
+    let at-enum-told = at-find .before in
+    let start = at-enum-told .before .before .before .before .before .before in
+    let a = start .args in
+    at-go-on2 .go-on2 .ensures ∙ first-good (a .format) (a .clip) (a .block .now) (buffers (a .collection .now) (a .first .now) (a .second .now))
+    (at-enum-told .enum-told .given .1) (at-find .find .ensures) (at-receiver .receiver .given .1)
 
 returns-3 : tie.Need-returns-3
 returns-3 c = let a = c .before .before .before .before .before .before .before .before .before .before .args in not-yet (a .format) (a .clip) (a .block .now) (buffers (a .collection .now) (a .first .now) (a .second .now)) (c .before .before .before .before .enum-told .given .1) (c .before .before .before .find .ensures) (c .before .why .given .1)

@@ -1,6 +1,6 @@
 -- `pictures_test::record` meets its contract: the slice lies in the array. Assumes nothing.
 use borrow.Author.Needs.{needs}
-use Rattle.checks.specs.Room.{part-long}
+use Rattle.format.specs.Room.{part-long}
 use Rattle.pictures_test.proofs.record.Statement.{statement}
 use Rattle.pictures_test.proofs.record.Tie as tie
 

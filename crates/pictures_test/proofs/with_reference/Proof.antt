@@ -1,7 +1,7 @@
 -- `pictures_test::with_reference` meets its contract: the pattern has room for either format. Assumes nothing.
 use native.Mathlib.Omega.{arith}
 use borrow.Author.Needs.{needs}
-use Rattle.checks.specs.Room.{part-long, store-most}
+use Rattle.format.specs.Room.{part-long, store-most}
 use Rattle.pictures_test.proofs.with_reference.Statement.{statement}
 use Rattle.pictures_test.proofs.with_reference.Tie as tie
 

@@ -3,9 +3,9 @@ use mathlib.Core.Path.{_∙_}
 use native.Mathlib.Omega.{arith}
 use borrow.Author.Tests.{not-true, not-false}
 use lib.Seq.{length-take-le}
-use Rattle.layers.specs.Answer.{flat}
-use Rattle.reader.proofs.PictureTurn.{count-small}
-use Rattle.reader.proofs.ReadSteps.{unfit, fit, lengths-are, part-long}
+use Rattle.format.specs.Room.{part-long, groups-most}
+use Rattle.description.specs.Fields.{flat}
+use Rattle.reader.proofs.ReadSteps.{unfit, fit, lengths-are}
 use borrow.Author.Needs.{needs}
 use Rattle.reader.proofs.read.Statement.{statement}
 use Rattle.reader.proofs.read.Tie as tie
@@ -23,7 +23,10 @@ same-length-3 : tie.Need-same-length-3
 same-length-3 c = search needs
 
 returns : tie.Need-returns
-returns c = unfit (c .before .before .before .before .before .before .before .before .before .args .format) (c .before .before .before .before .before .before .before .before .before .args .bytes .now) (c .before .before .before .before .before .before .before .before .before .args .count) (flat (c .before .before .before .before .before .before .before .before .before .args .head .now) (c .before .before .before .before .before .before .before .before .before .args .macroblocks .now) (c .before .before .before .before .before .before .before .before .before .args .levels .now)) (c .before .lengths .ensures) (not-true _ (c .if1 .taken))
+returns c =
+    let start = c .before .before .before .before .before .before .before .before .before in
+    unfit (start .args .format) (start .args .bytes .now) (start .args .count) (flat (start .args .head .now) (start .args .macroblocks .now) (start .args .levels .now))
+    (c .before .lengths .ensures) (not-true _ (c .if1 .taken))
 
 head-length-requires : tie.Need-head-length-requires
 head-length-requires c κs = search needs
@@ -35,25 +38,39 @@ levels-length-requires : tie.Need-levels-length-requires
 levels-length-requires c κs = search needs
 
 array-borrow-prefix-header : tie.Need-array-borrow-prefix-header
-array-borrow-prefix-header c = omega (arith, c .before .before .head-length .ensures, count-small (c .before .before .before .before .before .before .before .before .before .before .before .before .args .format))
+array-borrow-prefix-header c = omega (arith, c .before .before .head-length .ensures, groups-most (c .before .before .before .before .before .before .before .before .before .before .before .before .args .format))
 
 slice-aggregate-read-in : tie.Need-slice-aggregate-read-in
 slice-aggregate-read-in c = part-long _ (array-borrow-prefix-header (c .before))
 
 array-borrow-prefix-fields : tie.Need-array-borrow-prefix-fields
-array-borrow-prefix-fields c = omega (arith, c .before .before .macroblocks-length .ensures, count-small (c .before .before .before .before .before .before .before .before .before .before .before .before .before .args .format))
+array-borrow-prefix-fields c = omega (arith, c .before .before .macroblocks-length .ensures, groups-most (c .before .before .before .before .before .before .before .before .before .before .before .before .before .args .format))
 
 slice-aggregate-read-in-2 : tie.Need-slice-aggregate-read-in-2
 slice-aggregate-read-in-2 c = part-long _ (array-borrow-prefix-fields (c .before))
 
 array-borrow-prefix-coefficients : tie.Need-array-borrow-prefix-coefficients
-array-borrow-prefix-coefficients c = omega (arith, c .before .before .levels-length .ensures, count-small (c .before .before .before .before .before .before .before .before .before .before .before .before .before .before .args .format))
+array-borrow-prefix-coefficients c = omega (arith, c .before .before .levels-length .ensures, groups-most (c .before .before .before .before .before .before .before .before .before .before .before .before .before .before .args .format))
 
 slice-aggregate-read-in-3 : tie.Need-slice-aggregate-read-in-3
 slice-aggregate-read-in-3 c = part-long _ (array-borrow-prefix-coefficients (c .before))
 
 read-in-requires : tie.Need-read-in-requires
-read-in-requires c κs = (record { head-long = length-take-le _ _ (array-borrow-prefix-header (c .before .before .before .before .before .before)) ∙ c .before .before .before .before .before .before .before .before .head-length .ensures; ms-long = length-take-le _ _ (array-borrow-prefix-fields (c .before .before .before .before .before)) ∙ c .before .before .before .before .before .before .before .macroblocks-length .ensures; ls-long = length-take-le _ _ (array-borrow-prefix-coefficients (c .before .before .before .before)) ∙ c .before .before .before .before .before .before .levels-length .ensures }, lengths-are (c .before .before .before .before .before .before .before .before .before .before .before .before .before .before .before .before .before .before .args .format) (flat (c .before .before .before .before .before .before .before .before .before .before .before .before .before .before .before .before .before .before .args .head .now) (c .before .before .before .before .before .before .before .before .before .before .before .before .before .before .before .before .before .before .args .macroblocks .now) (c .before .before .before .before .before .before .before .before .before .before .before .before .before .before .before .before .before .before .args .levels .now)) (c .before .before .before .before .before .before .before .before .before .before .lengths .ensures) (not-false _ (c .before .before .before .before .before .before .before .before .before .if1 .left)))
+read-in-requires c κs =
+    let at-before = c .before .before .before in
+    let at-before-here = at-before .before in
+    let at-before-there = at-before-here .before in
+    let at-levels-length = at-before-there .before in
+    let at-macroblocks-length = at-levels-length .before in
+    let at-head-length = at-macroblocks-length .before in
+    let at-if1 = at-head-length .before in
+    let at-lengths = at-if1 .before in
+    let start = at-lengths .before .before .before .before .before .before .before .before in (
+      record
+          { head-long = length-take-le _ _ (array-borrow-prefix-header (at-before-there .before)) ∙ at-head-length .head-length .ensures; ms-long = length-take-le _ _ (array-borrow-prefix-fields (at-before-here .before)) ∙ at-macroblocks-length .macroblocks-length .ensures; ls-long = length-take-le _ _ (array-borrow-prefix-coefficients (at-before .before)) ∙ at-levels-length .levels-length .ensures },
+      lengths-are (start .args .format) (flat (start .args .head .now) (start .args .macroblocks .now) (start .args .levels .now)) (at-lengths .lengths .ensures)
+          (not-false _ (at-if1 .if1 .left)),
+    )
 
 same-length-4 : tie.Need-same-length-4
 same-length-4 c = search needs
@@ -65,7 +82,13 @@ same-length-6 : tie.Need-same-length-6
 same-length-6 c = search needs
 
 returns-2 : tie.Need-returns-2
-returns-2 c = fit (c .before .before .before .before .before .before .before .before .before .before .before .before .before .before .before .before .before .before .before .before .before .before .before .before .before .before .before .before .args .format) (c .before .before .before .before .before .before .before .before .before .before .before .before .before .before .before .before .before .before .before .before .before .before .before .before .before .before .before .before .args .bytes .now) (c .before .before .before .before .before .before .before .before .before .before .before .before .before .before .before .before .before .before .before .before .before .before .before .before .before .before .before .before .args .count) (flat (c .before .before .before .before .before .before .before .before .before .before .before .before .before .before .before .before .before .before .before .before .before .before .before .before .before .before .before .before .args .head .now) (c .before .before .before .before .before .before .before .before .before .before .before .before .before .before .before .before .before .before .before .before .before .before .before .before .before .before .before .before .args .macroblocks .now) (c .before .before .before .before .before .before .before .before .before .before .before .before .before .before .before .before .before .before .before .before .before .before .before .before .before .before .before .before .args .levels .now)) (c .before .before .before .before .before .before .before .before .before .before .before .before .before .before .before .before .before .before .before .before .lengths .ensures) (not-false _ (c .before .before .before .before .before .before .before .before .before .before .before .before .before .before .before .before .before .before .before .if1 .left)) (c .before .before .before .before .before .before .before .before .before .read-in .ensures .0) (c .before .before .before .before .before .before .before .before .before .read-in .ensures .1)
+returns-2 c =
+    let at-read-in = c .before .before .before .before .before .before .before .before .before in
+    let at-if1 = at-read-in .before .before .before .before .before .before .before .before .before .before in
+    let at-lengths = at-if1 .before in
+    let start = at-lengths .before .before .before .before .before .before .before .before in
+    fit (start .args .format) (start .args .bytes .now) (start .args .count) (flat (start .args .head .now) (start .args .macroblocks .now) (start .args .levels .now))
+    (at-lengths .lengths .ensures) (not-false _ (at-if1 .if1 .left)) (at-read-in .read-in .ensures .0) (at-read-in .read-in .ensures .1)
 
 pub read-spec : {M : Type 1} → statement M
 read-spec =

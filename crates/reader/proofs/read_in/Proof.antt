@@ -1,10 +1,10 @@
 -- `reader::read_in` meets its contract: what was parsed is copied on acceptance alone. Assumes nothing.
 use mathlib.Core.Path.{sym, _∙_}
-use Rattle.layers.specs.Answer.{flat}
 use Rattle.reader.proofs.ReadSteps.{accepted-tag, copied, accepted-buffers, refused-unchanged}
 use borrow.Author.Needs.{needs}
 use Rattle.reader.proofs.read_in.Statement.{statement}
 use Rattle.reader.proofs.read_in.Tie as tie
+use Rattle.description.specs.Fields.{flat}
 
 parse-requires : tie.Need-parse-requires
 parse-requires c κs = search needs
@@ -34,7 +34,14 @@ same-length-3 : tie.Need-same-length-3
 same-length-3 c = search needs
 
 returns : tie.Need-returns
-returns c = (sym (c .before .verdict .given .1) ∙ c .before .before .before .before .before .before .before .before .before .parse .ensures .0, refused-unchanged (c .before .before .before .before .before .before .before .before .before .before .before .before .before .before .before .before .before .before .before .before .args .format) (c .before .before .before .before .before .before .before .before .before .before .before .before .before .before .before .before .before .before .before .before .args .bytes .now) (c .before .before .before .before .before .before .before .before .before .before .before .before .before .before .before .before .before .before .before .before .args .count) (c .before .before .before .before .before .before .before .before .before .parse .ensures .0) _ (c .before .verdict .given .1) (flat (c .before .before .before .before .before .before .before .before .before .before .before .before .before .before .before .before .before .before .before .before .args .head .now) (c .before .before .before .before .before .before .before .before .before .before .before .before .before .before .before .before .before .before .before .before .args .macroblocks .now) (c .before .before .before .before .before .before .before .before .before .before .before .before .before .before .before .before .before .before .before .before .args .levels .now)))
+returns c =
+    let at-verdict = c .before in
+    let at-parse = at-verdict .before .before .before .before .before .before .before .before in
+    let start = at-parse .before .before .before .before .before .before .before .before .before .before .before in (
+      sym (at-verdict .verdict .given .1) ∙ at-parse .parse .ensures .0,
+      refused-unchanged (start .args .format) (start .args .bytes .now) (start .args .count) (at-parse .parse .ensures .0) _ (at-verdict .verdict .given .1)
+          (flat (start .args .head .now) (start .args .macroblocks .now) (start .args .levels .now)),
+    )
 
 same-length-4 : tie.Need-same-length-4
 same-length-4 c = search needs
@@ -55,7 +62,20 @@ same-length-9 : tie.Need-same-length-9
 same-length-9 c = search needs
 
 returns-2 : tie.Need-returns-2
-returns-2 c = let a = accepted-tag (c .before .before .before .before .before .before .before .before .before .before .before .before .before .before .before .before .before .before .before .before .before .before .before .parse .result) (c .before .before .before .before .before .before .before .before .before .before .before .before .before .before .before .before .match .keys2) in (sym a ∙ c .before .before .before .before .before .before .before .before .before .before .before .before .before .before .before .before .before .before .before .before .before .before .before .parse .ensures .0, accepted-buffers (c .before .before .before .before .before .before .before .before .before .before .before .before .before .before .before .before .before .before .before .before .before .before .before .before .before .before .before .before .before .before .before .before .before .before .args .format) (c .before .before .before .before .before .before .before .before .before .before .before .before .before .before .before .before .before .before .before .before .before .before .before .before .before .before .before .before .before .before .before .before .before .before .args .bytes .now) (c .before .before .before .before .before .before .before .before .before .before .before .before .before .before .before .before .before .before .before .before .before .before .before .before .before .before .before .before .before .before .before .before .before .before .args .count) (c .before .before .before .before .before .before .before .before .before .before .before .before .before .before .before .before .before .before .before .before .before .before .before .parse .ensures .0) (c .before .before .before .before .before .before .before .before .before .before .before .before .before .before .before .before .before .before .before .before .before .before .before .parse .ensures .1) a (flat (c .before .before .before .before .before .before .before .before .before .before .before .before .before .before .before .before .before .before .before .before .before .before .before .before .before .before .before .before .before .before .before .before .before .before .args .head .now) (c .before .before .before .before .before .before .before .before .before .before .before .before .before .before .before .before .before .before .before .before .before .before .before .before .before .before .before .before .before .before .before .before .before .before .args .macroblocks .now) (c .before .before .before .before .before .before .before .before .before .before .before .before .before .before .before .before .before .before .before .before .before .before .before .before .before .before .before .before .before .before .before .before .before .before .args .levels .now)) _ _ _ (copied _ _ _ (c .before .before .before .before .before .before .before .before .before .before .before .before .before .before .before .before .before .before .before .before .before .before .before .parse .kept .1 .1 .1 .0 ∙ c .before .before .before .before .before .before .before .before .before .before .before .before .before .before .before .before .before .before .before .before .before .before .before .before .before .before .before .before .before .before .before .before .before .before .pre .0 .head-long ∙ sym (c .before .before .before .before .before .before .before .before .before .before .before .before .before .before .before .before .before .before .before .before .before .before .before .before .before .before .before .before .before .before .before .before .before .before .pre .1 .head-long)) (c .before .before .before .before .before .before .before .before .before .before .before .before .copy .ensures .1)) (copied _ _ _ (c .before .before .before .before .before .before .before .before .before .before .before .before .before .before .before .before .before .before .before .before .before .before .before .parse .kept .1 .1 .1 .1 .0 ∙ c .before .before .before .before .before .before .before .before .before .before .before .before .before .before .before .before .before .before .before .before .before .before .before .before .before .before .before .before .before .before .before .before .before .before .pre .0 .ms-long ∙ sym (c .before .before .before .before .before .before .before .before .before .before .before .before .before .before .before .before .before .before .before .before .before .before .before .before .before .before .before .before .before .before .before .before .before .before .pre .1 .ms-long)) (c .before .before .before .before .before .before .before .copy2 .ensures .1)) (copied _ _ _ (c .before .before .before .before .before .before .before .before .before .before .before .before .before .before .before .before .before .before .before .before .before .before .before .parse .kept .1 .1 .1 .1 .1 .0 ∙ c .before .before .before .before .before .before .before .before .before .before .before .before .before .before .before .before .before .before .before .before .before .before .before .before .before .before .before .before .before .before .before .before .before .before .pre .0 .ls-long ∙ sym (c .before .before .before .before .before .before .before .before .before .before .before .before .before .before .before .before .before .before .before .before .before .before .before .before .before .before .before .before .before .before .before .before .before .before .pre .1 .ls-long)) (c .before .before .copy3 .ensures .1)))
+returns-2 c =
+    let at-copy2 = c .before .before .before .before .before .before .before in
+    let at-copy = at-copy2 .before .before .before .before .before in
+    let at-match = at-copy .before .before .before .before in
+    let at-parse = at-match .before .before .before .before .before .before .before in
+    let start = at-parse .before .before .before .before .before .before .before .before .before .before .before in
+    let a = accepted-tag (at-parse .parse .result) (at-match .match .keys2) in (
+      sym a ∙ at-parse .parse .ensures .0,
+      accepted-buffers (start .args .format) (start .args .bytes .now) (start .args .count) (at-parse .parse .ensures .0) (at-parse .parse .ensures .1) a
+          (flat (start .args .head .now) (start .args .macroblocks .now) (start .args .levels .now)) _ _ _
+          (copied _ _ _ (at-parse .parse .kept .1 .1 .1 .0 ∙ start .pre .0 .head-long ∙ sym (start .pre .1 .head-long)) (at-copy .copy .ensures .1))
+          (copied _ _ _ (at-parse .parse .kept .1 .1 .1 .1 .0 ∙ start .pre .0 .ms-long ∙ sym (start .pre .1 .ms-long)) (at-copy2 .copy2 .ensures .1))
+          (copied _ _ _ (at-parse .parse .kept .1 .1 .1 .1 .1 .0 ∙ start .pre .0 .ls-long ∙ sym (start .pre .1 .ls-long)) (c .before .before .copy3 .ensures .1)),
+    )
 
 pub read-in-spec : {M : Type 1} → statement M
 read-in-spec =

@@ -85,7 +85,13 @@ same-length-3 : tie.Need-same-length-3
 same-length-3 c = search needs
 
 returns-2 : tie.Need-returns-2
-returns-2 c = next (c .before .before .before .before .before .before .before .before .before .before .before .before .before .before .before .before .before .args .receiver) (c .before .before .before .before .before .before .before .before .before .before .before .before .before .before .before .before .before .args .header) (c .before .before .before .before .before .before .before .before .before .before .before .before .before .before .before .before .before .args .block .now) (c .before .before .before .before .before .before .before .before .before .before .before .before .before .before .before .before .before .args .collection .now) (c .before .before .before .before .before .before .before .before .before .before .before .before .before .before .before .before .before .args .first .now) (c .before .before .before .before .before .before .before .before .before .before .before .before .before .before .before .before .before .args .second .now) (c .before .before .before .before .before .before .before .before .before .before .before .before .first-line .ensures) (c .before .before .before .before .before .before .before .before .before .before .enum-told2 .given .1) (c .before .before .before .before .before .before .collect .ensures)
+returns-2 c =
+    let at-collect = c .before .before .before .before .before .before in
+    let at-enum-told2 = at-collect .before .before .before .before in
+    let at-first-line = at-enum-told2 .before .before in
+    let start = at-first-line .before .before .before .before .before in
+    next (start .args .receiver) (start .args .header) (start .args .block .now) (start .args .collection .now) (start .args .first .now) (start .args .second .now)
+    (at-first-line .first-line .ensures) (at-enum-told2 .enum-told2 .given .1) (at-collect .collect .ensures)
 
 same-length-4 : tie.Need-same-length-4
 same-length-4 c = search needs
@@ -97,10 +103,20 @@ same-length-6 : tie.Need-same-length-6
 same-length-6 c = search needs
 
 returns-3 : tie.Need-returns-3
-returns-3 c = anew (c .before .before .before .before .before .before .before .before .before .before .before .before .before .before .before .before .before .args .receiver) (c .before .before .before .before .before .before .before .before .before .before .before .before .before .before .before .before .before .args .header) (c .before .before .before .before .before .before .before .before .before .before .before .before .before .before .before .before .before .args .block .now) (c .before .before .before .before .before .before .before .before .before .before .before .before .before .before .before .before .before .args .collection .now) (c .before .before .before .before .before .before .before .before .before .before .before .before .before .before .before .before .before .args .first .now) (c .before .before .before .before .before .before .before .before .before .before .before .before .before .before .before .before .before .args .second .now) (c .before .before .before .before .before .before .before .before .before .before .before .before .first-line .ensures) (c .before .before .before .before .before .before .before .before .before .before .enum-told3 .given .1) (c .before .before .before .before .before .before .collect2 .ensures)
+returns-3 c =
+    let at-collect2 = c .before .before .before .before .before .before in
+    let at-enum-told3 = at-collect2 .before .before .before .before in
+    let at-first-line = at-enum-told3 .before .before in
+    let start = at-first-line .before .before .before .before .before in
+    anew (start .args .receiver) (start .args .header) (start .args .block .now) (start .args .collection .now) (start .args .first .now) (start .args .second .now)
+    (at-first-line .first-line .ensures) (at-enum-told3 .enum-told3 .given .1) (at-collect2 .collect2 .ensures)
 
 returns-4 : tie.Need-returns-4
-returns-4 c = otherwise (c .before .before .before .before .before .before .before .before .args .receiver) (c .before .before .before .before .before .before .before .before .args .header) (c .before .before .before .before .before .before .before .before .args .block .now) (c .before .before .before .before .before .before .before .before .args .collection .now) (c .before .before .before .before .before .before .before .before .args .first .now) (c .before .before .before .before .before .before .before .before .args .second .now) (c .before .before .before .first-line .ensures) (c .before .enum-told4 .given .1) (c .lose .ensures)
+returns-4 c =
+    let at-first-line = c .before .before .before in
+    let start = at-first-line .before .before .before .before .before in
+    otherwise (start .args .receiver) (start .args .header) (start .args .block .now) (start .args .collection .now) (start .args .first .now) (start .args .second .now)
+    (at-first-line .first-line .ensures) (c .before .enum-told4 .given .1) (c .lose .ensures)
 
 pub act-spec : {M : Type 1} → statement M
 act-spec =

@@ -69,7 +69,13 @@ same-length-3 : tie.Need-same-length-3
 same-length-3 c = search needs
 
 returns : tie.Need-returns
-returns c = last-part (c .before .before .before .before .before .before .before .before .before .before .before .before .before .before .before .before .before .args .receiver) (c .before .before .before .before .before .before .before .before .before .before .before .before .before .before .before .before .before .args .header) (c .before .before .before .before .before .before .before .before .before .before .before .before .before .before .before .before .before .args .standing) (c .before .before .before .before .before .before .before .before .before .before .before .before .before .before .before .before .before .args .block .now) (c .before .before .before .before .before .before .before .before .before .before .before .before .before .before .before .before .before .args .collection .now) (c .before .before .before .before .before .before .before .before .before .before .before .before .before .before .before .before .before .args .first .now) (c .before .before .before .before .before .before .before .before .before .before .before .before .before .before .before .before .before .args .second .now) (c .before .before .before .before .before .before .before .before .if1 .taken) (c .before .before .before .before .before .before .before .before .before .before .before .place .ensures) (c .before .before .before .before .finish .ensures)
+returns c =
+    let at-finish = c .before .before .before .before in
+    let at-if1 = at-finish .before .before .before .before in
+    let at-place = at-if1 .before .before .before in
+    let start = at-place .before .before .before .before .before .before in
+    last-part (start .args .receiver) (start .args .header) (start .args .standing) (start .args .block .now) (start .args .collection .now) (start .args .first .now)
+    (start .args .second .now) (at-if1 .if1 .taken) (at-place .place .ensures) (at-finish .finish .ensures)
 
 take-requires : tie.Need-take-requires
 take-requires c κs = search needs
@@ -78,7 +84,11 @@ same-length-4 : tie.Need-same-length-4
 same-length-4 c = search needs
 
 returns-2 : tie.Need-returns-2
-returns-2 c = more-parts (c .before .before .before .before .before .before .before .before .before .before .args .receiver) (c .before .before .before .before .before .before .before .before .before .before .args .header) (c .before .before .before .before .before .before .before .before .before .before .args .standing) (c .before .before .before .before .before .before .before .before .before .before .args .block .now) (c .before .before .before .before .before .before .before .before .before .before .args .collection .now) (c .before .before .before .before .before .before .before .before .before .before .args .first .now) (c .before .before .before .before .before .before .before .before .before .before .args .second .now) (c .before .if1 .left) (c .before .before .before .before .place .ensures) (c .take .ensures)
+returns-2 c =
+    let at-place = c .before .before .before .before in
+    let start = at-place .before .before .before .before .before .before in
+    more-parts (start .args .receiver) (start .args .header) (start .args .standing) (start .args .block .now) (start .args .collection .now) (start .args .first .now)
+    (start .args .second .now) (c .before .if1 .left) (at-place .place .ensures) (c .take .ensures)
 
 pub collect-spec : {M : Type 1} → statement M
 collect-spec =

@@ -1,23 +1,11 @@
 -- `receiver::finish` meets its contract: the scratch has room for either format. Assumes nothing.
 use borrow.Author.Needs.{needs}
 use native.Mathlib.Omega.{arith}
-use Prim.Native.Nat.{ℕ, _≤_}
-use mathlib.Core.Path.{_≡_, sym, _∙_}
-use mathlib.Core.List.{List}
-use lib.ListN.{length, take}
+use mathlib.Core.Path.{_∙_}
 use lib.Seq.{length-take-le}
-use Rattle.format.specs.declared.Format.{Format}
-use Rattle.format.specs.declared.Format.the-variants.{Qcif, Cif}
-use Rattle.format.specs.Format.{groupCount}
+use Rattle.format.specs.Room.{part-long, groups-most}
 use Rattle.receiver.proofs.finish.Statement.{statement}
 use Rattle.receiver.proofs.finish.Tie as tie
-
-groups-most : (f : Format) → groupCount f ≤ 12
-groups-most Qcif = omega arith
-groups-most Cif = omega arith
-
-part-long : {n : ℕ} (array : List ℕ) → n ≤ length array → n ≡ length (take n array)
-part-long {n} array l = sym (length-take-le n array l)
 
 head-length-requires : tie.Need-head-length-requires
 head-length-requires c κs = search needs
@@ -47,7 +35,22 @@ slice-aggregate-finish-in-3 : tie.Need-slice-aggregate-finish-in-3
 slice-aggregate-finish-in-3 c = part-long _ (array-borrow-prefix-levels (c .before))
 
 finish-in-requires : tie.Need-finish-in-requires
-finish-in-requires c κs = (c .before .before .before .before .before .before .before .before .before .before .before .pre .0, c .before .before .before .before .before .before .before .before .before .before .before .pre .1, c .before .before .before .before .before .before .before .before .before .before .before .pre .2, length-take-le _ _ (array-borrow-prefix-head (c .before .before .before .before .before)) ∙ c .before .before .before .before .before .before .before .head-length .ensures, length-take-le _ _ (array-borrow-prefix-macroblocks (c .before .before .before .before)) ∙ c .before .before .before .before .before .before .macroblocks-length .ensures, length-take-le _ _ (array-borrow-prefix-levels (c .before .before .before)) ∙ c .before .before .before .before .before .levels-length .ensures, c .before .before .before .before .before .before .before .before .before .before .before .pre .3, c .before .before .before .before .before .before .before .before .before .before .before .pre .4)
+finish-in-requires c κs =
+    let at-before = c .before .before .before in
+    let at-before-here = at-before .before in
+    let at-levels-length = at-before-here .before in
+    let at-macroblocks-length = at-levels-length .before in
+    let at-head-length = at-macroblocks-length .before in
+    let start = at-head-length .before .before .before .before in (
+      start .pre .0,
+      start .pre .1,
+      start .pre .2,
+      length-take-le _ _ (array-borrow-prefix-head (at-before-here .before)) ∙ at-head-length .head-length .ensures,
+      length-take-le _ _ (array-borrow-prefix-macroblocks (at-before .before)) ∙ at-macroblocks-length .macroblocks-length .ensures,
+      length-take-le _ _ (array-borrow-prefix-levels (c .before .before .before)) ∙ at-levels-length .levels-length .ensures,
+      start .pre .3,
+      start .pre .4,
+    )
 
 same-length : tie.Need-same-length
 same-length c = search needs

@@ -69,7 +69,18 @@ enum-told : tie.Need-enum-told
 enum-told c = search needs
 
 settle-requires : tie.Need-settle-requires
-settle-requires c κs = (c .before .before .before .before .before .before .before .before .before .before .before .before .before .before .before .before .before .before .before .before .before .before .before .before .before .pre .0, is-valid (c .before .before .before .before .before .before .before .before .before .before .before .before .before .before .before .before .before .before .before .before .before .before .before .before .before .args .receiver .format) (c .before .before .before .before .before .before .before .before .before .before .before .before .before .before .before .before .before .before .before .before .before .before .before .before .before .args .collection .now) _ (flat (c .before .before .before .before .before .before .before .before .before .before .before .before .before .parse .last .1 .1 .1 .0) (c .before .before .before .before .before .before .before .before .before .before .before .before .before .parse .last .1 .1 .1 .1 .0) (c .before .before .before .before .before .before .before .before .before .before .before .before .before .parse .last .1 .1 .1 .1 .1 .0)) (told-found (c .before .before .before .before .before .before .before .before .before .before .before .before .before .before .before .before .before .before .before .before .before .before .before .before .before .args .receiver .format) (c .before .before .before .before .before .before .before .before .before .before .before .before .before .before .before .before .before .before .before .before .before .before .before .before .before .args .collection .now) _ (c .before .before .before .before .before .before .before .before .before .before .before .before .before .parse .ensures .0) (c .before .before .before .before .before .before .before .before .before .before .before .before .before .parse .ensures .1)) (c .before .before .before .before .before .enum-told .given .1), c .before .before .before .before .before .before .before .before .before .before .before .before .before .before .before .before .before .before .before .before .before .before .before .before .before .pre .6, c .before .before .before .before .before .before .before .before .before .before .before .before .before .before .before .before .before .before .before .before .before .before .before .before .before .pre .7)
+settle-requires c κs =
+    let at-enum-told = c .before .before .before .before .before in
+    let at-parse = at-enum-told .before .before .before .before .before .before .before .before in
+    let start = at-parse .before .before .before .before .before .before .before .before .before .before .before .before in
+    let format = start .args .receiver .format in
+    let collection = start .args .collection .now in (
+      start .pre .0,
+      is-valid format collection _ (flat (at-parse .parse .last .1 .1 .1 .0) (at-parse .parse .last .1 .1 .1 .1 .0) (at-parse .parse .last .1 .1 .1 .1 .1 .0))
+          (told-found format collection _ (at-parse .parse .ensures .0) (at-parse .parse .ensures .1)) (at-enum-told .enum-told .given .1),
+      start .pre .6,
+      start .pre .7,
+    )
 
 same-length : tie.Need-same-length
 same-length c = search needs
@@ -81,7 +92,14 @@ same-length-3 : tie.Need-same-length-3
 same-length-3 c = search needs
 
 returns : tie.Need-returns
-returns c = unread (c .before .before .before .before .before .before .before .before .before .before .before .before .before .before .before .before .before .before .before .before .before .before .args .receiver) (c .before .before .before .before .before .before .before .before .before .before .before .before .before .before .before .before .before .before .before .before .before .before .args .header) (stores (c .before .before .before .before .before .before .before .before .before .before .before .before .before .before .before .before .before .before .before .before .before .before .args .first .now) (c .before .before .before .before .before .before .before .before .before .before .before .before .before .before .before .before .before .before .before .before .before .before .args .second .now)) (c .before .before .before .before .before .before .before .before .before .before .before .before .before .before .before .before .before .before .before .before .before .before .args .collection .now) _ (flat (c .before .before .before .before .before .before .before .before .before .before .parse .last .1 .1 .1 .0) (c .before .before .before .before .before .before .before .before .before .before .parse .last .1 .1 .1 .1 .0) (c .before .before .before .before .before .before .before .before .before .before .parse .last .1 .1 .1 .1 .1 .0)) (told-found (c .before .before .before .before .before .before .before .before .before .before .before .before .before .before .before .before .before .before .before .before .before .before .args .receiver .format) (c .before .before .before .before .before .before .before .before .before .before .before .before .before .before .before .before .before .before .before .before .before .before .args .collection .now) _ (c .before .before .before .before .before .before .before .before .before .before .parse .ensures .0) (c .before .before .before .before .before .before .before .before .before .before .parse .ensures .1)) (c .before .before .verdict .given .1) (c .failed .ensures)
+returns c =
+    let at-parse = c .before .before .before .before .before .before .before .before .before .before in
+    let start = at-parse .before .before .before .before .before .before .before .before .before .before .before .before in
+    let collection = start .args .collection .now in
+    unread (start .args .receiver) (start .args .header) (stores (start .args .first .now) (start .args .second .now)) collection _
+    (flat (at-parse .parse .last .1 .1 .1 .0) (at-parse .parse .last .1 .1 .1 .1 .0) (at-parse .parse .last .1 .1 .1 .1 .1 .0))
+    (told-found (start .args .receiver .format) collection _ (at-parse .parse .ensures .0) (at-parse .parse .ensures .1)) (c .before .before .verdict .given .1)
+    (c .failed .ensures)
 
 same-length-4 : tie.Need-same-length-4
 same-length-4 c = search needs
@@ -99,7 +117,16 @@ same-length-8 : tie.Need-same-length-8
 same-length-8 c = search needs
 
 returns-2 : tie.Need-returns-2
-returns-2 c = read (c .before .before .before .before .before .before .before .before .before .before .before .before .before .before .before .before .before .before .before .before .before .before .before .before .before .before .before .before .before .before .args .receiver) (c .before .before .before .before .before .before .before .before .before .before .before .before .before .before .before .before .before .before .before .before .before .before .before .before .before .before .before .before .before .before .args .header) (stores (c .before .before .before .before .before .before .before .before .before .before .before .before .before .before .before .before .before .before .before .before .before .before .before .before .before .before .before .before .before .before .args .first .now) (c .before .before .before .before .before .before .before .before .before .before .before .before .before .before .before .before .before .before .before .before .before .before .before .before .before .before .before .before .before .before .args .second .now)) (c .before .before .before .before .before .before .before .before .before .before .before .before .before .before .before .before .before .before .before .before .before .before .before .before .before .before .before .before .before .before .args .collection .now) _ (flat (c .before .before .before .before .before .before .before .before .before .before .before .before .before .before .before .before .before .before .parse .last .1 .1 .1 .0) (c .before .before .before .before .before .before .before .before .before .before .before .before .before .before .before .before .before .before .parse .last .1 .1 .1 .1 .0) (c .before .before .before .before .before .before .before .before .before .before .before .before .before .before .before .before .before .before .parse .last .1 .1 .1 .1 .1 .0)) (told-found (c .before .before .before .before .before .before .before .before .before .before .before .before .before .before .before .before .before .before .before .before .before .before .before .before .before .before .before .before .before .before .args .receiver .format) (c .before .before .before .before .before .before .before .before .before .before .before .before .before .before .before .before .before .before .before .before .before .before .before .before .before .before .before .before .before .before .args .collection .now) _ (c .before .before .before .before .before .before .before .before .before .before .before .before .before .before .before .before .before .before .parse .ensures .0) (c .before .before .before .before .before .before .before .before .before .before .before .before .before .before .before .before .before .before .parse .ensures .1)) (c .before .before .before .before .before .before .before .before .before .before .enum-told .given .1) (c .before .before .before .before .settle .ensures)
+returns-2 c =
+    let at-settle = c .before .before .before .before in
+    let at-enum-told = at-settle .before .before .before .before .before .before in
+    let at-parse = at-enum-told .before .before .before .before .before .before .before .before in
+    let start = at-parse .before .before .before .before .before .before .before .before .before .before .before .before in
+    let collection = start .args .collection .now in
+    read (start .args .receiver) (start .args .header) (stores (start .args .first .now) (start .args .second .now)) collection _
+    (flat (at-parse .parse .last .1 .1 .1 .0) (at-parse .parse .last .1 .1 .1 .1 .0) (at-parse .parse .last .1 .1 .1 .1 .1 .0))
+    (told-found (start .args .receiver .format) collection _ (at-parse .parse .ensures .0) (at-parse .parse .ensures .1)) (at-enum-told .enum-told .given .1)
+    (at-settle .settle .ensures)
 
 pub finish-in-spec : {M : Type 1} → statement M
 finish-in-spec =

@@ -60,7 +60,14 @@ enum-known-checked : tie.Need-enum-known-checked
 enum-known-checked c = search needs
 
 act-requires : tie.Need-act-requires
-act-requires c κs = ready (c .before .before .before .before .before .before .before .before .before .before .before .before .before .args .receiver .format) (c .before .before .before .before .before .before .before .before .before .before .before .before .before .args .receiver .clip) _ (c .before .before .before .before .before .before .before .before .before .before .before .before .before .args .block .now) (c .before .before .before .before .before .before .before .before .before .before .before .before .before .args .collection .now) (c .before .before .before .before .before .before .before .before .before .before .before .before .before .args .first .now) (c .before .before .before .before .before .before .before .before .before .before .before .before .before .args .second .now) (sym (c .before .before .before .before .before .before .before .before .named .ensures) ∙ c .before .before .before .before .before .before .before .if1 .taken) (sym (c .before .before .before .before .before .before .judge .ensures) ∙ c .before .before .before .before .checked .given .1)
+act-requires c κs =
+    let at-checked = c .before .before .before .before in
+    let at-judge = at-checked .before .before in
+    let at-if1 = at-judge .before in
+    let at-named = at-if1 .before in
+    let start = at-named .before .before .before .before .before in
+    ready (start .args .receiver .format) (start .args .receiver .clip) _ (start .args .block .now) (start .args .collection .now) (start .args .first .now)
+    (start .args .second .now) (sym (at-named .named .ensures) ∙ at-if1 .if1 .taken) (sym (at-judge .judge .ensures) ∙ at-checked .checked .given .1)
 
 enum-known-checked-2 : tie.Need-enum-known-checked-2
 enum-known-checked-2 c = search needs
@@ -75,10 +82,24 @@ same-length-3 : tie.Need-same-length-3
 same-length-3 c = search needs
 
 returns : tie.Need-returns
-returns c = good (c .before .before .before .before .before .before .before .before .before .before .before .before .before .before .before .before .before .before .before .before .args .receiver) (c .before .before .before .before .before .before .before .before .before .before .before .before .before .before .before .before .before .before .before .before .args .block .now) (c .before .before .before .before .before .before .before .before .before .before .before .before .before .before .before .before .before .before .before .before .args .collection .now) (c .before .before .before .before .before .before .before .before .before .before .before .before .before .before .before .before .before .before .before .before .args .first .now) (c .before .before .before .before .before .before .before .before .before .before .before .before .before .before .before .before .before .before .before .before .args .second .now) (c .before .before .before .before .before .before .before .before .before .before .before .before .before .before .before .named .ensures) (c .before .before .before .before .before .before .before .before .before .before .before .before .before .before .if1 .taken) (c .before .before .before .before .before .before .before .before .before .before .before .before .before .judge .ensures) (c .before .before .before .before .before .before .before .before .before .before .before .checked .given .1) (c .before .before .before .before .before .before .act .ensures)
+returns c =
+    let at-act = c .before .before .before .before .before .before in
+    let at-checked = at-act .before .before .before .before .before in
+    let at-judge = at-checked .before .before in
+    let at-if1 = at-judge .before in
+    let at-named = at-if1 .before in
+    let start = at-named .before .before .before .before .before in
+    good (start .args .receiver) (start .args .block .now) (start .args .collection .now) (start .args .first .now) (start .args .second .now) (at-named .named .ensures)
+    (at-if1 .if1 .taken) (at-judge .judge .ensures) (at-checked .checked .given .1) (at-act .act .ensures)
 
 returns-2 : tie.Need-returns-2
-returns-2 c = bad (c .before .before .before .before .before .before .before .before .before .before .args .receiver) (c .before .before .before .before .before .before .before .before .before .before .args .block .now) (c .before .before .before .before .before .before .before .before .before .before .args .collection .now) (c .before .before .before .before .before .before .before .before .before .before .args .first .now) (c .before .before .before .before .before .before .before .before .before .before .args .second .now) (c .before .before .before .before .before .named .ensures) (c .before .before .before .before .if1 .taken) (c .before .before .before .judge .ensures) (c .before .checked2 .given .1)
+returns-2 c =
+    let at-judge = c .before .before .before in
+    let at-if1 = at-judge .before in
+    let at-named = at-if1 .before in
+    let start = at-named .before .before .before .before .before in
+    bad (start .args .receiver) (start .args .block .now) (start .args .collection .now) (start .args .first .now) (start .args .second .now) (at-named .named .ensures)
+    (at-if1 .if1 .taken) (at-judge .judge .ensures) (c .before .checked2 .given .1)
 
 returns-3 : tie.Need-returns-3
 returns-3 c = short (c .before .before .before .before .before .before .args .receiver) (c .before .before .before .before .before .before .args .block .now) (c .before .before .before .before .before .before .args .collection .now) (c .before .before .before .before .before .before .args .first .now) (c .before .before .before .before .before .before .args .second .now) (c .before .named .ensures) (c .if1 .left)

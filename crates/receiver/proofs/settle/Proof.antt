@@ -4,7 +4,7 @@ use mathlib.Core.Path.{_≡_, refl, sym, ap, subst, _∙_}
 use mathlib.Core.Bool.{Bool, true, false}
 use mathlib.Core.List.{List, []}
 use Prim.Native.Nat.{ℕ}
-use Rattle.laws.specs.Choice.{pick}
+use Rattle.laws.specs.Choice.{pick, alike}
 use Rattle.refusals.specs.declared.Reason.the-variants.{UntrueMark}
 use Rattle.refusals.specs.Number.{refusal}
 use Rattle.description.specs.Flat.{Flat}
@@ -19,7 +19,7 @@ use Rattle.receiver.specs.declared.Answer.the-variants as A
 use Rattle.receiver.specs.H261.{h261}
 use Rattle.receiver.specs.Coding.{accepted}
 use Rattle.receiver.specs.Laws.{Settles}
-use Rattle.receiver.specs.Receive.{Event, failed, finished, alike, markOf, ended, failing, finishing, received}
+use Rattle.receiver.specs.Receive.{Event, failed, finished, markOf, ended, failing, finishing, received}
 use Rattle.receiver.proofs.settle.Statement.{statement}
 use Rattle.receiver.proofs.settle.Tie as tie
 
@@ -71,13 +71,27 @@ same-length-2 : tie.Need-same-length-2
 same-length-2 c = search needs
 
 returns : tie.Need-returns
-returns c = true-mark (c .before .before .before .before .before .before .before .before .before .before .before .before .before .before .before .before .before .args .receiver) (c .before .before .before .before .before .before .before .before .before .before .before .before .before .before .before .before .before .args .header) (c .before .before .before .before .before .before .before .before .before .before .before .before .before .before .before .before .before .args .head .now) (c .before .before .before .before .before .before .before .before .before .before .before .before .before .before .before .before .before .args .macroblocks .now) (c .before .before .before .before .before .before .before .before .before .before .before .before .before .before .before .before .before .args .levels .now) (c .before .before .before .before .before .before .before .before .before .before .before .before .before .before .before .before .before .args .first .now) (c .before .before .before .before .before .before .before .before .before .before .before .before .before .before .before .before .before .args .second .now) (c .before .before .before .before .before .before .before .before .before .before .before .mark .ensures) (c .before .before .before .before .before .before .before .before .before .before .is-refresh .ensures) (c .before .before .before .before .before .before .before .before .before .agree .ensures) (c .before .before .before .before .before .before .before .before .if1 .taken) (c .before .before .before .before .before .keep .ensures) (c .succeed .ensures)
+returns c =
+    let at-keep = c .before .before .before .before .before in
+    let at-if1 = at-keep .before .before .before in
+    let at-agree = at-if1 .before in
+    let at-is-refresh = at-agree .before in
+    let at-mark = at-is-refresh .before in
+    let start = at-mark .before .before .before .before .before .before in
+    true-mark (start .args .receiver) (start .args .header) (start .args .head .now) (start .args .macroblocks .now) (start .args .levels .now) (start .args .first .now)
+    (start .args .second .now) (at-mark .mark .ensures) (at-is-refresh .is-refresh .ensures) (at-agree .agree .ensures) (at-if1 .if1 .taken) (at-keep .keep .ensures)
+    (c .succeed .ensures)
 
 failed-requires : tie.Need-failed-requires
 failed-requires c κs = search needs
 
 returns-2 : tie.Need-returns-2
-returns-2 c = untrue-mark (c .before .before .before .before .before .before .before .before .before .before .args .receiver) (c .before .before .before .before .before .before .before .before .before .before .args .header) (c .before .before .before .before .before .before .before .before .before .before .args .head .now) (c .before .before .before .before .before .before .before .before .before .before .args .macroblocks .now) (c .before .before .before .before .before .before .before .before .before .before .args .levels .now) (c .before .before .before .before .before .before .before .before .before .before .args .first .now) (c .before .before .before .before .before .before .before .before .before .before .args .second .now) (c .before .before .before .before .mark .ensures) (c .before .before .before .is-refresh .ensures) (c .before .before .agree .ensures) (c .before .if1 .left) (c .failed .ensures)
+returns-2 c =
+    let at-is-refresh = c .before .before .before in
+    let at-mark = at-is-refresh .before in
+    let start = at-mark .before .before .before .before .before .before in
+    untrue-mark (start .args .receiver) (start .args .header) (start .args .head .now) (start .args .macroblocks .now) (start .args .levels .now) (start .args .first .now)
+    (start .args .second .now) (at-mark .mark .ensures) (at-is-refresh .is-refresh .ensures) (c .before .before .agree .ensures) (c .before .if1 .left) (c .failed .ensures)
 
 pub settle-spec : {M : Type 1} → statement M
 settle-spec =

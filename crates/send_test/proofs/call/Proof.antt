@@ -1,6 +1,6 @@
 -- `send_test::call` meets its contract: the parts lie in the arrays. Assumes nothing.
 use borrow.Author.Needs.{needs}
-use Rattle.checks.specs.Room.{part-long}
+use Rattle.format.specs.Room.{part-long}
 use Rattle.send_test.proofs.call.Statement.{statement}
 use Rattle.send_test.proofs.call.Tie as tie
 

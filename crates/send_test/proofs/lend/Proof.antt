@@ -1,6 +1,6 @@
 -- `send_test::lend` meets its contract: the parts lie in the buffers. Assumes nothing.
 use borrow.Author.Needs.{needs}
-use Rattle.checks.specs.Room.{part-long}
+use Rattle.format.specs.Room.{part-long}
 use Rattle.send_test.proofs.lend.Statement.{statement}
 use Rattle.send_test.proofs.lend.Tie as tie
 

@@ -3,8 +3,8 @@ use Prim.Native.Nat.{_≤_}
 use native.Mathlib.Omega.{arith}
 use Rattle.format.specs.declared.Format.{Format}
 use Rattle.format.specs.declared.Format.the-variants.{Qcif, Cif}
-use Rattle.format.specs.Format.{blocksLength, storeLength}
-use Rattle.checks.specs.Room.{part-long}
+use Rattle.format.specs.Format.{blocksLength}
+use Rattle.format.specs.Room.{part-long, store-most}
 use borrow.Author.Needs.{needs}
 use Rattle.send_test.proofs.session.Statement.{statement}
 use Rattle.send_test.proofs.session.Tie as tie
@@ -12,10 +12,6 @@ use Rattle.send_test.proofs.session.Tie as tie
 blocks-most : (f : Format) → blocksLength f ≤ 33792
 blocks-most Qcif = omega arith
 blocks-most Cif = omega arith
-
-store-most : (f : Format) → storeLength f ≤ 152064
-store-most Qcif = omega arith
-store-most Cif = omega arith
 
 blocks-length-requires : tie.Need-blocks-length-requires
 blocks-length-requires c κs = search needs

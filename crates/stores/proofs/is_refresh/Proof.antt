@@ -10,7 +10,7 @@ use mathlib.Core.List.{List, []}
 use mathlib.Core.Logic.{⊎-elim}
 use Prim.Native.Nat.{ℕ, zero, suc, _+_, _*_, _-_, _<_, _≤_}
 use lib.ListN.{getD}
-use Rattle.laws.specs.Choice.{both}
+use Rattle.laws.specs.Choice.{both, first-no, second-no}
 use Rattle.laws.specs.Table.{allB}
 use Rattle.words.specs.Words.{isIntra}
 use Rattle.format.specs.declared.Format.{Format}
@@ -26,14 +26,7 @@ intraAt macroblocks n = isIntra (getD macroblocks (n * 4) 0)
 fails : (m : ℕ) (p : ℕ → Bool) (n : ℕ) → n < m → p n ≡ false → allB m p ≡ false
 fails zero p n l e = absurd (not-suc-le-zero l)
 fails (suc m) p n l e =
-    ⊎-elim (λ same. last (p m) (allB m p) (ap p (sym same) ∙ e)) (λ less. rest (p m) (allB m p) (fails m p n less e)) (eq-or-lt-of-le (le-of-suc-le-suc l))
-  where
-    last : (a b : Bool) → a ≡ false → both a b ≡ false
-    last a b e = rw e
-
-    rest : (a b : Bool) → b ≡ false → both a b ≡ false
-    rest true b e = e
-    rest false b e = refl
+    ⊎-elim (λ same. first-no (p m) (allB m p) (ap p (sym same) ∙ e)) (λ less. second-no (p m) (allB m p) (fails m p n less e)) (eq-or-lt-of-le (le-of-suc-le-suc l))
 
 more : (p : ℕ → Bool) (n : ℕ) → allB n p ≡ true → p n ≡ true → allB (n + 1) p ≡ true
 more p n h e = ap (λ (k : ℕ). allB k p) (add-one n) ∙ (λ i. both (e i) (allB n p)) ∙ h

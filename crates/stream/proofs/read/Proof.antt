@@ -38,7 +38,16 @@ same-length-3 : tie.Need-same-length-3
 same-length-3 c = search needs
 
 returns : tie.Need-returns
-returns c = let a = c .before .before .before .before .before .before .before .before .before .before .before .before .before .before .before .before .before .before .before .args in accepted (a .format) (a .bytes .now) (a .ones) (flat (a .head .now) (a .macroblocks .now) (a .levels .now)) (a .count) (c .before .before .before .before .before .before .before .before .before .before .before .before .smaller .ensures ∙ ap (λ (m : ℕ). min (a .count) m) (c .before .before .before .before .before .before .before .before .before .before .before .before .before .larger .ensures ∙ ap (λ (l : ℕ). max l (a .ones)) (c .before .before .before .before .before .before .before .before .before .before .before .before .before .before .limit .ensures))) (c .before .before .before .before .before .before .before .before .read .ensures) (c .enum-told .given .1)
+returns c =
+    let at-read = c .before .before .before .before .before .before .before .before in
+    let at-smaller = at-read .before .before .before .before in
+    let at-larger = at-smaller .before in
+    let at-limit = at-larger .before in
+    let start = at-limit .before .before .before .before .before in
+    let a = start .args in
+    accepted (a .format) (a .bytes .now) (a .ones) (flat (a .head .now) (a .macroblocks .now) (a .levels .now)) (a .count)
+    (at-smaller .smaller .ensures ∙ ap (λ (m : ℕ). min (a .count) m) (at-larger .larger .ensures ∙ ap (λ (l : ℕ). max l (a .ones)) (at-limit .limit .ensures)))
+    (at-read .read .ensures) (c .enum-told .given .1)
 
 same-length-4 : tie.Need-same-length-4
 same-length-4 c = search needs
@@ -50,7 +59,18 @@ same-length-6 : tie.Need-same-length-6
 same-length-6 c = search needs
 
 returns-2 : tie.Need-returns-2
-returns-2 c = let a = c .before .before .before .before .before .before .before .before .before .before .before .before .before .before .before .before .before .before .before .before .before .before .before .before .before .before .before .before .before .before .args in again (a .format) (a .bytes .now) (a .ones) (flat (a .head .now) (a .macroblocks .now) (a .levels .now)) (a .count) (c .before .before .before .before .before .before .before .before .before .before .before .before .before .before .before .before .before .before .before .before .before .before .before .smaller .ensures ∙ ap (λ (m : ℕ). min (a .count) m) (c .before .before .before .before .before .before .before .before .before .before .before .before .before .before .before .before .before .before .before .before .before .before .before .before .larger .ensures ∙ ap (λ (l : ℕ). max l (a .ones)) (c .before .before .before .before .before .before .before .before .before .before .before .before .before .before .before .before .before .before .before .before .before .before .before .before .before .limit .ensures))) (c .before .before .before .before .before .before .before .before .before .before .before .before .before .before .before .before .before .before .before .read .ensures) (c .before .before .before .before .before .before .before .before .before .before .before .verdict .given .1) (c .before .before .before .before .before .before .read-unfilled .ensures)
+returns-2 c =
+    let at-read-unfilled = c .before .before .before .before .before .before in
+    let at-verdict = at-read-unfilled .before .before .before .before .before in
+    let at-read = at-verdict .before .before .before .before .before .before .before .before in
+    let at-smaller = at-read .before .before .before .before in
+    let at-larger = at-smaller .before in
+    let at-limit = at-larger .before in
+    let start = at-limit .before .before .before .before .before in
+    let a = start .args in
+    again (a .format) (a .bytes .now) (a .ones) (flat (a .head .now) (a .macroblocks .now) (a .levels .now)) (a .count)
+    (at-smaller .smaller .ensures ∙ ap (λ (m : ℕ). min (a .count) m) (at-larger .larger .ensures ∙ ap (λ (l : ℕ). max l (a .ones)) (at-limit .limit .ensures)))
+    (at-read .read .ensures) (at-verdict .verdict .given .1) (at-read-unfilled .read-unfilled .ensures)
 
 pub read-spec : {M : Type 1} → statement M
 read-spec =

@@ -31,7 +31,14 @@ same-length-3 : tie.Need-same-length-3
 same-length-3 c = search needs
 
 returns-2 : tie.Need-returns-2
-returns-2 c = let a = c .before .before .before .before .before .before .before .before .before .before .before .before .before .before .before .before .before .before .args in whole (a .format) (a .bytes .now) (a .ones) (flat (a .head .now) (a .macroblocks .now) (a .levels .now)) (a .why) (c .before .before .before .before .before .before .before .before .before .before .before .before .before .among-zeros .ensures) (not-false _ (c .before .before .before .before .before .before .before .before .before .before .before .before .if1 .left)) (c .before .before .before .before .before .before .before .before .read .ensures) (c .enum-told .given .1)
+returns-2 c =
+    let at-read = c .before .before .before .before .before .before .before .before in
+    let at-if1 = at-read .before .before .before .before in
+    let at-among-zeros = at-if1 .before in
+    let start = at-among-zeros .before .before .before .before .before in
+    let a = start .args in
+    whole (a .format) (a .bytes .now) (a .ones) (flat (a .head .now) (a .macroblocks .now) (a .levels .now)) (a .why) (at-among-zeros .among-zeros .ensures)
+    (not-false _ (at-if1 .if1 .left)) (at-read .read .ensures) (c .enum-told .given .1)
 
 same-length-4 : tie.Need-same-length-4
 same-length-4 c = search needs
@@ -43,7 +50,14 @@ same-length-6 : tie.Need-same-length-6
 same-length-6 c = search needs
 
 returns-3 : tie.Need-returns-3
-returns-3 c = let a = c .before .before .before .before .before .before .before .before .before .before .before .before .before .before .before .before .before .before .before .args in broken (a .format) (a .bytes .now) (a .ones) (flat (a .head .now) (a .macroblocks .now) (a .levels .now)) (a .why) (c .before .before .before .before .before .before .before .before .before .before .before .before .before .before .among-zeros .ensures) (not-false _ (c .before .before .before .before .before .before .before .before .before .before .before .before .before .if1 .left)) (c .before .before .before .before .before .before .before .before .before .read .ensures) (c .before .verdict .given .1)
+returns-3 c =
+    let at-read = c .before .before .before .before .before .before .before .before .before in
+    let at-if1 = at-read .before .before .before .before in
+    let at-among-zeros = at-if1 .before in
+    let start = at-among-zeros .before .before .before .before .before in
+    let a = start .args in
+    broken (a .format) (a .bytes .now) (a .ones) (flat (a .head .now) (a .macroblocks .now) (a .levels .now)) (a .why) (at-among-zeros .among-zeros .ensures)
+    (not-false _ (at-if1 .if1 .left)) (at-read .read .ensures) (c .before .verdict .given .1)
 
 pub read-unfilled-spec : {M : Type 1} → statement M
 read-unfilled-spec =

@@ -24,7 +24,18 @@ same-length : tie.Need-same-length
 same-length c = search needs
 
 returns : tie.Need-returns
-returns c = (omega (arith, c .before .before .put .ensures .0, length-take (c .before .before .before .before .before .decimal .result) (c .before .before .before .before .before .decimal .last .1 .0), twenty (c .before .before .before .before .before .before .before .before .fits .n .fits) (c .before .before .before .before .before .decimal .ensures .1 .0)), puts-as (spelled _ (c .before .before .before .before .before .before .before .before .fits .n .fits) (c .before .before .before .before .before .decimal .ensures .1 .0) (c .before .before .before .before .before .decimal .ensures .1 .1)) (c .before .before .put .ensures .1))
+returns c =
+    let at-put = c .before .before in
+    let at-decimal = at-put .before .before .before in
+    let at-fits = at-decimal .before .before .before in (
+      omega (
+        arith,
+        at-put .put .ensures .0,
+        length-take (at-decimal .decimal .result) (at-decimal .decimal .last .1 .0),
+        twenty (at-fits .fits .n .fits) (at-decimal .decimal .ensures .1 .0),
+      ),
+      puts-as (spelled _ (at-fits .fits .n .fits) (at-decimal .decimal .ensures .1 .0) (at-decimal .decimal .ensures .1 .1)) (at-put .put .ensures .1),
+    )
 
 pub put-number-spec : {M : Type 1} → statement M
 put-number-spec =

@@ -46,7 +46,18 @@ same-length-3 : tie.Need-same-length-3
 same-length-3 c = search needs
 
 returns-3 : tie.Need-returns-3
-returns-3 c = (search needs, refused-at (c .before .before .before .before .before .before .before .before .before .before .before .before .before .before .before .before .before .before .before .before .before .before .args .why .place) (c .before .before .before .before .before .before .before .before .before .before .before .before .before .before .before .before .before .before .before .before .number-of .ensures) (c .before .before .before .before .before .before .before .before .before .before .if1 .left) (c .before .before .before .before .before .before .before .before .before .if2 .left) (search needs) (search needs) (c .before .before .before .before .before .before .before .before .before .before .before .before .before .before .before .before .before .put .ensures .1) (c .before .before .before .before .before .before .before .before .before .before .before .before .before .put-number .ensures .1) (c .before .before .before .before .before .before .put2 .ensures .1) (c .before .before .put-number2 .ensures .1))
+returns-3 c =
+    let at-put2 = c .before .before .before .before .before .before in
+    let at-if2 = at-put2 .before .before .before in
+    let at-if1 = at-if2 .before in
+    let at-put-number = at-if1 .before .before .before in
+    let at-put = at-put-number .before .before .before .before in
+    let at-number-of = at-put .before .before .before in
+    let start = at-number-of .before .before in (
+      search needs,
+      refused-at (start .args .why .place) (at-number-of .number-of .ensures) (at-if1 .if1 .left) (at-if2 .if2 .left) (search needs) (search needs) (at-put .put .ensures .1)
+          (at-put-number .put-number .ensures .1) (at-put2 .put2 .ensures .1) (c .before .before .put-number2 .ensures .1),
+    )
 
 pub put-refusal-spec : {M : Type 1} → statement M
 put-refusal-spec =

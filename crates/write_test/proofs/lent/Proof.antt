@@ -1,6 +1,6 @@
 -- `write_test::lent` meets its contract: the parts lie in the arrays. Assumes nothing.
 use borrow.Author.Needs.{needs}
-use Rattle.checks.specs.Room.{part-long}
+use Rattle.format.specs.Room.{part-long}
 use Rattle.write_test.proofs.lent.Statement.{statement}
 use Rattle.write_test.proofs.lent.Tie as tie
 

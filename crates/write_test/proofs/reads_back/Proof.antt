@@ -1,7 +1,7 @@
 -- `write_test::reads_back` meets its contract: the scratch has room for either format. Assumes nothing.
 use native.Mathlib.Omega.{arith}
 use borrow.Author.Needs.{needs}
-use Rattle.checks.specs.Room.{part-long, groups-most}
+use Rattle.format.specs.Room.{part-long, groups-most}
 use Rattle.write_test.proofs.reads_back.Statement.{statement}
 use Rattle.write_test.proofs.reads_back.Tie as tie
 

@@ -84,7 +84,16 @@ place-refusal-requires-2 c κs = search needs
 
 -- src/head.rt:136:9
 returns-3 : tie.Need-returns-3
-returns-3 c = ap refused (c .place-refusal2 .ensures) ∙ sym (group-no-spares _ _ _ _ _ (is-place _ _ _ _ _ (c .before .before .before .before .before .before .before .before .before .before .before .expect .ensures) (c .before .before .before .before .before .before .before .before .before .named .given .1)) _ _ _ (is-field _ _ _ _ _ (c .before .before .before .before .before .before .before .quantiser .ensures) (c .before .before .before .before .before .quantised .given .1)) _ (no-place _ _ 0 (c .before .before .before .spares .result) (c .before .before .match3 .keys2) (c .before .before .before .spares .ensures)))
+returns-3 c =
+    let at-spares = c .before .before .before in
+    let at-quantised = at-spares .before .before in
+    let at-quantiser = at-quantised .before .before in
+    let at-named = at-quantiser .before .before in
+    let at-expect = at-named .before .before in
+    ap refused (c .place-refusal2 .ensures) ∙ sym
+    (group-no-spares _ _ _ _ _ (is-place _ _ _ _ _ (at-expect .expect .ensures) (at-named .named .given .1)) _ _ _
+    (is-field _ _ _ _ _ (at-quantiser .quantiser .ensures) (at-quantised .quantised .given .1)) _
+    (no-place _ _ 0 (at-spares .spares .result) (c .before .before .match3 .keys2) (at-spares .spares .ensures)))
 
 -- src/head.rt:122:1
 returns-4 : tie.Need-returns-4

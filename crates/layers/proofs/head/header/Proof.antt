@@ -80,12 +80,32 @@ field-refusal-requires-2 c κs = search needs
 
 -- src/head.rt:156:9
 returns-3 : tie.Need-returns-3
-returns-3 c = ap refused (c .field-refusal2 .ensures) ∙ sym (header-no-type _ _ _ _ _ (is-place _ _ _ _ _ (c .before .before .before .before .before .before .before .before .before .before .before .expect .ensures) (c .before .before .before .before .before .before .before .before .before .started .given .1)) _ _ _ (is-field _ _ _ _ _ (c .before .before .before .before .before .before .before .field .ensures) (c .before .before .before .before .before .reference .given .1)) _ (no-field _ _ (c .before .before .before .ptype .result) (c .before .before .match3 .keys2) (c .before .before .before .ptype .ensures)))
+returns-3 c =
+    let at-ptype = c .before .before .before in
+    let at-reference = at-ptype .before .before in
+    let at-field = at-reference .before .before in
+    let at-started = at-field .before .before in
+    let at-expect = at-started .before .before in
+    ap refused (c .field-refusal2 .ensures) ∙ sym
+    (header-no-type _ _ _ _ _ (is-place _ _ _ _ _ (at-expect .expect .ensures) (at-started .started .given .1)) _ _ _
+    (is-field _ _ _ _ _ (at-field .field .ensures) (at-reference .reference .given .1)) _
+    (no-field _ _ (at-ptype .ptype .result) (c .before .before .match3 .keys2) (at-ptype .ptype .ensures)))
 
 -- src/head.rt:158:9
 spares-requires : tie.Need-spares-requires
 unfolding number
-spares-requires c κs = within-next _ _ _ _ _ (layers.ptype-reads (c .before .before .before .before .before .before .before .before .before .before .before .before .before .args .format)) (within-next _ _ _ _ _ (reads-field 5) (within-next _ _ _ _ _ (layers.expect-reads 20 16 NoStartCode tt) (c .before .before .before .before .before .before .before .before .before .before .before .before .before .pre) (is-place _ _ _ _ _ (c .before .before .before .before .before .before .before .before .before .before .before .expect .ensures) (c .before .before .before .before .before .before .before .before .before .started .given .1))) (is-field _ _ _ _ _ (c .before .before .before .before .before .before .before .field .ensures) (c .before .before .before .before .before .reference .given .1))) (is-field _ _ _ _ _ (c .before .before .before .ptype .ensures) (c .before .kind .given .1))
+spares-requires c κs =
+    let at-ptype = c .before .before .before in
+    let at-reference = at-ptype .before .before in
+    let at-field = at-reference .before .before in
+    let at-started = at-field .before .before in
+    let at-expect = at-started .before .before in
+    let start = at-expect .before .before in
+    within-next _ _ _ _ _ (layers.ptype-reads (start .args .format))
+    (within-next _ _ _ _ _ (reads-field 5)
+    (within-next _ _ _ _ _ (layers.expect-reads 20 16 NoStartCode tt) (start .pre) (is-place _ _ _ _ _ (at-expect .expect .ensures) (at-started .started .given .1)))
+    (is-field _ _ _ _ _ (at-field .field .ensures) (at-reference .reference .given .1)))
+    (is-field _ _ _ _ _ (at-ptype .ptype .ensures) (c .before .kind .given .1))
 
 -- src/head.rt:159:23
 enum-known-dropped : tie.Need-enum-known-dropped
@@ -101,12 +121,40 @@ place-refusal-requires-2 c κs = search needs
 
 -- src/head.rt:160:9
 returns-4 : tie.Need-returns-4
-returns-4 c = ap refused (c .place-refusal2 .ensures) ∙ sym (header-no-spares _ _ _ _ _ (is-place _ _ _ _ _ (c .before .before .before .before .before .before .before .before .before .before .before .before .before .before .before .expect .ensures) (c .before .before .before .before .before .before .before .before .before .before .before .before .before .started .given .1)) _ _ _ (is-field _ _ _ _ _ (c .before .before .before .before .before .before .before .before .before .before .before .field .ensures) (c .before .before .before .before .before .before .before .before .before .reference .given .1)) _ _ _ (is-field _ _ _ _ _ (c .before .before .before .before .before .before .before .ptype .ensures) (c .before .before .before .before .before .kind .given .1)) _ (no-place _ _ 0 (c .before .before .before .spares .result) (c .before .before .match4 .keys2) (c .before .before .before .spares .ensures)))
+returns-4 c =
+    let at-spares = c .before .before .before in
+    let at-kind = at-spares .before .before in
+    let at-ptype = at-kind .before .before in
+    let at-reference = at-ptype .before .before in
+    let at-field = at-reference .before .before in
+    let at-started = at-field .before .before in
+    let at-expect = at-started .before .before in
+    ap refused (c .place-refusal2 .ensures) ∙ sym
+    (header-no-spares _ _ _ _ _ (is-place _ _ _ _ _ (at-expect .expect .ensures) (at-started .started .given .1)) _ _ _
+    (is-field _ _ _ _ _ (at-field .field .ensures) (at-reference .reference .given .1)) _ _ _ (is-field _ _ _ _ _ (at-ptype .ptype .ensures) (at-kind .kind .given .1)) _
+    (no-place _ _ 0 (at-spares .spares .result) (c .before .before .match4 .keys2) (at-spares .spares .ensures)))
 
 -- src/head.rt:162:9
 expect-requires-2 : tie.Need-expect-requires-2
 unfolding number
-expect-requires-2 c κs = (within-next _ _ _ _ _ (layers.spares-reads) (within-next _ _ _ _ _ (layers.ptype-reads (c .before .before .before .before .before .before .before .before .before .before .before .before .before .before .before .before .before .args .format)) (within-next _ _ _ _ _ (reads-field 5) (within-next _ _ _ _ _ (layers.expect-reads 20 16 NoStartCode tt) (c .before .before .before .before .before .before .before .before .before .before .before .before .before .before .before .before .before .pre) (is-place _ _ _ _ _ (c .before .before .before .before .before .before .before .before .before .before .before .before .before .before .before .expect .ensures) (c .before .before .before .before .before .before .before .before .before .before .before .before .before .started .given .1))) (is-field _ _ _ _ _ (c .before .before .before .before .before .before .before .before .before .before .before .field .ensures) (c .before .before .before .before .before .before .before .before .before .reference .given .1))) (is-field _ _ _ _ _ (c .before .before .before .before .before .before .before .ptype .ensures) (c .before .before .before .before .before .kind .given .1))) (is-place _ _ _ _ _ (c .before .before .before .spares .ensures) (c .before .dropped .given .1)), search needs)
+expect-requires-2 c κs =
+    let at-spares = c .before .before .before in
+    let at-kind = at-spares .before .before in
+    let at-ptype = at-kind .before .before in
+    let at-reference = at-ptype .before .before in
+    let at-field = at-reference .before .before in
+    let at-started = at-field .before .before in
+    let at-expect = at-started .before .before in
+    let start = at-expect .before .before in (
+      within-next _ _ _ _ _ (layers.spares-reads)
+          (within-next _ _ _ _ _ (layers.ptype-reads (start .args .format))
+          (within-next _ _ _ _ _ (reads-field 5)
+          (within-next _ _ _ _ _ (layers.expect-reads 20 16 NoStartCode tt) (start .pre) (is-place _ _ _ _ _ (at-expect .expect .ensures) (at-started .started .given .1)))
+          (is-field _ _ _ _ _ (at-field .field .ensures) (at-reference .reference .given .1)))
+          (is-field _ _ _ _ _ (at-ptype .ptype .ensures) (at-kind .kind .given .1)))
+          (is-place _ _ _ _ _ (at-spares .spares .ensures) (c .before .dropped .given .1)),
+      search needs,
+    )
 
 -- src/head.rt:163:23
 enum-known-group : tie.Need-enum-known-group
@@ -122,21 +170,70 @@ place-refusal-requires-3 c κs = search needs
 
 -- src/head.rt:164:9
 returns-5 : tie.Need-returns-5
-returns-5 c = ap refused (c .place-refusal3 .ensures) ∙ sym (header-no-group _ _ _ _ _ (is-place _ _ _ _ _ (c .before .before .before .before .before .before .before .before .before .before .before .before .before .before .before .before .before .before .before .expect .ensures) (c .before .before .before .before .before .before .before .before .before .before .before .before .before .before .before .before .before .started .given .1)) _ _ _ (is-field _ _ _ _ _ (c .before .before .before .before .before .before .before .before .before .before .before .before .before .before .before .field .ensures) (c .before .before .before .before .before .before .before .before .before .before .before .before .before .reference .given .1)) _ _ _ (is-field _ _ _ _ _ (c .before .before .before .before .before .before .before .before .before .before .before .ptype .ensures) (c .before .before .before .before .before .before .before .before .before .kind .given .1)) _ _ (is-place _ _ _ _ _ (c .before .before .before .before .before .before .before .spares .ensures) (c .before .before .before .before .before .dropped .given .1)) _ (no-place _ _ 1 (c .before .before .before .expect2 .result) (c .before .before .match5 .keys2) (c .before .before .before .expect2 .ensures)))
+returns-5 c =
+    let at-expect2 = c .before .before .before in
+    let at-dropped = at-expect2 .before .before in
+    let at-spares = at-dropped .before .before in
+    let at-kind = at-spares .before .before in
+    let at-ptype = at-kind .before .before in
+    let at-reference = at-ptype .before .before in
+    let at-field = at-reference .before .before in
+    let at-started = at-field .before .before in
+    let at-expect = at-started .before .before in
+    ap refused (c .place-refusal3 .ensures) ∙ sym
+    (header-no-group _ _ _ _ _ (is-place _ _ _ _ _ (at-expect .expect .ensures) (at-started .started .given .1)) _ _ _
+    (is-field _ _ _ _ _ (at-field .field .ensures) (at-reference .reference .given .1)) _ _ _ (is-field _ _ _ _ _ (at-ptype .ptype .ensures) (at-kind .kind .given .1)) _ _
+    (is-place _ _ _ _ _ (at-spares .spares .ensures) (at-dropped .dropped .given .1)) _
+    (no-place _ _ 1 (at-expect2 .expect2 .result) (c .before .before .match5 .keys2) (at-expect2 .expect2 .ensures)))
 
 -- src/head.rt:166:21
 cast-t23 : tie.Need-cast-t23
 unfolding number
-cast-t23 c = let g = onward _ _ _ _ _ (reads-field 5) ((within-next _ _ _ _ _ (layers.expect-reads 20 16 NoStartCode tt) (c .before .before .before .before .before .before .before .before .before .before .before .before .before .before .before .before .before .before .before .before .before .pre) (is-place _ _ _ _ _ (c .before .before .before .before .before .before .before .before .before .before .before .before .before .before .before .before .before .before .before .expect .ensures) (c .before .before .before .before .before .before .before .before .before .before .before .before .before .before .before .before .before .started .given .1))) .inside) (is-field _ _ _ _ _ (c .before .before .before .before .before .before .before .before .before .before .before .before .before .before .before .field .ensures) (c .before .before .before .before .before .before .before .before .before .before .before .before .before .reference .given .1)) in omega (arith, g .good)
+cast-t23 c =
+    let at-reference = c .before .before .before .before .before .before .before .before .before .before .before .before .before in
+    let at-field = at-reference .before .before in
+    let at-started = at-field .before .before in
+    let at-expect = at-started .before .before in
+    let start = at-expect .before .before in
+    let g = onward _ _ _ _ _ (reads-field 5)
+    ((within-next _ _ _ _ _ (layers.expect-reads 20 16 NoStartCode tt) (start .pre) (is-place _ _ _ _ _ (at-expect .expect .ensures) (at-started .started .given .1))) .inside)
+    (is-field _ _ _ _ _ (at-field .field .ensures) (at-reference .reference .given .1)) in
+    omega (arith, g .good)
 
 -- src/head.rt:166:31
 cast-t24 : tie.Need-cast-t24
 unfolding number
-cast-t24 c = let g = onward _ _ _ _ _ (layers.ptype-reads (c .before .before .before .before .before .before .before .before .before .before .before .before .before .before .before .before .before .before .before .before .before .args .format)) ((within-next _ _ _ _ _ (reads-field 5) (within-next _ _ _ _ _ (layers.expect-reads 20 16 NoStartCode tt) (c .before .before .before .before .before .before .before .before .before .before .before .before .before .before .before .before .before .before .before .before .before .pre) (is-place _ _ _ _ _ (c .before .before .before .before .before .before .before .before .before .before .before .before .before .before .before .before .before .before .before .expect .ensures) (c .before .before .before .before .before .before .before .before .before .before .before .before .before .before .before .before .before .started .given .1))) (is-field _ _ _ _ _ (c .before .before .before .before .before .before .before .before .before .before .before .before .before .before .before .field .ensures) (c .before .before .before .before .before .before .before .before .before .before .before .before .before .reference .given .1))) .inside) (is-field _ _ _ _ _ (c .before .before .before .before .before .before .before .before .before .before .before .ptype .ensures) (c .before .before .before .before .before .before .before .before .before .kind .given .1)) in omega (arith, g .good)
+cast-t24 c =
+    let at-kind = c .before .before .before .before .before .before .before .before .before in
+    let at-ptype = at-kind .before .before in
+    let at-reference = at-ptype .before .before in
+    let at-field = at-reference .before .before in
+    let at-started = at-field .before .before in
+    let at-expect = at-started .before .before in
+    let start = at-expect .before .before in
+    let g = onward _ _ _ _ _ (layers.ptype-reads (start .args .format))
+    ((within-next _ _ _ _ _ (reads-field 5)
+    (within-next _ _ _ _ _ (layers.expect-reads 20 16 NoStartCode tt) (start .pre) (is-place _ _ _ _ _ (at-expect .expect .ensures) (at-started .started .given .1)))
+    (is-field _ _ _ _ _ (at-field .field .ensures) (at-reference .reference .given .1))) .inside)
+    (is-field _ _ _ _ _ (at-ptype .ptype .ensures) (at-kind .kind .given .1)) in
+    omega (arith, g .good)
 
 -- src/head.rt:142:1
 returns-6 : tie.Need-returns-6
-returns-6 c = sym (header-whole _ _ _ _ _ (is-place _ _ _ _ _ (c .before .before .before .before .before .before .before .before .before .before .before .before .before .before .before .before .before .before .before .expect .ensures) (c .before .before .before .before .before .before .before .before .before .before .before .before .before .before .before .before .before .started .given .1)) _ _ _ (is-field _ _ _ _ _ (c .before .before .before .before .before .before .before .before .before .before .before .before .before .before .before .field .ensures) (c .before .before .before .before .before .before .before .before .before .before .before .before .before .reference .given .1)) _ _ _ (is-field _ _ _ _ _ (c .before .before .before .before .before .before .before .before .before .before .before .ptype .ensures) (c .before .before .before .before .before .before .before .before .before .kind .given .1)) _ _ (is-place _ _ _ _ _ (c .before .before .before .before .before .before .before .spares .ensures) (c .before .before .before .before .before .dropped .given .1)) _ _ (is-place _ _ _ _ _ (c .before .before .before .expect2 .ensures) (c .before .group .given .1)))
+returns-6 c =
+    let at-expect2 = c .before .before .before in
+    let at-dropped = at-expect2 .before .before in
+    let at-spares = at-dropped .before .before in
+    let at-kind = at-spares .before .before in
+    let at-ptype = at-kind .before .before in
+    let at-reference = at-ptype .before .before in
+    let at-field = at-reference .before .before in
+    let at-started = at-field .before .before in
+    let at-expect = at-started .before .before in
+    sym
+    (header-whole _ _ _ _ _ (is-place _ _ _ _ _ (at-expect .expect .ensures) (at-started .started .given .1)) _ _ _
+    (is-field _ _ _ _ _ (at-field .field .ensures) (at-reference .reference .given .1)) _ _ _ (is-field _ _ _ _ _ (at-ptype .ptype .ensures) (at-kind .kind .given .1)) _ _
+    (is-place _ _ _ _ _ (at-spares .spares .ensures) (at-dropped .dropped .given .1)) _ _ (is-place _ _ _ _ _ (at-expect2 .expect2 .ensures) (c .before .group .given .1)))
 
 pub header-spec : {M : Type 1} → statement M
 header-spec =

@@ -47,7 +47,11 @@ word-refusal-requires c κs = search needs
 
 -- src/macroblock.rt:213:9
 returns : tie.Need-returns
-returns c = ap refused (c .word-refusal .ensures) ∙ no-type (c .before .before .before .before .before .before .before .args .format) (c .before .before .before .before .before .before .before .args .number) (c .before .before .before .before .before .before .before .args .group) (beforeOf (c .before .before .before .before .before .before .before .args .behind)) (c .before .before .before .before .before .before .before .args .step) (c .before .before .before .before .before .before .before .args .macroblocks .now) (c .before .before .before .before .before .before .before .args .levels .now) _ _ _ (no-word _ _ (c .before .before .before .mtype .result) (c .before .before .match .keys2) (c .before .before .before .mtype .ensures))
+returns c =
+    let at-mtype = c .before .before .before in
+    let start = at-mtype .before .before .before .before in
+    ap refused (c .word-refusal .ensures) ∙ no-type (start .args .format) (start .args .number) (start .args .group) (beforeOf (start .args .behind)) (start .args .step)
+    (start .args .macroblocks .now) (start .args .levels .now) _ _ _ (no-word _ _ (at-mtype .mtype .result) (c .before .before .match .keys2) (at-mtype .mtype .ensures))
 
 -- src/macroblock.rt:215:9
 mquant-requires : tie.Need-mquant-requires
@@ -67,11 +71,34 @@ field-refusal-requires c κs = search needs
 
 -- src/macroblock.rt:217:9
 returns-2 : tie.Need-returns-2
-returns-2 c = ap refused (c .field-refusal .ensures) ∙ no-quantiser (c .before .before .before .before .before .before .before .before .before .before .before .args .format) (c .before .before .before .before .before .before .before .before .before .before .before .args .number) (c .before .before .before .before .before .before .before .before .before .before .before .args .group) (beforeOf (c .before .before .before .before .before .before .before .before .before .before .before .args .behind)) (c .before .before .before .before .before .before .before .before .before .before .before .args .step) (c .before .before .before .before .before .before .before .before .before .before .before .args .macroblocks .now) (c .before .before .before .before .before .before .before .before .before .before .before .args .levels .now) _ _ (c .before .before .before .before .before .kind .given .0 .0) _ _ (is-word _ _ _ _ _ (c .before .before .before .before .before .before .before .mtype .ensures) (c .before .before .before .before .before .kind .given .1)) _ (no-field _ _ (c .before .before .before .mquant .result) (c .before .before .match2 .keys2) (c .before .before .before .mquant .ensures))
+returns-2 c =
+    let at-mquant = c .before .before .before in
+    let at-kind = at-mquant .before .before in
+    let at-mtype = at-kind .before .before in
+    let start = at-mtype .before .before .before .before in
+    ap refused (c .field-refusal .ensures) ∙ no-quantiser (start .args .format) (start .args .number) (start .args .group) (beforeOf (start .args .behind))
+    (start .args .step) (start .args .macroblocks .now) (start .args .levels .now) _ _ (at-kind .kind .given .0 .0) _ _
+    (is-word _ _ _ _ _ (at-mtype .mtype .ensures) (at-kind .kind .given .1)) _
+    (no-field _ _ (at-mquant .mquant .result) (c .before .before .match2 .keys2) (at-mquant .mquant .ensures))
 
 -- src/macroblock.rt:219:9
 moved-requires : tie.Need-moved-requires
-moved-requires c κs = (c .before .before .before .before .before .before .before .before .before .before .before .pre .0, within-next _ _ _ _ _ (layers.optional-reads (hasMQUANT (c .before .before .before .before .before .kind .given .0 .0)) 0 (λ y. layers.quantiser-reads)) (within-next _ _ _ _ _ (reads-word layers.typed table2 layers.table2-meanings) (c .before .before .before .before .before .before .before .before .before .before .before .pre .1) (is-word _ _ _ _ _ (c .before .before .before .before .before .before .before .mtype .ensures) (c .before .before .before .before .before .kind .given .1))) (is-field _ _ _ _ _ (c .before .before .before .mquant .ensures) (c .before .quantised .given .1)), c .before .before .before .before .before .before .before .before .before .before .before .pre .2, c .before .before .before .before .before .before .before .before .before .before .before .pre .3, c .before .before .before .before .before .before .before .before .before .before .before .pre .5, c .before .before .before .before .before .before .before .before .before .before .before .pre .6, c .before .before .before .before .before .before .before .before .before .before .before .pre .7, type-typed _ _ _ _ _ (c .before .before .before .before .before .before .before .before .before .before .before .pre .1 .inside) (is-word _ _ _ _ _ (c .before .before .before .before .before .before .before .mtype .ensures) (c .before .before .before .before .before .kind .given .1)))
+moved-requires c κs =
+    let at-mquant = c .before .before .before in
+    let at-kind = at-mquant .before .before in
+    let at-mtype = at-kind .before .before in
+    let start = at-mtype .before .before .before .before in (
+      start .pre .0,
+      within-next _ _ _ _ _ (layers.optional-reads (hasMQUANT (at-kind .kind .given .0 .0)) 0 (λ y. layers.quantiser-reads))
+          (within-next _ _ _ _ _ (reads-word layers.typed table2 layers.table2-meanings) (start .pre .1) (is-word _ _ _ _ _ (at-mtype .mtype .ensures) (at-kind .kind .given .1)))
+          (is-field _ _ _ _ _ (at-mquant .mquant .ensures) (c .before .quantised .given .1)),
+      start .pre .2,
+      start .pre .3,
+      start .pre .5,
+      start .pre .6,
+      start .pre .7,
+      type-typed _ _ _ _ _ (start .pre .1 .inside) (is-word _ _ _ _ _ (at-mtype .mtype .ensures) (at-kind .kind .given .1)),
+    )
 
 -- src/macroblock.rt:230:25
 enum-known-pointed : tie.Need-enum-known-pointed
@@ -87,11 +114,38 @@ vector-refusal-requires c κs = search needs
 
 -- src/macroblock.rt:231:9
 returns-3 : tie.Need-returns-3
-returns-3 c = ap refused (c .vector-refusal .ensures) ∙ no-pointing (c .before .before .before .before .before .before .before .before .before .before .before .before .before .before .before .args .format) (c .before .before .before .before .before .before .before .before .before .before .before .before .before .before .before .args .number) (c .before .before .before .before .before .before .before .before .before .before .before .before .before .before .before .args .group) (beforeOf (c .before .before .before .before .before .before .before .before .before .before .before .before .before .before .before .args .behind)) (c .before .before .before .before .before .before .before .before .before .before .before .before .before .before .before .args .step) (c .before .before .before .before .before .before .before .before .before .before .before .before .before .before .before .args .macroblocks .now) (c .before .before .before .before .before .before .before .before .before .before .before .before .before .before .before .args .levels .now) _ _ (c .before .before .before .before .before .before .before .before .before .kind .given .0 .0) _ _ (is-word _ _ _ _ _ (c .before .before .before .before .before .before .before .before .before .before .before .mtype .ensures) (c .before .before .before .before .before .before .before .before .before .kind .given .1)) _ _ _ (is-field _ _ _ _ _ (c .before .before .before .before .before .before .before .mquant .ensures) (c .before .before .before .before .before .quantised .given .1)) _ (no-vector _ _ (c .before .before .before .moved .result) (c .before .before .match3 .keys2) (c .before .before .before .moved .ensures))
+returns-3 c =
+    let at-moved = c .before .before .before in
+    let at-quantised = at-moved .before .before in
+    let at-mquant = at-quantised .before .before in
+    let at-kind = at-mquant .before .before in
+    let at-mtype = at-kind .before .before in
+    let start = at-mtype .before .before .before .before in
+    ap refused (c .vector-refusal .ensures) ∙ no-pointing (start .args .format) (start .args .number) (start .args .group) (beforeOf (start .args .behind))
+    (start .args .step) (start .args .macroblocks .now) (start .args .levels .now) _ _ (at-kind .kind .given .0 .0) _ _
+    (is-word _ _ _ _ _ (at-mtype .mtype .ensures) (at-kind .kind .given .1)) _ _ _ (is-field _ _ _ _ _ (at-mquant .mquant .ensures) (at-quantised .quantised .given .1)) _
+    (no-vector _ _ (at-moved .moved .result) (c .before .before .match3 .keys2) (at-moved .moved .ensures))
 
 -- src/macroblock.rt:233:9
 pattern-requires : tie.Need-pattern-requires
-pattern-requires c κs = (c .before .before .before .before .before .before .before .before .before .before .before .before .before .before .before .pre .0, within-next _ _ _ _ _ (layers.optional-reads (isMC (c .before .before .before .before .before .before .before .before .before .kind .given .0 .0)) zeroVector (λ y. layers.vector-reads (c .before .before .before .before .before .before .before .before .before .before .before .before .before .before .before .args .format) (c .before .before .before .before .before .before .before .before .before .before .before .before .before .before .before .args .number) (c .before .before .before .before .before .before .before .before .before .before .before .before .before .before .before .args .behind .address + c .before .before .before .before .before .before .before .before .before .before .before .before .before .before .before .args .step) (preceding (beforeOf (c .before .before .before .before .before .before .before .before .before .before .before .before .before .before .before .args .behind)) (c .before .before .before .before .before .before .before .before .before .before .before .before .before .before .before .args .step)))) (within-next _ _ _ _ _ (layers.optional-reads (hasMQUANT (c .before .before .before .before .before .before .before .before .before .kind .given .0 .0)) 0 (λ y. layers.quantiser-reads)) (within-next _ _ _ _ _ (reads-word layers.typed table2 layers.table2-meanings) (c .before .before .before .before .before .before .before .before .before .before .before .before .before .before .before .pre .1) (is-word _ _ _ _ _ (c .before .before .before .before .before .before .before .before .before .before .before .mtype .ensures) (c .before .before .before .before .before .before .before .before .before .kind .given .1))) (is-field _ _ _ _ _ (c .before .before .before .before .before .before .before .mquant .ensures) (c .before .before .before .before .before .quantised .given .1))) (is-vector _ _ _ _ _ _ (c .before .before .before .moved .ensures) (c .before .pointed .given .1)), type-typed _ _ _ _ _ (c .before .before .before .before .before .before .before .before .before .before .before .before .before .before .before .pre .1 .inside) (is-word _ _ _ _ _ (c .before .before .before .before .before .before .before .before .before .before .before .mtype .ensures) (c .before .before .before .before .before .before .before .before .before .kind .given .1)))
+pattern-requires c κs =
+    let at-moved = c .before .before .before in
+    let at-quantised = at-moved .before .before in
+    let at-mquant = at-quantised .before .before in
+    let at-kind = at-mquant .before .before in
+    let at-mtype = at-kind .before .before in
+    let start = at-mtype .before .before .before .before in
+    let step = start .args .step in (
+      start .pre .0,
+      within-next _ _ _ _ _
+          (layers.optional-reads (isMC (at-kind .kind .given .0 .0)) zeroVector
+          (λ y. layers.vector-reads (start .args .format) (start .args .number) (start .args .behind .address + step) (preceding (beforeOf (start .args .behind)) step)))
+          (within-next _ _ _ _ _ (layers.optional-reads (hasMQUANT (at-kind .kind .given .0 .0)) 0 (λ y. layers.quantiser-reads))
+          (within-next _ _ _ _ _ (reads-word layers.typed table2 layers.table2-meanings) (start .pre .1) (is-word _ _ _ _ _ (at-mtype .mtype .ensures) (at-kind .kind .given .1)))
+          (is-field _ _ _ _ _ (at-mquant .mquant .ensures) (at-quantised .quantised .given .1)))
+          (is-vector _ _ _ _ _ _ (at-moved .moved .ensures) (c .before .pointed .given .1)),
+      type-typed _ _ _ _ _ (start .pre .1 .inside) (is-word _ _ _ _ _ (at-mtype .mtype .ensures) (at-kind .kind .given .1)),
+    )
 
 -- src/macroblock.rt:234:23
 enum-known-coded : tie.Need-enum-known-coded
@@ -107,7 +161,20 @@ word-refusal-requires-2 c κs = search needs
 
 -- src/macroblock.rt:235:9
 returns-4 : tie.Need-returns-4
-returns-4 c = ap refused (c .word-refusal2 .ensures) ∙ no-pattern (c .before .before .before .before .before .before .before .before .before .before .before .before .before .before .before .before .before .before .before .args .format) (c .before .before .before .before .before .before .before .before .before .before .before .before .before .before .before .before .before .before .before .args .number) (c .before .before .before .before .before .before .before .before .before .before .before .before .before .before .before .before .before .before .before .args .group) (beforeOf (c .before .before .before .before .before .before .before .before .before .before .before .before .before .before .before .before .before .before .before .args .behind)) (c .before .before .before .before .before .before .before .before .before .before .before .before .before .before .before .before .before .before .before .args .step) (c .before .before .before .before .before .before .before .before .before .before .before .before .before .before .before .before .before .before .before .args .macroblocks .now) (c .before .before .before .before .before .before .before .before .before .before .before .before .before .before .before .before .before .before .before .args .levels .now) _ _ (c .before .before .before .before .before .before .before .before .before .before .before .before .before .kind .given .0 .0) _ _ (is-word _ _ _ _ _ (c .before .before .before .before .before .before .before .before .before .before .before .before .before .before .before .mtype .ensures) (c .before .before .before .before .before .before .before .before .before .before .before .before .before .kind .given .1)) _ _ _ (is-field _ _ _ _ _ (c .before .before .before .before .before .before .before .before .before .before .before .mquant .ensures) (c .before .before .before .before .before .before .before .before .before .quantised .given .1)) _ _ _ (is-vector _ _ _ _ _ _ (c .before .before .before .before .before .before .before .moved .ensures) (c .before .before .before .before .before .pointed .given .1)) _ (no-word _ _ (c .before .before .before .pattern .result) (c .before .before .match4 .keys2) (c .before .before .before .pattern .ensures))
+returns-4 c =
+    let at-pattern = c .before .before .before in
+    let at-pointed = at-pattern .before .before in
+    let at-moved = at-pointed .before .before in
+    let at-quantised = at-moved .before .before in
+    let at-mquant = at-quantised .before .before in
+    let at-kind = at-mquant .before .before in
+    let at-mtype = at-kind .before .before in
+    let start = at-mtype .before .before .before .before in
+    ap refused (c .word-refusal2 .ensures) ∙ no-pattern (start .args .format) (start .args .number) (start .args .group) (beforeOf (start .args .behind)) (start .args .step)
+    (start .args .macroblocks .now) (start .args .levels .now) _ _ (at-kind .kind .given .0 .0) _ _ (is-word _ _ _ _ _ (at-mtype .mtype .ensures) (at-kind .kind .given .1)) _
+    _ _ (is-field _ _ _ _ _ (at-mquant .mquant .ensures) (at-quantised .quantised .given .1)) _ _ _
+    (is-vector _ _ _ _ _ _ (at-moved .moved .ensures) (at-pointed .pointed .given .1)) _
+    (no-word _ _ (at-pattern .pattern .result) (c .before .before .match4 .keys2) (at-pattern .pattern .ensures))
 
 -- src/macroblock.rt:237:19
 add-address : tie.Need-add-address
@@ -135,7 +202,29 @@ mul-blocks c = omega (arith, c .before .before .before .before .before .before .
 
 -- src/macroblock.rt:240:9
 blocks-requires : tie.Need-blocks-requires
-blocks-requires c κs = (c .before .before .before .before .before .before .before .before .before .before .before .before .before .before .before .before .before .before .before .before .before .before .pre .0, within-next _ _ _ _ _ (layers.pattern-reads (c .before .before .before .before .before .before .before .before .before .before .before .before .before .before .before .before .kind .given .0 .0)) (within-next _ _ _ _ _ (layers.optional-reads (isMC (c .before .before .before .before .before .before .before .before .before .before .before .before .before .before .before .before .kind .given .0 .0)) zeroVector (λ y. layers.vector-reads (c .before .before .before .before .before .before .before .before .before .before .before .before .before .before .before .before .before .before .before .before .before .before .args .format) (c .before .before .before .before .before .before .before .before .before .before .before .before .before .before .before .before .before .before .before .before .before .before .args .number) (c .before .before .before .before .before .before .before .before .before .before .before .before .before .before .before .before .before .before .before .before .before .before .args .behind .address + c .before .before .before .before .before .before .before .before .before .before .before .before .before .before .before .before .before .before .before .before .before .before .args .step) (preceding (beforeOf (c .before .before .before .before .before .before .before .before .before .before .before .before .before .before .before .before .before .before .before .before .before .before .args .behind)) (c .before .before .before .before .before .before .before .before .before .before .before .before .before .before .before .before .before .before .before .before .before .before .args .step)))) (within-next _ _ _ _ _ (layers.optional-reads (hasMQUANT (c .before .before .before .before .before .before .before .before .before .before .before .before .before .before .before .before .kind .given .0 .0)) 0 (λ y. layers.quantiser-reads)) (within-next _ _ _ _ _ (reads-word layers.typed table2 layers.table2-meanings) (c .before .before .before .before .before .before .before .before .before .before .before .before .before .before .before .before .before .before .before .before .before .before .pre .1) (is-word _ _ _ _ _ (c .before .before .before .before .before .before .before .before .before .before .before .before .before .before .before .before .before .before .mtype .ensures) (c .before .before .before .before .before .before .before .before .before .before .before .before .before .before .before .before .kind .given .1))) (is-field _ _ _ _ _ (c .before .before .before .before .before .before .before .before .before .before .before .before .before .before .mquant .ensures) (c .before .before .before .before .before .before .before .before .before .before .before .before .quantised .given .1))) (is-vector _ _ _ _ _ _ (c .before .before .before .before .before .before .before .before .before .before .moved .ensures) (c .before .before .before .before .before .before .before .before .pointed .given .1))) (is-word _ _ _ _ _ (c .before .before .before .before .before .before .pattern .ensures) (c .before .before .before .before .coded .given .1)), omega (arith, c .before .before .before .before .before .before .before .before .before .before .before .before .before .before .before .before .before .before .before .before .before .before .pre .6, c .before .before .before .before .before .before .before .before .before .before .before .before .before .before .before .before .before .before .before .before .before .before .pre .9))
+blocks-requires c κs =
+    let at-coded = c .before .before .before .before in
+    let at-pattern = at-coded .before .before in
+    let at-pointed = at-pattern .before .before in
+    let at-moved = at-pointed .before .before in
+    let at-quantised = at-moved .before .before in
+    let at-mquant = at-quantised .before .before in
+    let at-kind = at-mquant .before .before in
+    let at-mtype = at-kind .before .before in
+    let start = at-mtype .before .before .before .before in
+    let step = start .args .step in (
+      start .pre .0,
+      within-next _ _ _ _ _ (layers.pattern-reads (at-kind .kind .given .0 .0))
+          (within-next _ _ _ _ _
+          (layers.optional-reads (isMC (at-kind .kind .given .0 .0)) zeroVector
+          (λ y. layers.vector-reads (start .args .format) (start .args .number) (start .args .behind .address + step) (preceding (beforeOf (start .args .behind)) step)))
+          (within-next _ _ _ _ _ (layers.optional-reads (hasMQUANT (at-kind .kind .given .0 .0)) 0 (λ y. layers.quantiser-reads))
+          (within-next _ _ _ _ _ (reads-word layers.typed table2 layers.table2-meanings) (start .pre .1) (is-word _ _ _ _ _ (at-mtype .mtype .ensures) (at-kind .kind .given .1)))
+          (is-field _ _ _ _ _ (at-mquant .mquant .ensures) (at-quantised .quantised .given .1)))
+          (is-vector _ _ _ _ _ _ (at-moved .moved .ensures) (at-pointed .pointed .given .1)))
+          (is-word _ _ _ _ _ (at-pattern .pattern .ensures) (at-coded .coded .given .1)),
+      omega (arith, start .pre .6, start .pre .9),
+    )
 
 -- src/macroblock.rt:250:23
 enum-known-sent : tie.Need-enum-known-sent
@@ -155,7 +244,24 @@ same-length c = search needs
 
 -- src/macroblock.rt:251:9
 returns-5 : tie.Need-returns-5
-returns-5 c = ap refused (c .place-refusal .ensures) ∙ no-blocks (c .before .before .before .before .before .before .before .before .before .before .before .before .before .before .before .before .before .before .before .before .before .before .before .before .before .before .before .before .args .format) (c .before .before .before .before .before .before .before .before .before .before .before .before .before .before .before .before .before .before .before .before .before .before .before .before .before .before .before .before .args .number) (c .before .before .before .before .before .before .before .before .before .before .before .before .before .before .before .before .before .before .before .before .before .before .before .before .before .before .before .before .args .group) (beforeOf (c .before .before .before .before .before .before .before .before .before .before .before .before .before .before .before .before .before .before .before .before .before .before .before .before .before .before .before .before .args .behind)) (c .before .before .before .before .before .before .before .before .before .before .before .before .before .before .before .before .before .before .before .before .before .before .before .before .before .before .before .before .args .step) (c .before .before .before .before .before .before .before .before .before .before .before .before .before .before .before .before .before .before .before .before .before .before .before .before .before .before .before .before .args .macroblocks .now) (c .before .before .before .before .before .before .before .before .before .before .before .before .before .before .before .before .before .before .before .before .before .before .before .before .before .before .before .before .args .levels .now) _ _ (c .before .before .before .before .before .before .before .before .before .before .before .before .before .before .before .before .before .before .before .before .before .before .kind .given .0 .0) _ _ (is-word _ _ _ _ _ (c .before .before .before .before .before .before .before .before .before .before .before .before .before .before .before .before .before .before .before .before .before .before .before .before .mtype .ensures) (c .before .before .before .before .before .before .before .before .before .before .before .before .before .before .before .before .before .before .before .before .before .before .kind .given .1)) _ _ _ (is-field _ _ _ _ _ (c .before .before .before .before .before .before .before .before .before .before .before .before .before .before .before .before .before .before .before .before .mquant .ensures) (c .before .before .before .before .before .before .before .before .before .before .before .before .before .before .before .before .before .before .quantised .given .1)) _ _ _ (is-vector _ _ _ _ _ _ (c .before .before .before .before .before .before .before .before .before .before .before .before .before .before .before .before .moved .ensures) (c .before .before .before .before .before .before .before .before .before .before .before .before .before .before .pointed .given .1)) _ _ _ (is-word _ _ _ _ _ (c .before .before .before .before .before .before .before .before .before .before .before .before .pattern .ensures) (c .before .before .before .before .before .before .before .before .before .before .coded .given .1)) (c .before .before .before .before .before .before .before .is-intra .result) (c .before .before .before .before .before .before .before .is-intra .ensures) _ refl _ (no-place _ _ _ (c .before .before .before .before .before .blocks2 .result) (c .before .before .match5 .keys2) (c .before .before .before .before .before .blocks2 .ensures))
+returns-5 c =
+    let at-blocks2 = c .before .before .before .before .before in
+    let at-is-intra = at-blocks2 .before .before in
+    let at-coded = at-is-intra .before .before .before in
+    let at-pattern = at-coded .before .before in
+    let at-pointed = at-pattern .before .before in
+    let at-moved = at-pointed .before .before in
+    let at-quantised = at-moved .before .before in
+    let at-mquant = at-quantised .before .before in
+    let at-kind = at-mquant .before .before in
+    let at-mtype = at-kind .before .before in
+    let start = at-mtype .before .before .before .before in
+    ap refused (c .place-refusal .ensures) ∙ no-blocks (start .args .format) (start .args .number) (start .args .group) (beforeOf (start .args .behind)) (start .args .step)
+    (start .args .macroblocks .now) (start .args .levels .now) _ _ (at-kind .kind .given .0 .0) _ _ (is-word _ _ _ _ _ (at-mtype .mtype .ensures) (at-kind .kind .given .1)) _
+    _ _ (is-field _ _ _ _ _ (at-mquant .mquant .ensures) (at-quantised .quantised .given .1)) _ _ _
+    (is-vector _ _ _ _ _ _ (at-moved .moved .ensures) (at-pointed .pointed .given .1)) _ _ _ (is-word _ _ _ _ _ (at-pattern .pattern .ensures) (at-coded .coded .given .1))
+    (at-is-intra .is-intra .result) (at-is-intra .is-intra .ensures) _ refl _
+    (no-place _ _ _ (at-blocks2 .blocks2 .result) (c .before .before .match5 .keys2) (at-blocks2 .blocks2 .ensures))
 
 -- src/macroblock.rt:255:9
 mul-put-fields : tie.Need-mul-put-fields
@@ -163,15 +269,51 @@ mul-put-fields c = omega (arith, c .before .before .before .before .before .befo
 
 -- src/macroblock.rt:256:9
 cast-put-fields : tie.Need-cast-put-fields
-cast-put-fields c = let t = type-typed _ _ _ _ _ (c .before .before .before .before .before .before .before .before .before .before .before .before .before .before .before .before .before .before .before .before .before .before .before .before .before .before .before .before .before .pre .1 .inside) (is-word _ _ _ _ _ (c .before .before .before .before .before .before .before .before .before .before .before .before .before .before .before .before .before .before .before .before .before .before .before .before .before .mtype .ensures) (c .before .before .before .before .before .before .before .before .before .before .before .before .before .before .before .before .before .before .before .before .before .before .before .kind .given .1)) in omega (arith, t .high)
+cast-put-fields c =
+    let at-kind = c .before .before .before .before .before .before .before .before .before .before .before .before .before .before .before .before .before .before .before .before .before .before .before in
+    let at-mtype = at-kind .before .before in
+    let start = at-mtype .before .before .before .before in
+    let t = type-typed _ _ _ _ _ (start .pre .1 .inside) (is-word _ _ _ _ _ (at-mtype .mtype .ensures) (at-kind .kind .given .1)) in
+    omega (arith, t .high)
 
 -- src/macroblock.rt:257:9
 cast-put-fields-2 : tie.Need-cast-put-fields-2
-cast-put-fields-2 c = record { fits = small-byte _ (quantiser-small (hasMQUANT (c .before .before .before .before .before .before .before .before .before .before .before .before .before .before .before .before .before .before .before .before .before .before .before .kind .given .0 .0)) (c .before .before .before .before .before .before .before .before .before .before .before .before .before .before .before .before .before .before .before .quantised .given .0 .0) (onward _ _ _ _ _ (layers.optional-reads (hasMQUANT (c .before .before .before .before .before .before .before .before .before .before .before .before .before .before .before .before .before .before .before .before .before .before .before .kind .given .0 .0)) 0 (λ y. layers.quantiser-reads)) ((within-next _ _ _ _ _ (reads-word layers.typed table2 layers.table2-meanings) (c .before .before .before .before .before .before .before .before .before .before .before .before .before .before .before .before .before .before .before .before .before .before .before .before .before .before .before .before .before .pre .1) (is-word _ _ _ _ _ (c .before .before .before .before .before .before .before .before .before .before .before .before .before .before .before .before .before .before .before .before .before .before .before .before .before .mtype .ensures) (c .before .before .before .before .before .before .before .before .before .before .before .before .before .before .before .before .before .before .before .before .before .before .before .kind .given .1))) .inside) (is-field _ _ _ _ _ (c .before .before .before .before .before .before .before .before .before .before .before .before .before .before .before .before .before .before .before .before .before .mquant .ensures) (c .before .before .before .before .before .before .before .before .before .before .before .before .before .before .before .before .before .before .before .quantised .given .1)) .good)) }
+cast-put-fields-2 c =
+    let at-quantised = c .before .before .before .before .before .before .before .before .before .before .before .before .before .before .before .before .before .before .before in
+    let at-mquant = at-quantised .before .before in
+    let at-kind = at-mquant .before .before in
+    let at-mtype = at-kind .before .before in
+    let start = at-mtype .before .before .before .before in
+    let kind = at-kind .kind .given .0 .0 in
+    let typed = is-word _ _ _ _ _ (at-mtype .mtype .ensures) (at-kind .kind .given .1) in
+    let within = within-next _ _ _ _ _ (reads-word layers.typed table2 layers.table2-meanings) (start .pre .1) typed in
+    let read = is-field _ _ _ _ _ (at-mquant .mquant .ensures) (at-quantised .quantised .given .1) in
+    let good = onward _ _ _ _ _ (layers.optional-reads (hasMQUANT kind) 0 (λ y. layers.quantiser-reads)) (within .inside) read .good in
+    record { fits = small-byte _ (quantiser-small (hasMQUANT kind) (at-quantised .quantised .given .0 .0) good) }
 
 -- src/macroblock.rt:253:5
 put-fields-requires : tie.Need-put-fields-requires
-put-fields-requires c κs = let k = vector-kept (isMC (c .before .before .before .before .before .before .before .before .before .before .before .before .before .before .before .before .before .before .before .before .before .before .before .kind .given .0 .0)) (c .before .before .before .before .before .before .before .before .before .before .before .before .before .before .before .before .before .before .before .before .before .before .before .before .before .before .before .before .before .args .format) (c .before .before .before .before .before .before .before .before .before .before .before .before .before .before .before .before .before .before .before .before .before .before .before .before .before .before .before .before .before .args .number) (c .before .before .before .before .before .before .before .before .before .before .before .before .before .before .before .before .before .before .before .before .before .before .before .before .before .before .before .before .before .args .behind .address + c .before .before .before .before .before .before .before .before .before .before .before .before .before .before .before .before .before .before .before .before .before .before .before .before .before .before .before .before .before .args .step) _ _ (onward _ _ _ _ _ (layers.optional-reads (isMC (c .before .before .before .before .before .before .before .before .before .before .before .before .before .before .before .before .before .before .before .before .before .before .before .kind .given .0 .0)) zeroVector (λ y. layers.vector-reads (c .before .before .before .before .before .before .before .before .before .before .before .before .before .before .before .before .before .before .before .before .before .before .before .before .before .before .before .before .before .args .format) (c .before .before .before .before .before .before .before .before .before .before .before .before .before .before .before .before .before .before .before .before .before .before .before .before .before .before .before .before .before .args .number) (c .before .before .before .before .before .before .before .before .before .before .before .before .before .before .before .before .before .before .before .before .before .before .before .before .before .before .before .before .before .args .behind .address + c .before .before .before .before .before .before .before .before .before .before .before .before .before .before .before .before .before .before .before .before .before .before .before .before .before .before .before .before .before .args .step) (preceding (beforeOf (c .before .before .before .before .before .before .before .before .before .before .before .before .before .before .before .before .before .before .before .before .before .before .before .before .before .before .before .before .before .args .behind)) (c .before .before .before .before .before .before .before .before .before .before .before .before .before .before .before .before .before .before .before .before .before .before .before .before .before .before .before .before .before .args .step)))) ((within-next _ _ _ _ _ (layers.optional-reads (hasMQUANT (c .before .before .before .before .before .before .before .before .before .before .before .before .before .before .before .before .before .before .before .before .before .before .before .kind .given .0 .0)) 0 (λ y. layers.quantiser-reads)) (within-next _ _ _ _ _ (reads-word layers.typed table2 layers.table2-meanings) (c .before .before .before .before .before .before .before .before .before .before .before .before .before .before .before .before .before .before .before .before .before .before .before .before .before .before .before .before .before .pre .1) (is-word _ _ _ _ _ (c .before .before .before .before .before .before .before .before .before .before .before .before .before .before .before .before .before .before .before .before .before .before .before .before .before .mtype .ensures) (c .before .before .before .before .before .before .before .before .before .before .before .before .before .before .before .before .before .before .before .before .before .before .before .kind .given .1))) (is-field _ _ _ _ _ (c .before .before .before .before .before .before .before .before .before .before .before .before .before .before .before .before .before .before .before .before .before .mquant .ensures) (c .before .before .before .before .before .before .before .before .before .before .before .before .before .before .before .before .before .before .before .quantised .given .1))) .inside) (is-vector _ _ _ _ _ _ (c .before .before .before .before .before .before .before .before .before .before .before .before .before .before .before .before .before .moved .ensures) (c .before .before .before .before .before .before .before .before .before .before .before .before .before .before .before .pointed .given .1)) .good) in (omega (arith, c .before .before .before .before .before .before .before .before .before .before .before .before .before .before .before .before .before .before .before .before .before .before .before .before .before .before .before .before .before .pre .6, c .before .before .before .before .before .before .before .before .before .before .before .before .before .before .before .before .before .before .before .before .before .before .before .before .before .before .before .before .before .pre .8), k .0, k .1)
+put-fields-requires c κs =
+    let at-pointed = c .before .before .before .before .before .before .before .before .before .before .before .before .before .before .before in
+    let at-moved = at-pointed .before .before in
+    let at-quantised = at-moved .before .before in
+    let at-mquant = at-quantised .before .before in
+    let at-kind = at-mquant .before .before in
+    let at-mtype = at-kind .before .before in
+    let start = at-mtype .before .before .before .before in
+    let address = start .args .behind .address in
+    let format = start .args .format in
+    let number = start .args .number in
+    let step = start .args .step in
+    let k = vector-kept (isMC (at-kind .kind .given .0 .0)) format number (address + step) _ _
+    (onward _ _ _ _ _
+    (layers.optional-reads (isMC (at-kind .kind .given .0 .0)) zeroVector
+    (λ y. layers.vector-reads format number (address + step) (preceding (beforeOf (start .args .behind)) step)))
+    ((within-next _ _ _ _ _ (layers.optional-reads (hasMQUANT (at-kind .kind .given .0 .0)) 0 (λ y. layers.quantiser-reads))
+    (within-next _ _ _ _ _ (reads-word layers.typed table2 layers.table2-meanings) (start .pre .1) (is-word _ _ _ _ _ (at-mtype .mtype .ensures) (at-kind .kind .given .1)))
+    (is-field _ _ _ _ _ (at-mquant .mquant .ensures) (at-quantised .quantised .given .1))) .inside)
+    (is-vector _ _ _ _ _ _ (at-moved .moved .ensures) (at-pointed .pointed .given .1)) .good) in
+    (omega (arith, start .pre .6, start .pre .8), k .0, k .1)
 
 -- src/macroblock.rt:195:1
 same-length-2 : tie.Need-same-length-2
@@ -183,7 +325,25 @@ same-length-3 c = search needs
 
 -- src/macroblock.rt:195:1
 returns-6 : tie.Need-returns-6
-returns-6 c = whole-macroblock (c .before .before .before .before .before .before .before .before .before .before .before .before .before .before .before .before .before .before .before .before .before .before .before .before .before .before .before .before .before .before .before .before .args .format) (c .before .before .before .before .before .before .before .before .before .before .before .before .before .before .before .before .before .before .before .before .before .before .before .before .before .before .before .before .before .before .before .before .args .number) (c .before .before .before .before .before .before .before .before .before .before .before .before .before .before .before .before .before .before .before .before .before .before .before .before .before .before .before .before .before .before .before .before .args .group) (beforeOf (c .before .before .before .before .before .before .before .before .before .before .before .before .before .before .before .before .before .before .before .before .before .before .before .before .before .before .before .before .before .before .before .before .args .behind)) (c .before .before .before .before .before .before .before .before .before .before .before .before .before .before .before .before .before .before .before .before .before .before .before .before .before .before .before .before .before .before .before .before .args .step) (c .before .before .before .before .before .before .before .before .before .before .before .before .before .before .before .before .before .before .before .before .before .before .before .before .before .before .before .before .before .before .before .before .args .macroblocks .now) (c .before .before .before .before .before .before .before .before .before .before .before .before .before .before .before .before .before .before .before .before .before .before .before .before .before .before .before .before .before .before .before .before .args .levels .now) _ _ (c .before .before .before .before .before .before .before .before .before .before .before .before .before .before .before .before .before .before .before .before .before .before .before .before .before .before .kind .given .0 .0) _ _ (is-word _ _ _ _ _ (c .before .before .before .before .before .before .before .before .before .before .before .before .before .before .before .before .before .before .before .before .before .before .before .before .before .before .before .before .mtype .ensures) (c .before .before .before .before .before .before .before .before .before .before .before .before .before .before .before .before .before .before .before .before .before .before .before .before .before .before .kind .given .1)) _ _ _ (is-field _ _ _ _ _ (c .before .before .before .before .before .before .before .before .before .before .before .before .before .before .before .before .before .before .before .before .before .before .before .before .mquant .ensures) (c .before .before .before .before .before .before .before .before .before .before .before .before .before .before .before .before .before .before .before .before .before .before .quantised .given .1)) _ _ _ (is-vector _ _ _ _ _ _ (c .before .before .before .before .before .before .before .before .before .before .before .before .before .before .before .before .before .before .before .before .moved .ensures) (c .before .before .before .before .before .before .before .before .before .before .before .before .before .before .before .before .before .before .pointed .given .1)) _ _ _ (is-word _ _ _ _ _ (c .before .before .before .before .before .before .before .before .before .before .before .before .before .before .before .before .pattern .ensures) (c .before .before .before .before .before .before .before .before .before .before .before .before .before .before .coded .given .1)) (c .before .before .before .before .before .before .before .before .before .before .before .is-intra .result) (c .before .before .before .before .before .before .before .before .before .before .before .is-intra .ensures) _ refl _ _ _ _ (is-place _ _ _ _ _ (c .before .before .before .before .before .before .before .before .before .blocks2 .ensures) (c .before .before .before .before .before .sent .given .1)) (c .before .before .put-fields .ensures)
+returns-6 c =
+    let at-sent = c .before .before .before .before .before in
+    let at-blocks2 = at-sent .before .before .before .before in
+    let at-is-intra = at-blocks2 .before .before in
+    let at-coded = at-is-intra .before .before .before in
+    let at-pattern = at-coded .before .before in
+    let at-pointed = at-pattern .before .before in
+    let at-moved = at-pointed .before .before in
+    let at-quantised = at-moved .before .before in
+    let at-mquant = at-quantised .before .before in
+    let at-kind = at-mquant .before .before in
+    let at-mtype = at-kind .before .before in
+    let start = at-mtype .before .before .before .before in
+    whole-macroblock (start .args .format) (start .args .number) (start .args .group) (beforeOf (start .args .behind)) (start .args .step) (start .args .macroblocks .now)
+    (start .args .levels .now) _ _ (at-kind .kind .given .0 .0) _ _ (is-word _ _ _ _ _ (at-mtype .mtype .ensures) (at-kind .kind .given .1)) _ _ _
+    (is-field _ _ _ _ _ (at-mquant .mquant .ensures) (at-quantised .quantised .given .1)) _ _ _
+    (is-vector _ _ _ _ _ _ (at-moved .moved .ensures) (at-pointed .pointed .given .1)) _ _ _ (is-word _ _ _ _ _ (at-pattern .pattern .ensures) (at-coded .coded .given .1))
+    (at-is-intra .is-intra .result) (at-is-intra .is-intra .ensures) _ refl _ _ _ _ (is-place _ _ _ _ _ (at-blocks2 .blocks2 .ensures) (at-sent .sent .given .1))
+    (c .before .before .put-fields .ensures)
 
 pub macroblock-spec : {M : Type 1} → statement M
 macroblock-spec =

@@ -35,7 +35,13 @@ vector-requires c κs = search needs
 
 -- src/macroblock.rt:138:13
 returns : tie.Need-returns
-returns c = moved-anew (c .before .before .before .before .before .before .args .format) (c .before .before .before .before .before .before .args .number) (beforeOf (c .before .before .before .before .before .before .args .behind)) (c .before .before .before .before .before .before .args .step) (c .before .before .before .before .is-mc .result) (c .before .before .restarts .result) _ _ (isMC (c .before .before .before .before .before .before .args .mtype)) (c .before .before .before .before .is-mc .ensures) _ (c .before .before .restarts .ensures) (c .before .before .before .if1 .taken) (c .before .if2 .taken) (c .vector .ensures)
+returns c =
+    let at-restarts = c .before .before in
+    let at-if1 = at-restarts .before in
+    let at-is-mc = at-if1 .before in
+    let start = at-is-mc .before .before in
+    moved-anew (start .args .format) (start .args .number) (beforeOf (start .args .behind)) (start .args .step) (at-is-mc .is-mc .result) (at-restarts .restarts .result) _ _
+    (isMC (start .args .mtype)) (at-is-mc .is-mc .ensures) _ (at-restarts .restarts .ensures) (at-if1 .if1 .taken) (c .before .if2 .taken) (c .vector .ensures)
 
 -- src/macroblock.rt:140:9
 vector-requires-2 : tie.Need-vector-requires-2
@@ -43,7 +49,13 @@ vector-requires-2 c κs = search needs
 
 -- src/macroblock.rt:140:9
 returns-2 : tie.Need-returns-2
-returns-2 c = moved-on (c .before .before .before .before .before .before .args .format) (c .before .before .before .before .before .before .args .number) (beforeOf (c .before .before .before .before .before .before .args .behind)) (c .before .before .before .before .before .before .args .step) (c .before .before .before .before .is-mc .result) (c .before .before .restarts .result) _ _ (isMC (c .before .before .before .before .before .before .args .mtype)) (c .before .before .before .before .is-mc .ensures) _ (c .before .before .restarts .ensures) (c .before .before .before .if1 .taken) (c .before .if2 .left) (c .vector2 .ensures)
+returns-2 c =
+    let at-restarts = c .before .before in
+    let at-if1 = at-restarts .before in
+    let at-is-mc = at-if1 .before in
+    let start = at-is-mc .before .before in
+    moved-on (start .args .format) (start .args .number) (beforeOf (start .args .behind)) (start .args .step) (at-is-mc .is-mc .result) (at-restarts .restarts .result) _ _
+    (isMC (start .args .mtype)) (at-is-mc .is-mc .ensures) _ (at-restarts .restarts .ensures) (at-if1 .if1 .taken) (c .before .if2 .left) (c .vector2 .ensures)
 
 -- src/macroblock.rt:120:1
 returns-3 : tie.Need-returns-3

@@ -82,7 +82,20 @@ add-y c = search needs
 
 -- src/vector.rt:101:9
 returns-3 : tie.Need-returns-3
-returns-3 c = vector-left (c .before .before .before .before .before .before .before .before .before .before .before .before .args .format) (c .before .before .before .before .before .before .before .before .before .before .before .before .args .number) (c .before .before .before .before .before .before .before .before .before .before .before .before .args .address) _ _ _ (c .before .before .before .before .before .before .before .before .first .given .0 .0) _ _ (is-component _ _ _ _ _ (c .before .before .before .before .before .before .before .before .before .before .component .ensures) (c .before .before .before .before .before .before .before .before .first .given .1)) (c .before .before .before .before .second .given .0 .0) _ _ (is-component _ _ _ _ _ (c .before .before .before .before .before .before .component2 .ensures) (c .before .before .before .before .second .given .1)) (component-kept _ _ _ _ _ _ (c .before .before .before .before .before .before .before .before .before .before .before .before .pre .1 .inside) (is-component _ _ _ _ _ (c .before .before .before .before .before .before .before .before .before .before .component .ensures) (c .before .before .before .before .before .before .before .before .first .given .1))) (component-kept _ _ _ _ _ _ ((within-next _ _ _ _ _ (layers.component-reads _) (c .before .before .before .before .before .before .before .before .before .before .before .before .pre .1) (is-component _ _ _ _ _ (c .before .before .before .before .before .before .before .before .before .before .component .ensures) (c .before .before .before .before .before .before .before .before .first .given .1))) .inside) (is-component _ _ _ _ _ (c .before .before .before .before .before .before .component2 .ensures) (c .before .before .before .before .second .given .1))) (omega (arith, c .before .before .column .ensures, c .if1 .taken))
+returns-3 c =
+    let at-second = c .before .before .before .before in
+    let at-component2 = at-second .before .before in
+    let at-first = at-component2 .before .before in
+    let at-component = at-first .before .before in
+    let start = at-component .before .before in
+    vector-left (start .args .format) (start .args .number) (start .args .address) _ _ _ (at-first .first .given .0 .0) _ _
+    (is-component _ _ _ _ _ (at-component .component .ensures) (at-first .first .given .1)) (at-second .second .given .0 .0) _ _
+    (is-component _ _ _ _ _ (at-component2 .component2 .ensures) (at-second .second .given .1))
+    (component-kept _ _ _ _ _ _ (start .pre .1 .inside) (is-component _ _ _ _ _ (at-component .component .ensures) (at-first .first .given .1)))
+    (component-kept _ _ _ _ _ _
+    ((within-next _ _ _ _ _ (layers.component-reads _) (start .pre .1) (is-component _ _ _ _ _ (at-component .component .ensures) (at-first .first .given .1))) .inside)
+    (is-component _ _ _ _ _ (at-component2 .component2 .ensures) (at-second .second .given .1)))
+    (omega (arith, c .before .before .column .ensures, c .if1 .taken))
 
 -- src/vector.rt:103:8
 width-requires : tie.Need-width-requires
@@ -90,11 +103,39 @@ width-requires c κs = search needs
 
 -- src/vector.rt:104:9
 returns-4 : tie.Need-returns-4
-returns-4 c = vector-right (c .before .before .before .before .before .before .before .before .before .before .before .before .before .before .args .format) (c .before .before .before .before .before .before .before .before .before .before .before .before .before .before .args .number) (c .before .before .before .before .before .before .before .before .before .before .before .before .before .before .args .address) _ _ _ (c .before .before .before .before .before .before .before .before .before .before .first .given .0 .0) _ _ (is-component _ _ _ _ _ (c .before .before .before .before .before .before .before .before .before .before .before .before .component .ensures) (c .before .before .before .before .before .before .before .before .before .before .first .given .1)) (c .before .before .before .before .before .before .second .given .0 .0) _ _ (is-component _ _ _ _ _ (c .before .before .before .before .before .before .before .before .component2 .ensures) (c .before .before .before .before .before .before .second .given .1)) (component-kept _ _ _ _ _ _ (c .before .before .before .before .before .before .before .before .before .before .before .before .before .before .pre .1 .inside) (is-component _ _ _ _ _ (c .before .before .before .before .before .before .before .before .before .before .before .before .component .ensures) (c .before .before .before .before .before .before .before .before .before .before .first .given .1))) (component-kept _ _ _ _ _ _ ((within-next _ _ _ _ _ (layers.component-reads _) (c .before .before .before .before .before .before .before .before .before .before .before .before .before .before .pre .1) (is-component _ _ _ _ _ (c .before .before .before .before .before .before .before .before .before .before .before .before .component .ensures) (c .before .before .before .before .before .before .before .before .before .before .first .given .1))) .inside) (is-component _ _ _ _ _ (c .before .before .before .before .before .before .before .before .component2 .ensures) (c .before .before .before .before .before .before .second .given .1))) (omega (arith, c .before .before .before .before .column .ensures, c .before .width .ensures, c .if2 .taken))
+returns-4 c =
+    let at-column = c .before .before .before .before in
+    let at-second = at-column .before .before in
+    let at-component2 = at-second .before .before in
+    let at-first = at-component2 .before .before in
+    let at-component = at-first .before .before in
+    let start = at-component .before .before in
+    vector-right (start .args .format) (start .args .number) (start .args .address) _ _ _ (at-first .first .given .0 .0) _ _
+    (is-component _ _ _ _ _ (at-component .component .ensures) (at-first .first .given .1)) (at-second .second .given .0 .0) _ _
+    (is-component _ _ _ _ _ (at-component2 .component2 .ensures) (at-second .second .given .1))
+    (component-kept _ _ _ _ _ _ (start .pre .1 .inside) (is-component _ _ _ _ _ (at-component .component .ensures) (at-first .first .given .1)))
+    (component-kept _ _ _ _ _ _
+    ((within-next _ _ _ _ _ (layers.component-reads _) (start .pre .1) (is-component _ _ _ _ _ (at-component .component .ensures) (at-first .first .given .1))) .inside)
+    (is-component _ _ _ _ _ (at-component2 .component2 .ensures) (at-second .second .given .1)))
+    (omega (arith, at-column .column .ensures, c .before .width .ensures, c .if2 .taken))
 
 -- src/vector.rt:107:9
 returns-5 : tie.Need-returns-5
-returns-5 c = vector-above (c .before .before .before .before .before .before .before .before .before .before .before .before .before .before .before .args .format) (c .before .before .before .before .before .before .before .before .before .before .before .before .before .before .before .args .number) (c .before .before .before .before .before .before .before .before .before .before .before .before .before .before .before .args .address) _ _ _ (c .before .before .before .before .before .before .before .before .before .before .before .first .given .0 .0) _ _ (is-component _ _ _ _ _ (c .before .before .before .before .before .before .before .before .before .before .before .before .before .component .ensures) (c .before .before .before .before .before .before .before .before .before .before .before .first .given .1)) (c .before .before .before .before .before .before .before .second .given .0 .0) _ _ (is-component _ _ _ _ _ (c .before .before .before .before .before .before .before .before .before .component2 .ensures) (c .before .before .before .before .before .before .before .second .given .1)) (component-kept _ _ _ _ _ _ (c .before .before .before .before .before .before .before .before .before .before .before .before .before .before .before .pre .1 .inside) (is-component _ _ _ _ _ (c .before .before .before .before .before .before .before .before .before .before .before .before .before .component .ensures) (c .before .before .before .before .before .before .before .before .before .before .before .first .given .1))) (component-kept _ _ _ _ _ _ ((within-next _ _ _ _ _ (layers.component-reads _) (c .before .before .before .before .before .before .before .before .before .before .before .before .before .before .before .pre .1) (is-component _ _ _ _ _ (c .before .before .before .before .before .before .before .before .before .before .before .before .before .component .ensures) (c .before .before .before .before .before .before .before .before .before .before .before .first .given .1))) .inside) (is-component _ _ _ _ _ (c .before .before .before .before .before .before .before .before .before .component2 .ensures) (c .before .before .before .before .before .before .before .second .given .1))) (omega (arith, c .before .before .before .before .row .ensures, c .if3 .taken))
+returns-5 c =
+    let at-row = c .before .before .before .before in
+    let at-second = at-row .before .before .before in
+    let at-component2 = at-second .before .before in
+    let at-first = at-component2 .before .before in
+    let at-component = at-first .before .before in
+    let start = at-component .before .before in
+    vector-above (start .args .format) (start .args .number) (start .args .address) _ _ _ (at-first .first .given .0 .0) _ _
+    (is-component _ _ _ _ _ (at-component .component .ensures) (at-first .first .given .1)) (at-second .second .given .0 .0) _ _
+    (is-component _ _ _ _ _ (at-component2 .component2 .ensures) (at-second .second .given .1))
+    (component-kept _ _ _ _ _ _ (start .pre .1 .inside) (is-component _ _ _ _ _ (at-component .component .ensures) (at-first .first .given .1)))
+    (component-kept _ _ _ _ _ _
+    ((within-next _ _ _ _ _ (layers.component-reads _) (start .pre .1) (is-component _ _ _ _ _ (at-component .component .ensures) (at-first .first .given .1))) .inside)
+    (is-component _ _ _ _ _ (at-component2 .component2 .ensures) (at-second .second .given .1)))
+    (omega (arith, at-row .row .ensures, c .if3 .taken))
 
 -- src/vector.rt:109:8
 height-requires : tie.Need-height-requires
@@ -102,11 +143,44 @@ height-requires c κs = search needs
 
 -- src/vector.rt:110:9
 returns-6 : tie.Need-returns-6
-returns-6 c = vector-below (c .before .before .before .before .before .before .before .before .before .before .before .before .before .before .before .before .before .args .format) (c .before .before .before .before .before .before .before .before .before .before .before .before .before .before .before .before .before .args .number) (c .before .before .before .before .before .before .before .before .before .before .before .before .before .before .before .before .before .args .address) _ _ _ (c .before .before .before .before .before .before .before .before .before .before .before .before .before .first .given .0 .0) _ _ (is-component _ _ _ _ _ (c .before .before .before .before .before .before .before .before .before .before .before .before .before .before .before .component .ensures) (c .before .before .before .before .before .before .before .before .before .before .before .before .before .first .given .1)) (c .before .before .before .before .before .before .before .before .before .second .given .0 .0) _ _ (is-component _ _ _ _ _ (c .before .before .before .before .before .before .before .before .before .before .before .component2 .ensures) (c .before .before .before .before .before .before .before .before .before .second .given .1)) (component-kept _ _ _ _ _ _ (c .before .before .before .before .before .before .before .before .before .before .before .before .before .before .before .before .before .pre .1 .inside) (is-component _ _ _ _ _ (c .before .before .before .before .before .before .before .before .before .before .before .before .before .before .before .component .ensures) (c .before .before .before .before .before .before .before .before .before .before .before .before .before .first .given .1))) (component-kept _ _ _ _ _ _ ((within-next _ _ _ _ _ (layers.component-reads _) (c .before .before .before .before .before .before .before .before .before .before .before .before .before .before .before .before .before .pre .1) (is-component _ _ _ _ _ (c .before .before .before .before .before .before .before .before .before .before .before .before .before .before .before .component .ensures) (c .before .before .before .before .before .before .before .before .before .before .before .before .before .first .given .1))) .inside) (is-component _ _ _ _ _ (c .before .before .before .before .before .before .before .before .before .before .before .component2 .ensures) (c .before .before .before .before .before .before .before .before .before .second .given .1))) (omega (arith, c .before .before .before .before .before .before .row .ensures, c .before .height .ensures, c .if4 .taken))
+returns-6 c =
+    let at-row = c .before .before .before .before .before .before in
+    let at-second = at-row .before .before .before in
+    let at-component2 = at-second .before .before in
+    let at-first = at-component2 .before .before in
+    let at-component = at-first .before .before in
+    let start = at-component .before .before in
+    vector-below (start .args .format) (start .args .number) (start .args .address) _ _ _ (at-first .first .given .0 .0) _ _
+    (is-component _ _ _ _ _ (at-component .component .ensures) (at-first .first .given .1)) (at-second .second .given .0 .0) _ _
+    (is-component _ _ _ _ _ (at-component2 .component2 .ensures) (at-second .second .given .1))
+    (component-kept _ _ _ _ _ _ (start .pre .1 .inside) (is-component _ _ _ _ _ (at-component .component .ensures) (at-first .first .given .1)))
+    (component-kept _ _ _ _ _ _
+    ((within-next _ _ _ _ _ (layers.component-reads _) (start .pre .1) (is-component _ _ _ _ _ (at-component .component .ensures) (at-first .first .given .1))) .inside)
+    (is-component _ _ _ _ _ (at-component2 .component2 .ensures) (at-second .second .given .1)))
+    (omega (arith, at-row .row .ensures, c .before .height .ensures, c .if4 .taken))
 
 -- src/vector.rt:72:1
 returns-7 : tie.Need-returns-7
-returns-7 c = vector-inside (c .before .before .before .before .before .before .before .before .before .before .before .before .before .before .before .before .before .args .format) (c .before .before .before .before .before .before .before .before .before .before .before .before .before .before .before .before .before .args .number) (c .before .before .before .before .before .before .before .before .before .before .before .before .before .before .before .before .before .args .address) _ _ _ (c .before .before .before .before .before .before .before .before .before .before .before .before .before .first .given .0 .0) _ _ (is-component _ _ _ _ _ (c .before .before .before .before .before .before .before .before .before .before .before .before .before .before .before .component .ensures) (c .before .before .before .before .before .before .before .before .before .before .before .before .before .first .given .1)) (c .before .before .before .before .before .before .before .before .before .second .given .0 .0) _ _ (is-component _ _ _ _ _ (c .before .before .before .before .before .before .before .before .before .before .before .component2 .ensures) (c .before .before .before .before .before .before .before .before .before .second .given .1)) (component-kept _ _ _ _ _ _ (c .before .before .before .before .before .before .before .before .before .before .before .before .before .before .before .before .before .pre .1 .inside) (is-component _ _ _ _ _ (c .before .before .before .before .before .before .before .before .before .before .before .before .before .before .before .component .ensures) (c .before .before .before .before .before .before .before .before .before .before .before .before .before .first .given .1))) (component-kept _ _ _ _ _ _ ((within-next _ _ _ _ _ (layers.component-reads _) (c .before .before .before .before .before .before .before .before .before .before .before .before .before .before .before .before .before .pre .1) (is-component _ _ _ _ _ (c .before .before .before .before .before .before .before .before .before .before .before .before .before .before .before .component .ensures) (c .before .before .before .before .before .before .before .before .before .before .before .before .before .first .given .1))) .inside) (is-component _ _ _ _ _ (c .before .before .before .before .before .before .before .before .before .before .before .component2 .ensures) (c .before .before .before .before .before .before .before .before .before .second .given .1))) (omega (arith, c .before .before .before .before .before .before .before .column .ensures, c .before .before .before .before .before .if1 .left)) (omega (arith, c .before .before .before .before .before .before .before .column .ensures, c .before .before .before .before .width .ensures, c .before .before .before .if2 .left)) (omega (arith, c .before .before .before .before .before .before .row .ensures, c .before .before .if3 .left)) (omega (arith, c .before .before .before .before .before .before .row .ensures, c .before .height .ensures, c .if4 .left))
+returns-7 c =
+    let at-if2 = c .before .before .before in
+    let at-width = at-if2 .before in
+    let at-if1 = at-width .before in
+    let at-row = at-if1 .before in
+    let at-column = at-row .before in
+    let at-second = at-column .before .before in
+    let at-component2 = at-second .before .before in
+    let at-first = at-component2 .before .before in
+    let at-component = at-first .before .before in
+    let start = at-component .before .before in
+    vector-inside (start .args .format) (start .args .number) (start .args .address) _ _ _ (at-first .first .given .0 .0) _ _
+    (is-component _ _ _ _ _ (at-component .component .ensures) (at-first .first .given .1)) (at-second .second .given .0 .0) _ _
+    (is-component _ _ _ _ _ (at-component2 .component2 .ensures) (at-second .second .given .1))
+    (component-kept _ _ _ _ _ _ (start .pre .1 .inside) (is-component _ _ _ _ _ (at-component .component .ensures) (at-first .first .given .1)))
+    (component-kept _ _ _ _ _ _
+    ((within-next _ _ _ _ _ (layers.component-reads _) (start .pre .1) (is-component _ _ _ _ _ (at-component .component .ensures) (at-first .first .given .1))) .inside)
+    (is-component _ _ _ _ _ (at-component2 .component2 .ensures) (at-second .second .given .1)))
+    (omega (arith, at-column .column .ensures, at-if1 .if1 .left)) (omega (arith, at-column .column .ensures, at-width .width .ensures, at-if2 .if2 .left))
+    (omega (arith, at-row .row .ensures, c .before .before .if3 .left)) (omega (arith, at-row .row .ensures, c .before .height .ensures, c .if4 .left))
 
 pub vector-spec : {M : Type 1} → statement M
 vector-spec =

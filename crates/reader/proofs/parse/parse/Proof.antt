@@ -54,11 +54,28 @@ same-length-3 c = search needs
 
 -- src/parse.rt:66:9
 returns : tie.Need-returns
-returns c = let d = described-count (c .before .before .before .before .before .before .before .before .before .before .before .before .before .before .before .before .before .before .args .format) (c .before .before .before .before .before .before .before .before .before .before .before .before .before .before .before .before .before .before .args .bytes .now) (c .before .before .before .before .before .before .before .before .before .before .before .before .before .before .before .before .before .before .args .count) (c .before .above .result) (c .before .above .ensures) (c .if1 .taken) in (refused-verdict (c .before .before .before .before .before .before .before .before .before .before .before .before .before .before .before .before .before .before .args .format) (described (c .before .before .before .before .before .before .before .before .before .before .before .before .before .before .before .before .before .before .args .format) (c .before .before .before .before .before .before .before .before .before .before .before .before .before .before .before .before .before .before .args .bytes .now) (c .before .before .before .before .before .before .before .before .before .before .before .before .before .before .before .before .before .before .args .count)) _ d, refused-buffers (c .before .before .before .before .before .before .before .before .before .before .before .before .before .before .before .before .before .before .args .format) (described (c .before .before .before .before .before .before .before .before .before .before .before .before .before .before .before .before .before .before .args .format) (c .before .before .before .before .before .before .before .before .before .before .before .before .before .before .before .before .before .before .args .bytes .now) (c .before .before .before .before .before .before .before .before .before .before .before .before .before .before .before .before .before .before .args .count)) _ _ _ _ d (cleared-as _ _ _ (c .before .before .before .before .before .before .before .before .before .before .before .before .clear .ensures) (c .before .before .before .before .before .before .before .before .before .before .before .before .before .before .before .before .before .before .pre .head-long)) (cleared-as _ _ _ (c .before .before .before .before .before .before .before .before .clear2 .ensures) (c .before .before .before .before .before .before .before .before .before .before .before .before .before .before .before .before .before .before .pre .ms-long)) (cleared-as _ _ _ (c .before .before .before .before .clear3 .ensures) (c .before .before .before .before .before .before .before .before .before .before .before .before .before .before .before .before .before .before .pre .ls-long)))
+returns c =
+    let at-above = c .before in
+    let at-clear3 = at-above .before .before .before in
+    let at-clear2 = at-clear3 .before .before .before .before in
+    let at-clear = at-clear2 .before .before .before .before in
+    let start = at-clear .before .before .before .before .before .before in
+    let bytes = start .args .bytes .now in
+    let format = start .args .format in
+    let count = start .args .count in
+    let d = described-count format bytes count (at-above .above .result) (at-above .above .ensures) (c .if1 .taken) in (
+      refused-verdict format (described format bytes count) _ d,
+      refused-buffers format (described format bytes count) _ _ _ _ d (cleared-as _ _ _ (at-clear .clear .ensures) (start .pre .head-long))
+          (cleared-as _ _ _ (at-clear2 .clear2 .ensures) (start .pre .ms-long)) (cleared-as _ _ _ (at-clear3 .clear3 .ensures) (start .pre .ls-long)),
+    )
 
 -- src/parse.rt:71:9
 header-requires : tie.Need-header-requires
-header-requires c κs = record { lent = lent-is (c .before .before .before .before .before .before .before .before .before .before .before .before .before .before .before .before .before .before .args .format) (c .before .before .before .before .before .before .before .before .before .before .before .before .before .before .before .before .before .before .args .bytes .now) (c .before .before .before .before .before .before .before .before .before .before .before .before .before .before .before .before .before .before .args .count) (c .before .above .result) (c .before .above .ensures) (c .if1 .left); inside = zero-le }
+header-requires c κs =
+    let at-above = c .before in
+    let start = at-above .before .before .before .before .before .before .before .before .before .before .before .before .before .before .before .before .before in
+    record
+    { lent = lent-is (start .args .format) (start .args .bytes .now) (start .args .count) (at-above .above .result) (at-above .above .ensures) (c .if1 .left); inside = zero-le }
 
 -- src/parse.rt:72:25
 enum-known-opened : tie.Need-enum-known-opened
@@ -86,7 +103,24 @@ same-length-6 c = search needs
 
 -- src/parse.rt:73:9
 returns-2 : tie.Need-returns-2
-returns-2 c = let d = described-no-header (c .before .before .before .before .before .before .before .before .before .before .before .before .before .before .before .before .before .before .before .before .before .before .args .format) (c .before .before .before .before .before .before .before .before .before .before .before .before .before .before .before .before .before .before .before .before .before .before .args .bytes .now) (c .before .before .before .before .before .before .before .before .before .before .before .before .before .before .before .before .before .before .before .before .before .before .args .count) (c .before .before .before .before .before .above .result) (c .before .before .before .before .before .above .ensures) (c .before .before .before .before .if1 .left) (c .before .before .before .header .result) (c .before .before .before .header .ensures) (c .before .before .match .keys2) in (ap (λ (r : Refusal). Refused r) (c .header-refusal .ensures) ∙ refused-verdict (c .before .before .before .before .before .before .before .before .before .before .before .before .before .before .before .before .before .before .before .before .before .before .args .format) (described (c .before .before .before .before .before .before .before .before .before .before .before .before .before .before .before .before .before .before .before .before .before .before .args .format) (c .before .before .before .before .before .before .before .before .before .before .before .before .before .before .before .before .before .before .before .before .before .before .args .bytes .now) (c .before .before .before .before .before .before .before .before .before .before .before .before .before .before .before .before .before .before .before .before .before .before .args .count)) _ d, refused-buffers (c .before .before .before .before .before .before .before .before .before .before .before .before .before .before .before .before .before .before .before .before .before .before .args .format) (described (c .before .before .before .before .before .before .before .before .before .before .before .before .before .before .before .before .before .before .before .before .before .before .args .format) (c .before .before .before .before .before .before .before .before .before .before .before .before .before .before .before .before .before .before .before .before .before .before .args .bytes .now) (c .before .before .before .before .before .before .before .before .before .before .before .before .before .before .before .before .before .before .before .before .before .before .args .count)) _ _ _ _ d (cleared-as _ _ _ (c .before .before .before .before .before .before .before .before .before .before .before .before .before .before .before .before .clear .ensures) (c .before .before .before .before .before .before .before .before .before .before .before .before .before .before .before .before .before .before .before .before .before .before .pre .head-long)) (cleared-as _ _ _ (c .before .before .before .before .before .before .before .before .before .before .before .before .clear2 .ensures) (c .before .before .before .before .before .before .before .before .before .before .before .before .before .before .before .before .before .before .before .before .before .before .pre .ms-long)) (cleared-as _ _ _ (c .before .before .before .before .before .before .before .before .clear3 .ensures) (c .before .before .before .before .before .before .before .before .before .before .before .before .before .before .before .before .before .before .before .before .before .before .pre .ls-long)))
+returns-2 c =
+    let at-header = c .before .before .before in
+    let at-if1 = at-header .before in
+    let at-above = at-if1 .before in
+    let at-clear3 = at-above .before .before .before in
+    let at-clear2 = at-clear3 .before .before .before .before in
+    let at-clear = at-clear2 .before .before .before .before in
+    let start = at-clear .before .before .before .before .before .before in
+    let bytes = start .args .bytes .now in
+    let format = start .args .format in
+    let count = start .args .count in
+    let d =
+    described-no-header format bytes count (at-above .above .result) (at-above .above .ensures) (at-if1 .if1 .left) (at-header .header .result) (at-header .header .ensures)
+    (c .before .before .match .keys2) in (
+      ap (λ (r : Refusal). Refused r) (c .header-refusal .ensures) ∙ refused-verdict format (described format bytes count) _ d,
+      refused-buffers format (described format bytes count) _ _ _ _ d (cleared-as _ _ _ (at-clear .clear .ensures) (start .pre .head-long))
+          (cleared-as _ _ _ (at-clear2 .clear2 .ensures) (start .pre .ms-long)) (cleared-as _ _ _ (at-clear3 .clear3 .ensures) (start .pre .ls-long)),
+    )
 
 -- src/parse.rt:75:5
 slice-write-head : tie.Need-slice-write-head
@@ -94,7 +128,11 @@ slice-write-head c = search needs
 
 -- src/parse.rt:76:5
 slice-write-head-2 : tie.Need-slice-write-head-2
-slice-write-head-2 c = simp length-set (omega (arith, long-cleared (c .before .before .before .before .before .before .before .before .before .before .before .before .before .before .before .before .clear .last .0) (3 + groupCount (c .before .before .before .before .before .before .before .before .before .before .before .before .before .before .before .before .before .before .before .before .before .before .args .format)) (cleared-as _ _ _ (c .before .before .before .before .before .before .before .before .before .before .before .before .before .before .before .before .clear .ensures) (c .before .before .before .before .before .before .before .before .before .before .before .before .before .before .before .before .before .before .before .before .before .before .pre .head-long))))
+slice-write-head-2 c =
+    let at-clear = c .before .before .before .before .before .before .before .before .before .before .before .before .before .before .before .before in
+    let start = at-clear .before .before .before .before .before .before in
+    simp length-set
+    (omega (arith, long-cleared (at-clear .clear .last .0) (3 + groupCount (start .args .format)) (cleared-as _ _ _ (at-clear .clear .ensures) (start .pre .head-long))))
 
 -- src/parse.rt:77:15
 bit-requires : tie.Need-bit-requires
@@ -102,7 +140,11 @@ bit-requires c κs = search needs
 
 -- src/parse.rt:77:5
 slice-write-head-3 : tie.Need-slice-write-head-3
-slice-write-head-3 c = simp length-set (omega (arith, long-cleared (c .before .before .before .before .before .before .before .before .before .before .before .before .before .before .before .before .before .clear .last .0) (3 + groupCount (c .before .before .before .before .before .before .before .before .before .before .before .before .before .before .before .before .before .before .before .before .before .before .before .args .format)) (cleared-as _ _ _ (c .before .before .before .before .before .before .before .before .before .before .before .before .before .before .before .before .before .clear .ensures) (c .before .before .before .before .before .before .before .before .before .before .before .before .before .before .before .before .before .before .before .before .before .before .before .pre .head-long))))
+slice-write-head-3 c =
+    let at-clear = c .before .before .before .before .before .before .before .before .before .before .before .before .before .before .before .before .before in
+    let start = at-clear .before .before .before .before .before .before in
+    simp length-set
+    (omega (arith, long-cleared (at-clear .clear .last .0) (3 + groupCount (start .args .format)) (cleared-as _ _ _ (at-clear .clear .ensures) (start .pre .head-long))))
 
 -- src/parse.rt:78:18
 tables-requires : tie.Need-tables-requires
@@ -110,7 +152,28 @@ tables-requires c κs = search needs
 
 -- src/parse.rt:79:9
 groups-requires : tie.Need-groups-requires
-groups-requires c κs = (c .before .before .before .before .tables .ensures, within-next _ _ _ _ _ (layers.header-reads (c .before .before .before .before .before .before .before .before .before .before .before .before .before .before .before .before .before .before .before .before .before .before .before .before .before .before .before .before .args .format)) (record { lent = lent-is (c .before .before .before .before .before .before .before .before .before .before .before .before .before .before .before .before .before .before .before .before .before .before .before .before .before .before .before .before .args .format) (c .before .before .before .before .before .before .before .before .before .before .before .before .before .before .before .before .before .before .before .before .before .before .before .before .before .before .before .before .args .bytes .now) (c .before .before .before .before .before .before .before .before .before .before .before .before .before .before .before .before .before .before .before .before .before .before .before .before .before .before .before .before .args .count) (c .before .before .before .before .before .before .before .before .before .before .before .above .result) (c .before .before .before .before .before .before .before .before .before .before .before .above .ensures) (c .before .before .before .before .before .before .before .before .before .before .if1 .left); inside = zero-le }) (header-is (c .before .before .before .before .before .before .before .before .before .before .before .before .before .before .before .before .before .before .before .before .before .before .before .before .before .before .before .before .args .format) (c .before .before .before .before .before .before .before .before .before .before .before .before .before .before .before .before .before .before .before .before .before .before .before .before .before .before .before .before .args .bytes .now) (c .before .before .before .before .before .before .before .before .before .before .before .before .before .before .before .before .before .before .before .before .before .before .before .before .before .before .before .before .args .count) (c .before .before .before .before .before .before .before .before .before .before .before .above .result) (c .before .before .before .before .before .before .before .before .before .before .before .above .ensures) (c .before .before .before .before .before .before .before .before .before .before .if1 .left) (c .before .before .before .before .before .before .before .before .before .header .result) (c .before .before .before .before .before .before .before .before .before .header .ensures) _ _ _ (c .before .before .before .before .before .before .before .opened .given .1)), simp length-set (long-cleared _ _ (cleared-as _ _ _ (c .before .before .before .before .before .before .before .before .before .before .before .before .before .before .before .before .before .before .before .before .before .before .clear .ensures) (c .before .before .before .before .before .before .before .before .before .before .before .before .before .before .before .before .before .before .before .before .before .before .before .before .before .before .before .before .pre .head-long))), long-cleared _ _ (cleared-as _ _ _ (c .before .before .before .before .before .before .before .before .before .before .before .before .before .before .before .before .before .before .clear2 .ensures) (c .before .before .before .before .before .before .before .before .before .before .before .before .before .before .before .before .before .before .before .before .before .before .before .before .before .before .before .before .pre .ms-long)), long-cleared _ _ (cleared-as _ _ _ (c .before .before .before .before .before .before .before .before .before .before .before .before .before .before .clear3 .ensures) (c .before .before .before .before .before .before .before .before .before .before .before .before .before .before .before .before .before .before .before .before .before .before .before .before .before .before .before .before .pre .ls-long)))
+groups-requires c κs =
+    let at-tables = c .before .before .before .before in
+    let at-opened = at-tables .before .before .before in
+    let at-header = at-opened .before .before in
+    let at-if1 = at-header .before in
+    let at-above = at-if1 .before in
+    let at-clear3 = at-above .before .before .before in
+    let at-clear2 = at-clear3 .before .before .before .before in
+    let at-clear = at-clear2 .before .before .before .before in
+    let start = at-clear .before .before .before .before .before .before in
+    let bytes = start .args .bytes .now in
+    let format = start .args .format in
+    let count = start .args .count in (
+      at-tables .tables .ensures,
+      within-next _ _ _ _ _ (layers.header-reads format)
+          (record { lent = lent-is format bytes count (at-above .above .result) (at-above .above .ensures) (at-if1 .if1 .left); inside = zero-le })
+          (header-is format bytes count (at-above .above .result) (at-above .above .ensures) (at-if1 .if1 .left) (at-header .header .result) (at-header .header .ensures) _ _ _
+          (at-opened .opened .given .1)),
+      simp length-set (long-cleared _ _ (cleared-as _ _ _ (at-clear .clear .ensures) (start .pre .head-long))),
+      long-cleared _ _ (cleared-as _ _ _ (at-clear2 .clear2 .ensures) (start .pre .ms-long)),
+      long-cleared _ _ (cleared-as _ _ _ (at-clear3 .clear3 .ensures) (start .pre .ls-long)),
+    )
 
 enum-told-2 : tie.Need-enum-told-2
 enum-told-2 c = search needs
@@ -137,35 +200,119 @@ place-refusal-requires c κs = search needs
 
 -- src/parse.rt:93:9
 same-length-7 : tie.Need-same-length-7
-same-length-7 c = c .before .before .before .before .before .before .before .before .before .before .before .clear4 .kept .0 ∙ (c .before .before .before .before .before .before .before .before .before .before .before .before .before .before .before .before .before .before .before .before .before .groups .kept .1 .1 .1 .1 .1 .0 ∙ simp length-set (long-cleared _ _ (cleared-as _ _ _ (c .before .before .before .before .before .before .before .before .before .before .before .before .before .before .before .before .before .before .before .before .before .before .before .before .before .before .before .before .before .before .before .before .before .before .before .before .before .before .before .before .before .before .before .before .clear .ensures) (c .before .before .before .before .before .before .before .before .before .before .before .before .before .before .before .before .before .before .before .before .before .before .before .before .before .before .before .before .before .before .before .before .before .before .before .before .before .before .before .before .before .before .before .before .before .before .before .before .before .before .pre .head-long)))) ∙ sym (c .before .before .before .before .before .before .before .before .before .before .before .before .before .before .before .before .before .before .before .before .before .before .before .before .before .before .before .before .before .before .before .before .before .before .before .before .before .before .before .before .before .before .before .before .before .before .before .before .before .before .pre .head-long)
+same-length-7 c =
+    let at-clear4 = c .before .before .before .before .before .before .before .before .before .before .before in
+    let at-groups = at-clear4 .before .before .before .before .before .before .before .before .before .before in
+    let at-clear = at-groups .before .before .before .before .before .before .before .before .before .before .before .before .before .before .before .before .before .before .before .before .before .before .before in
+    let start = at-clear .before .before .before .before .before .before in
+    at-clear4 .clear4 .kept .0 ∙
+    (at-groups .groups .kept .1 .1 .1 .1 .1 .0 ∙ simp length-set (long-cleared _ _ (cleared-as _ _ _ (at-clear .clear .ensures) (start .pre .head-long)))) ∙ sym
+    (start .pre .head-long)
 
 -- src/parse.rt:93:9
 same-length-8 : tie.Need-same-length-8
-same-length-8 c = c .before .before .before .before .before .before .before .clear5 .kept .0 ∙ (c .before .before .before .before .before .before .before .before .before .before .before .before .before .before .before .before .before .before .before .before .before .groups .kept .1 .1 .1 .1 .1 .1 .0 ∙ long-cleared _ _ (cleared-as _ _ _ (c .before .before .before .before .before .before .before .before .before .before .before .before .before .before .before .before .before .before .before .before .before .before .before .before .before .before .before .before .before .before .before .before .before .before .before .before .before .before .before .before .clear2 .ensures) (c .before .before .before .before .before .before .before .before .before .before .before .before .before .before .before .before .before .before .before .before .before .before .before .before .before .before .before .before .before .before .before .before .before .before .before .before .before .before .before .before .before .before .before .before .before .before .before .before .before .before .pre .ms-long))) ∙ sym (c .before .before .before .before .before .before .before .before .before .before .before .before .before .before .before .before .before .before .before .before .before .before .before .before .before .before .before .before .before .before .before .before .before .before .before .before .before .before .before .before .before .before .before .before .before .before .before .before .before .before .pre .ms-long)
+same-length-8 c =
+    let at-clear5 = c .before .before .before .before .before .before .before in
+    let at-groups = at-clear5 .before .before .before .before .before .before .before .before .before .before .before .before .before .before in
+    let at-clear2 = at-groups .before .before .before .before .before .before .before .before .before .before .before .before .before .before .before .before .before .before .before in
+    let start = at-clear2 .before .before .before .before .before .before .before .before .before .before in
+    at-clear5 .clear5 .kept .0 ∙ (at-groups .groups .kept .1 .1 .1 .1 .1 .1 .0 ∙ long-cleared _ _ (cleared-as _ _ _ (at-clear2 .clear2 .ensures) (start .pre .ms-long))) ∙ sym
+    (start .pre .ms-long)
 
 -- src/parse.rt:93:9
 same-length-9 : tie.Need-same-length-9
-same-length-9 c = c .before .before .before .clear6 .kept .0 ∙ (c .before .before .before .before .before .before .before .before .before .before .before .before .before .before .before .before .before .before .before .before .before .groups .kept .1 .1 .1 .1 .1 .1 .1 .0 ∙ long-cleared _ _ (cleared-as _ _ _ (c .before .before .before .before .before .before .before .before .before .before .before .before .before .before .before .before .before .before .before .before .before .before .before .before .before .before .before .before .before .before .before .before .before .before .before .before .clear3 .ensures) (c .before .before .before .before .before .before .before .before .before .before .before .before .before .before .before .before .before .before .before .before .before .before .before .before .before .before .before .before .before .before .before .before .before .before .before .before .before .before .before .before .before .before .before .before .before .before .before .before .before .before .pre .ls-long))) ∙ sym (c .before .before .before .before .before .before .before .before .before .before .before .before .before .before .before .before .before .before .before .before .before .before .before .before .before .before .before .before .before .before .before .before .before .before .before .before .before .before .before .before .before .before .before .before .before .before .before .before .before .before .pre .ls-long)
+same-length-9 c =
+    let at-clear6 = c .before .before .before in
+    let at-groups = at-clear6 .before .before .before .before .before .before .before .before .before .before .before .before .before .before .before .before .before .before in
+    let at-clear3 = at-groups .before .before .before .before .before .before .before .before .before .before .before .before .before .before .before in
+    let start = at-clear3 .before .before .before .before .before .before .before .before .before .before .before .before .before .before in
+    at-clear6 .clear6 .kept .0 ∙ (at-groups .groups .kept .1 .1 .1 .1 .1 .1 .1 .0 ∙ long-cleared _ _ (cleared-as _ _ _ (at-clear3 .clear3 .ensures) (start .pre .ls-long))) ∙
+    sym (start .pre .ls-long)
 
 -- src/parse.rt:93:9
 returns-3 : tie.Need-returns-3
-returns-3 c = let d = unread (c .before .before .before .before .before .before .before .before .before .before .before .before .before .before .before .before .before .before .before .before .before .before .before .before .before .before .before .before .before .before .before .before .before .before .before .before .before .before .before .before .before .before .before .before .before .before .before .before .before .before .args .format) (described (c .before .before .before .before .before .before .before .before .before .before .before .before .before .before .before .before .before .before .before .before .before .before .before .before .before .before .before .before .before .before .before .before .before .before .before .before .before .before .before .before .before .before .before .before .before .before .before .before .before .before .args .format) (c .before .before .before .before .before .before .before .before .before .before .before .before .before .before .before .before .before .before .before .before .before .before .before .before .before .before .before .before .before .before .before .before .before .before .before .before .before .before .before .before .before .before .before .before .before .before .before .before .before .before .args .bytes .now) (c .before .before .before .before .before .before .before .before .before .before .before .before .before .before .before .before .before .before .before .before .before .before .before .before .before .before .before .before .before .before .before .before .before .before .before .before .before .before .before .before .before .before .before .before .before .before .before .before .before .before .args .count)) (c .before .before .before .before .before .before .before .before .before .before .before .before .before .before .before .before .before .before .before .before .before .before .before .before .before .before .before .before .before .before .before .before .before .before .before .before .before .before .before .before .before .before .before .before .before .before .before .before .before .before .args .bytes .now) (c .before .before .before .before .before .before .before .before .before .before .before .before .before .before .before .before .before .before .before .before .before .before .before .before .before .before .before .before .before .before .before .before .before .before .before .before .before .before .before .before .before .before .before .before .before .before .before .before .before .before .args .count) (c .before .before .before .before .before .before .before .before .before .before .before .before .before .before .before .before .before .before .before .before .before .groups .result) _ (groups-described (c .before .before .before .before .before .before .before .before .before .before .before .before .before .before .before .before .before .before .before .before .before .before .before .before .before .before .before .before .before .before .before .before .before .before .before .before .before .before .before .before .before .before .before .before .before .before .before .before .before .before .args .format) (c .before .before .before .before .before .before .before .before .before .before .before .before .before .before .before .before .before .before .before .before .before .before .before .before .before .before .before .before .before .before .before .before .before .before .before .before .before .before .before .before .before .before .before .before .before .before .before .before .before .before .args .bytes .now) (c .before .before .before .before .before .before .before .before .before .before .before .before .before .before .before .before .before .before .before .before .before .before .before .before .before .before .before .before .before .before .before .before .before .before .before .before .before .before .before .before .before .before .before .before .before .before .before .before .before .before .args .count) (c .before .before .before .before .before .before .before .before .before .before .before .before .before .before .before .before .before .before .before .before .before .before .before .before .before .before .before .before .before .before .before .before .before .above .result) (c .before .before .before .before .before .before .before .before .before .before .before .before .before .before .before .before .before .before .before .before .before .before .before .before .before .before .before .before .before .before .before .before .before .above .ensures) (c .before .before .before .before .before .before .before .before .before .before .before .before .before .before .before .before .before .before .before .before .before .before .before .before .before .before .before .before .before .before .before .before .if1 .left) (c .before .before .before .before .before .before .before .before .before .before .before .before .before .before .before .before .before .before .before .before .before .before .before .before .before .before .before .before .before .before .before .header .result) (c .before .before .before .before .before .before .before .before .before .before .before .before .before .before .before .before .before .before .before .before .before .before .before .before .before .before .before .before .before .before .before .header .ensures) _ _ _ (c .before .before .before .before .before .before .before .before .before .before .before .before .before .before .before .before .before .before .before .before .before .before .before .before .before .before .before .bit .result) _ _ _ _ (c .before .before .before .before .before .before .before .before .before .before .before .before .before .before .before .before .before .before .before .before .before .before .before .before .before .before .before .before .before .opened .given .1) (c .before .before .before .before .before .before .before .before .before .before .before .before .before .before .before .before .before .before .before .before .before .before .before .before .before .before .before .bit .ensures) (cleared-as _ _ _ (c .before .before .before .before .before .before .before .before .before .before .before .before .before .before .before .before .before .before .before .before .before .before .before .before .before .before .before .before .before .before .before .before .before .before .before .before .before .before .before .before .before .before .before .before .clear .ensures) (c .before .before .before .before .before .before .before .before .before .before .before .before .before .before .before .before .before .before .before .before .before .before .before .before .before .before .before .before .before .before .before .before .before .before .before .before .before .before .before .before .before .before .before .before .before .before .before .before .before .before .pre .head-long)) (cleared-as _ _ _ (c .before .before .before .before .before .before .before .before .before .before .before .before .before .before .before .before .before .before .before .before .before .before .before .before .before .before .before .before .before .before .before .before .before .before .before .before .before .before .before .before .clear2 .ensures) (c .before .before .before .before .before .before .before .before .before .before .before .before .before .before .before .before .before .before .before .before .before .before .before .before .before .before .before .before .before .before .before .before .before .before .before .before .before .before .before .before .before .before .before .before .before .before .before .before .before .before .pre .ms-long)) (cleared-as _ _ _ (c .before .before .before .before .before .before .before .before .before .before .before .before .before .before .before .before .before .before .before .before .before .before .before .before .before .before .before .before .before .before .before .before .before .before .before .before .clear3 .ensures) (c .before .before .before .before .before .before .before .before .before .before .before .before .before .before .before .before .before .before .before .before .before .before .before .before .before .before .before .before .before .before .before .before .before .before .before .before .before .before .before .before .before .before .before .before .before .before .before .before .before .before .pre .ls-long)) (c .before .before .before .before .before .before .before .before .before .before .before .before .before .before .before .before .before .before .before .before .before .groups .ensures)) (c .before .before .before .before .before .before .before .before .before .before .before .before .before .before .match2 .keys2) in (ap (λ (r : Refusal). Refused r) (c .place-refusal .ensures) ∙ refused-verdict (c .before .before .before .before .before .before .before .before .before .before .before .before .before .before .before .before .before .before .before .before .before .before .before .before .before .before .before .before .before .before .before .before .before .before .before .before .before .before .before .before .before .before .before .before .before .before .before .before .before .before .args .format) (described (c .before .before .before .before .before .before .before .before .before .before .before .before .before .before .before .before .before .before .before .before .before .before .before .before .before .before .before .before .before .before .before .before .before .before .before .before .before .before .before .before .before .before .before .before .before .before .before .before .before .before .args .format) (c .before .before .before .before .before .before .before .before .before .before .before .before .before .before .before .before .before .before .before .before .before .before .before .before .before .before .before .before .before .before .before .before .before .before .before .before .before .before .before .before .before .before .before .before .before .before .before .before .before .before .args .bytes .now) (c .before .before .before .before .before .before .before .before .before .before .before .before .before .before .before .before .before .before .before .before .before .before .before .before .before .before .before .before .before .before .before .before .before .before .before .before .before .before .before .before .before .before .before .before .before .before .before .before .before .before .args .count)) _ d, refused-buffers (c .before .before .before .before .before .before .before .before .before .before .before .before .before .before .before .before .before .before .before .before .before .before .before .before .before .before .before .before .before .before .before .before .before .before .before .before .before .before .before .before .before .before .before .before .before .before .before .before .before .before .args .format) (described (c .before .before .before .before .before .before .before .before .before .before .before .before .before .before .before .before .before .before .before .before .before .before .before .before .before .before .before .before .before .before .before .before .before .before .before .before .before .before .before .before .before .before .before .before .before .before .before .before .before .before .args .format) (c .before .before .before .before .before .before .before .before .before .before .before .before .before .before .before .before .before .before .before .before .before .before .before .before .before .before .before .before .before .before .before .before .before .before .before .before .before .before .before .before .before .before .before .before .before .before .before .before .before .before .args .bytes .now) (c .before .before .before .before .before .before .before .before .before .before .before .before .before .before .before .before .before .before .before .before .before .before .before .before .before .before .before .before .before .before .before .before .before .before .before .before .before .before .before .before .before .before .before .before .before .before .before .before .before .before .args .count)) _ _ _ _ d (cleared-as _ (3 + groupCount (c .before .before .before .before .before .before .before .before .before .before .before .before .before .before .before .before .before .before .before .before .before .before .before .before .before .before .before .before .before .before .before .before .before .before .before .before .before .before .before .before .before .before .before .before .before .before .before .before .before .before .args .format)) _ (c .before .before .before .before .before .before .before .before .before .before .before .clear4 .ensures) (c .before .before .before .before .before .before .before .before .before .before .before .before .before .before .before .before .before .before .before .before .before .groups .kept .1 .1 .1 .1 .1 .0 ∙ simp length-set (long-cleared _ _ (cleared-as _ _ _ (c .before .before .before .before .before .before .before .before .before .before .before .before .before .before .before .before .before .before .before .before .before .before .before .before .before .before .before .before .before .before .before .before .before .before .before .before .before .before .before .before .before .before .before .before .clear .ensures) (c .before .before .before .before .before .before .before .before .before .before .before .before .before .before .before .before .before .before .before .before .before .before .before .before .before .before .before .before .before .before .before .before .before .before .before .before .before .before .before .before .before .before .before .before .before .before .before .before .before .before .pre .head-long))))) (cleared-as _ (groupCount (c .before .before .before .before .before .before .before .before .before .before .before .before .before .before .before .before .before .before .before .before .before .before .before .before .before .before .before .before .before .before .before .before .before .before .before .before .before .before .before .before .before .before .before .before .before .before .before .before .before .before .args .format) * 132) _ (c .before .before .before .before .before .before .before .clear5 .ensures) (c .before .before .before .before .before .before .before .before .before .before .before .before .before .before .before .before .before .before .before .before .before .groups .kept .1 .1 .1 .1 .1 .1 .0 ∙ long-cleared _ _ (cleared-as _ _ _ (c .before .before .before .before .before .before .before .before .before .before .before .before .before .before .before .before .before .before .before .before .before .before .before .before .before .before .before .before .before .before .before .before .before .before .before .before .before .before .before .before .clear2 .ensures) (c .before .before .before .before .before .before .before .before .before .before .before .before .before .before .before .before .before .before .before .before .before .before .before .before .before .before .before .before .before .before .before .before .before .before .before .before .before .before .before .before .before .before .before .before .before .before .before .before .before .before .pre .ms-long)))) (cleared-as _ (groupCount (c .before .before .before .before .before .before .before .before .before .before .before .before .before .before .before .before .before .before .before .before .before .before .before .before .before .before .before .before .before .before .before .before .before .before .before .before .before .before .before .before .before .before .before .before .before .before .before .before .before .before .args .format) * 12672) _ (c .before .before .before .clear6 .ensures) (c .before .before .before .before .before .before .before .before .before .before .before .before .before .before .before .before .before .before .before .before .before .groups .kept .1 .1 .1 .1 .1 .1 .1 .0 ∙ long-cleared _ _ (cleared-as _ _ _ (c .before .before .before .before .before .before .before .before .before .before .before .before .before .before .before .before .before .before .before .before .before .before .before .before .before .before .before .before .before .before .before .before .before .before .before .before .clear3 .ensures) (c .before .before .before .before .before .before .before .before .before .before .before .before .before .before .before .before .before .before .before .before .before .before .before .before .before .before .before .before .before .before .before .before .before .before .before .before .before .before .before .before .before .before .before .before .before .before .before .before .before .before .pre .ls-long)))))
+returns-3 c =
+    let at-clear6 = c .before .before .before in
+    let at-clear5 = at-clear6 .before .before .before .before in
+    let at-clear4 = at-clear5 .before .before .before .before in
+    let at-match2 = at-clear4 .before .before .before in
+    let at-groups = at-match2 .before .before .before .before .before .before .before in
+    let at-bit = at-groups .before .before .before .before .before .before in
+    let at-opened = at-bit .before .before in
+    let at-header = at-opened .before .before in
+    let at-if1 = at-header .before in
+    let at-above = at-if1 .before in
+    let at-clear3 = at-above .before .before .before in
+    let at-clear2 = at-clear3 .before .before .before .before in
+    let at-clear = at-clear2 .before .before .before .before in
+    let start = at-clear .before .before .before .before .before .before in
+    let bytes = start .args .bytes .now in
+    let format = start .args .format in
+    let count = start .args .count in
+    let d = unread format (described format bytes count) bytes count (at-groups .groups .result) _
+    (groups-described format bytes count (at-above .above .result) (at-above .above .ensures) (at-if1 .if1 .left) (at-header .header .result) (at-header .header .ensures) _ _
+    _ (at-bit .bit .result) _ _ _ _ (at-opened .opened .given .1) (at-bit .bit .ensures) (cleared-as _ _ _ (at-clear .clear .ensures) (start .pre .head-long))
+    (cleared-as _ _ _ (at-clear2 .clear2 .ensures) (start .pre .ms-long)) (cleared-as _ _ _ (at-clear3 .clear3 .ensures) (start .pre .ls-long)) (at-groups .groups .ensures))
+    (at-match2 .match2 .keys2) in (
+      ap (λ (r : Refusal). Refused r) (c .place-refusal .ensures) ∙ refused-verdict format (described format bytes count) _ d,
+      refused-buffers format (described format bytes count) _ _ _ _ d
+          (cleared-as _ (3 + groupCount format) _ (at-clear4 .clear4 .ensures)
+          (at-groups .groups .kept .1 .1 .1 .1 .1 .0 ∙ simp length-set (long-cleared _ _ (cleared-as _ _ _ (at-clear .clear .ensures) (start .pre .head-long)))))
+          (cleared-as _ (groupCount format * 132) _ (at-clear5 .clear5 .ensures)
+          (at-groups .groups .kept .1 .1 .1 .1 .1 .1 .0 ∙ long-cleared _ _ (cleared-as _ _ _ (at-clear2 .clear2 .ensures) (start .pre .ms-long))))
+          (cleared-as _ (groupCount format * 12672) _ (at-clear6 .clear6 .ensures)
+          (at-groups .groups .kept .1 .1 .1 .1 .1 .1 .1 .0 ∙ long-cleared _ _ (cleared-as _ _ _ (at-clear3 .clear3 .ensures) (start .pre .ls-long)))),
+    )
 
 -- src/parse.rt:50:1
 same-length-10 : tie.Need-same-length-10
-same-length-10 c = (c .before .before .before .before .before .before .before .before .groups .kept .1 .1 .1 .1 .1 .0 ∙ simp length-set (long-cleared _ _ (cleared-as _ _ _ (c .before .before .before .before .before .before .before .before .before .before .before .before .before .before .before .before .before .before .before .before .before .before .before .before .before .before .before .before .before .before .before .clear .ensures) (c .before .before .before .before .before .before .before .before .before .before .before .before .before .before .before .before .before .before .before .before .before .before .before .before .before .before .before .before .before .before .before .before .before .before .before .before .before .pre .head-long)))) ∙ sym (c .before .before .before .before .before .before .before .before .before .before .before .before .before .before .before .before .before .before .before .before .before .before .before .before .before .before .before .before .before .before .before .before .before .before .before .before .before .pre .head-long)
+same-length-10 c =
+    let at-groups = c .before .before .before .before .before .before .before .before in
+    let at-clear = at-groups .before .before .before .before .before .before .before .before .before .before .before .before .before .before .before .before .before .before .before .before .before .before .before in
+    let start = at-clear .before .before .before .before .before .before in
+    (at-groups .groups .kept .1 .1 .1 .1 .1 .0 ∙ simp length-set (long-cleared _ _ (cleared-as _ _ _ (at-clear .clear .ensures) (start .pre .head-long)))) ∙ sym
+    (start .pre .head-long)
 
 -- src/parse.rt:50:1
 same-length-11 : tie.Need-same-length-11
-same-length-11 c = (c .before .before .before .before .before .before .before .before .groups .kept .1 .1 .1 .1 .1 .1 .0 ∙ long-cleared _ _ (cleared-as _ _ _ (c .before .before .before .before .before .before .before .before .before .before .before .before .before .before .before .before .before .before .before .before .before .before .before .before .before .before .before .clear2 .ensures) (c .before .before .before .before .before .before .before .before .before .before .before .before .before .before .before .before .before .before .before .before .before .before .before .before .before .before .before .before .before .before .before .before .before .before .before .before .before .pre .ms-long))) ∙ sym (c .before .before .before .before .before .before .before .before .before .before .before .before .before .before .before .before .before .before .before .before .before .before .before .before .before .before .before .before .before .before .before .before .before .before .before .before .before .pre .ms-long)
+same-length-11 c =
+    let at-groups = c .before .before .before .before .before .before .before .before in
+    let at-clear2 = at-groups .before .before .before .before .before .before .before .before .before .before .before .before .before .before .before .before .before .before .before in
+    let start = at-clear2 .before .before .before .before .before .before .before .before .before .before in
+    (at-groups .groups .kept .1 .1 .1 .1 .1 .1 .0 ∙ long-cleared _ _ (cleared-as _ _ _ (at-clear2 .clear2 .ensures) (start .pre .ms-long))) ∙ sym (start .pre .ms-long)
 
 -- src/parse.rt:50:1
 same-length-12 : tie.Need-same-length-12
-same-length-12 c = (c .before .before .before .before .before .before .before .before .groups .kept .1 .1 .1 .1 .1 .1 .1 .0 ∙ long-cleared _ _ (cleared-as _ _ _ (c .before .before .before .before .before .before .before .before .before .before .before .before .before .before .before .before .before .before .before .before .before .before .before .clear3 .ensures) (c .before .before .before .before .before .before .before .before .before .before .before .before .before .before .before .before .before .before .before .before .before .before .before .before .before .before .before .before .before .before .before .before .before .before .before .before .before .pre .ls-long))) ∙ sym (c .before .before .before .before .before .before .before .before .before .before .before .before .before .before .before .before .before .before .before .before .before .before .before .before .before .before .before .before .before .before .before .before .before .before .before .before .before .pre .ls-long)
+same-length-12 c =
+    let at-groups = c .before .before .before .before .before .before .before .before in
+    let at-clear3 = at-groups .before .before .before .before .before .before .before .before .before .before .before .before .before .before .before in
+    let start = at-clear3 .before .before .before .before .before .before .before .before .before .before .before .before .before .before in
+    (at-groups .groups .kept .1 .1 .1 .1 .1 .1 .1 .0 ∙ long-cleared _ _ (cleared-as _ _ _ (at-clear3 .clear3 .ensures) (start .pre .ls-long))) ∙ sym (start .pre .ls-long)
 
 -- src/parse.rt:50:1
 returns-4 : tie.Need-returns-4
-returns-4 c = let v = groups-described (c .before .before .before .before .before .before .before .before .before .before .before .before .before .before .before .before .before .before .before .before .before .before .before .before .before .before .before .before .before .before .before .before .before .before .before .before .before .args .format) (c .before .before .before .before .before .before .before .before .before .before .before .before .before .before .before .before .before .before .before .before .before .before .before .before .before .before .before .before .before .before .before .before .before .before .before .before .before .args .bytes .now) (c .before .before .before .before .before .before .before .before .before .before .before .before .before .before .before .before .before .before .before .before .before .before .before .before .before .before .before .before .before .before .before .before .before .before .before .before .before .args .count) (c .before .before .before .before .before .before .before .before .before .before .before .before .before .before .before .before .before .before .before .before .above .result) (c .before .before .before .before .before .before .before .before .before .before .before .before .before .before .before .before .before .before .before .before .above .ensures) (c .before .before .before .before .before .before .before .before .before .before .before .before .before .before .before .before .before .before .before .if1 .left) (c .before .before .before .before .before .before .before .before .before .before .before .before .before .before .before .before .before .before .header .result) (c .before .before .before .before .before .before .before .before .before .before .before .before .before .before .before .before .before .before .header .ensures) _ _ _ (c .before .before .before .before .before .before .before .before .before .before .before .before .before .before .bit .result) _ _ _ _ (c .before .before .before .before .before .before .before .before .before .before .before .before .before .before .before .before .opened .given .1) (c .before .before .before .before .before .before .before .before .before .before .before .before .before .before .bit .ensures) (cleared-as _ _ _ (c .before .before .before .before .before .before .before .before .before .before .before .before .before .before .before .before .before .before .before .before .before .before .before .before .before .before .before .before .before .before .before .clear .ensures) (c .before .before .before .before .before .before .before .before .before .before .before .before .before .before .before .before .before .before .before .before .before .before .before .before .before .before .before .before .before .before .before .before .before .before .before .before .before .pre .head-long)) (cleared-as _ _ _ (c .before .before .before .before .before .before .before .before .before .before .before .before .before .before .before .before .before .before .before .before .before .before .before .before .before .before .before .clear2 .ensures) (c .before .before .before .before .before .before .before .before .before .before .before .before .before .before .before .before .before .before .before .before .before .before .before .before .before .before .before .before .before .before .before .before .before .before .before .before .before .pre .ms-long)) (cleared-as _ _ _ (c .before .before .before .before .before .before .before .before .before .before .before .before .before .before .before .before .before .before .before .before .before .before .before .clear3 .ensures) (c .before .before .before .before .before .before .before .before .before .before .before .before .before .before .before .before .before .before .before .before .before .before .before .before .before .before .before .before .before .before .before .before .before .before .before .before .before .pre .ls-long)) (c .before .before .before .before .before .before .before .before .groups .ensures) in (read-verdict (c .before .before .before .before .before .before .before .before .before .before .before .before .before .before .before .before .before .before .before .before .before .before .before .before .before .before .before .before .before .before .before .before .before .before .before .before .before .args .format) (described (c .before .before .before .before .before .before .before .before .before .before .before .before .before .before .before .before .before .before .before .before .before .before .before .before .before .before .before .before .before .before .before .before .before .before .before .before .before .args .format) (c .before .before .before .before .before .before .before .before .before .before .before .before .before .before .before .before .before .before .before .before .before .before .before .before .before .before .before .before .before .before .before .before .before .before .before .before .before .args .bytes .now) (c .before .before .before .before .before .before .before .before .before .before .before .before .before .before .before .before .before .before .before .before .before .before .before .before .before .before .before .before .before .before .before .before .before .before .before .before .before .args .count)) (c .before .before .before .before .before .before .before .before .before .before .before .before .before .before .before .before .before .before .before .before .before .before .before .before .before .before .before .before .before .before .before .before .before .before .before .before .before .args .bytes .now) (c .before .before .before .before .before .before .before .before .before .before .before .before .before .before .before .before .before .before .before .before .before .before .before .before .before .before .before .before .before .before .before .before .before .before .before .before .before .args .count) (c .before .before .before .before .before .before .before .before .groups .result) _ v (c .before .match2 .keys1), read-buffers (c .before .before .before .before .before .before .before .before .before .before .before .before .before .before .before .before .before .before .before .before .before .before .before .before .before .before .before .before .before .before .before .before .before .before .before .before .before .args .format) (described (c .before .before .before .before .before .before .before .before .before .before .before .before .before .before .before .before .before .before .before .before .before .before .before .before .before .before .before .before .before .before .before .before .before .before .before .before .before .args .format) (c .before .before .before .before .before .before .before .before .before .before .before .before .before .before .before .before .before .before .before .before .before .before .before .before .before .before .before .before .before .before .before .before .before .before .before .before .before .args .bytes .now) (c .before .before .before .before .before .before .before .before .before .before .before .before .before .before .before .before .before .before .before .before .before .before .before .before .before .before .before .before .before .before .before .before .before .before .before .before .before .args .count)) (c .before .before .before .before .before .before .before .before .before .before .before .before .before .before .before .before .before .before .before .before .before .before .before .before .before .before .before .before .before .before .before .before .before .before .before .before .before .args .bytes .now) (c .before .before .before .before .before .before .before .before .before .before .before .before .before .before .before .before .before .before .before .before .before .before .before .before .before .before .before .before .before .before .before .before .before .before .before .before .before .args .count) (c .before .before .before .before .before .before .before .before .groups .result) _ v (c .before .match2 .keys1))
+returns-4 c =
+    let at-match2 = c .before in
+    let at-groups = at-match2 .before .before .before .before .before .before .before in
+    let at-bit = at-groups .before .before .before .before .before .before in
+    let at-opened = at-bit .before .before in
+    let at-header = at-opened .before .before in
+    let at-if1 = at-header .before in
+    let at-above = at-if1 .before in
+    let at-clear3 = at-above .before .before .before in
+    let at-clear2 = at-clear3 .before .before .before .before in
+    let at-clear = at-clear2 .before .before .before .before in
+    let start = at-clear .before .before .before .before .before .before in
+    let bytes = start .args .bytes .now in
+    let format = start .args .format in
+    let count = start .args .count in
+    let v =
+    groups-described format bytes count (at-above .above .result) (at-above .above .ensures) (at-if1 .if1 .left) (at-header .header .result) (at-header .header .ensures) _ _
+    _ (at-bit .bit .result) _ _ _ _ (at-opened .opened .given .1) (at-bit .bit .ensures) (cleared-as _ _ _ (at-clear .clear .ensures) (start .pre .head-long))
+    (cleared-as _ _ _ (at-clear2 .clear2 .ensures) (start .pre .ms-long)) (cleared-as _ _ _ (at-clear3 .clear3 .ensures) (start .pre .ls-long)) (at-groups .groups .ensures) in (
+      read-verdict format (described format bytes count) bytes count (at-groups .groups .result) _ v (at-match2 .match2 .keys1),
+      read-buffers format (described format bytes count) bytes count (at-groups .groups .result) _ v (at-match2 .match2 .keys1),
+    )
 
 pub parse-spec : {M : Type 1} → statement M
 parse-spec =

@@ -4,20 +4,21 @@ use borrow.Author.Needs.{needs}
 use lib.IntN.{pos}
 use mir.Syntax.{w32}
 use Rattle.laws.specs.Integer.{back}
+use Rattle.laws.specs.Rows.{Starts, begins-none, begins-more}
 use Rattle.laws.specs.Block.{cell}
-use Rattle.transform.specs.Lines.{Entries, entries-none, entries-more, entries-all, back16}
+use Rattle.transform.specs.Lines.{starts-line, back16}
 use Rattle.transform.specs.Sample.{sampleOf, sample-low}
 use Rattle.render.proofs.parts.sums.Statement.{statement}
 use Rattle.render.proofs.parts.sums.Tie as tie
 
 abbrev Inv-loop : tie.InvT-loop
-Inv-loop prediction difference i row₀ j₀ row j = (j ≤ 8) × Entries (λ k. pos (sampleOf (cell (pos 0) prediction i k) (cell (pos 0) difference i k))) j row
+Inv-loop prediction difference i row₀ j₀ row j = (j ≤ 8) × Starts (pos 0) 8 j (λ k. pos (sampleOf (cell (pos 0) prediction i k) (cell (pos 0) difference i k))) row
 
 abbrev μ-loop : tie.MeasureT-loop
 μ-loop prediction difference i row₀ j₀ row j = 8 - j
 
 loop-holds : tie.Need-loop-holds Inv-loop μ-loop
-loop-holds c = (search needs, entries-none _ refl)
+loop-holds c = (search needs, begins-none refl)
 
 mul-sample : tie.Need-mul-sample Inv-loop μ-loop
 mul-sample c = search needs
@@ -59,10 +60,10 @@ loop-less : tie.Need-loop-less Inv-loop μ-loop
 loop-less c = search needs
 
 loop-again : tie.Need-loop-again Inv-loop μ-loop
-loop-again c = let s = c .before .before .before .before .before in let l = c .before .before .before .before .loop in (search needs, entries-more _ (l .inv .1) (search needs) (back16 (c .sample .result) (c .sample .ok) ∙ c .sample .ensures ∙ (λ z. pos (sampleOf (back w32 tt (sample-low (s .pre .0 (s .args .i) (l .j))) z) (back w32 tt (s .pre .1 (s .args .i) (l .j)) z)))))
+loop-again c = let s = c .before .before .before .before .before in let l = c .before .before .before .before .loop in (search needs, begins-more (l .inv .1) (search needs) (back16 (c .sample .result) (c .sample .ok) ∙ c .sample .ensures ∙ (λ z. pos (sampleOf (back w32 tt (sample-low (s .pre .0 (s .args .i) (l .j))) z) (back w32 tt (s .pre .1 (s .args .i) (l .j)) z)))))
 
 returns : tie.Need-returns Inv-loop μ-loop
-returns c = entries-all _ (c .before .loop .inv .1) (search needs)
+returns c = starts-line (c .before .loop .inv .1) (search needs)
 
 pub sums-spec : {M : Type 1} → statement M
 sums-spec =

@@ -2,12 +2,13 @@ use Prim.Native.Nat.{_+_, _-_, _*_}
 use native.Mathlib.Omega.{arith}
 use borrow.Author.Needs.{needs}
 use lib.ListN.{drop}
+use Rattle.description.specs.Levels.{all-take, all-drop}
 use Rattle.description.specs.Flat.{gathers}
 use Rattle.description.specs.Valid.{isLevel}
 use Rattle.writer.specs.Write.{blocksOf}
 use Rattle.writer.specs.Put.{wrote-long}
 use Rattle.validity.proofs.Steps.{piece-length}
-use Rattle.writer.proofs.BlockTurn.{all-take, all-drop, BlocksSoFar, blocks-begin, block-begins, blocks-done, blocks-room, blocks-more}
+use Rattle.writer.proofs.BlockTurn.{BlocksSoFar, blocks-begin, block-begins, blocks-done, blocks-room, blocks-more}
 use Rattle.writer.proofs.block.blocks.Statement.{statement}
 use Rattle.writer.proofs.block.blocks.Tie as tie
 

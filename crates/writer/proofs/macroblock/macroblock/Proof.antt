@@ -3,9 +3,10 @@ use borrow.Author.Needs.{needs}
 use lib.Dec.{lit≤}
 use lib.ListN.{getD}
 use Rattle.writer.specs.Put.{wrote-long, room-after, room-less, wrote-word, put-ready}
-use Rattle.writer.proofs.MacroblockSteps.{all-levels, all-codes, macroblock-whole}
+use Rattle.writer.proofs.MacroblockSteps.{all-codes, macroblock-whole}
 use Rattle.writer.proofs.macroblock.macroblock.Statement.{statement}
 use Rattle.writer.proofs.macroblock.macroblock.Tie as tie
+use Rattle.description.specs.Levels.{all-levels}
 
 shared-slice-read-kind : tie.Need-shared-slice-read-kind
 shared-slice-read-kind c = search needs

@@ -3,10 +3,11 @@ use native.Mathlib.Omega.{arith}
 use borrow.Author.Needs.{needs}
 use lib.ListN.{drop}
 use Rattle.format.specs.Format.{groupNumbers}
+use Rattle.format.specs.Room.{groups-most}
 use Rattle.description.specs.Flat.{groupsIn}
 use Rattle.writer.specs.Write.{groupsOf}
 use Rattle.writer.specs.Put.{wrote-long}
-use Rattle.validity.proofs.Steps.{counts, part-length}
+use Rattle.validity.proofs.Steps.{part-length}
 use Rattle.writer.proofs.GroupTurn.{valid-has, GroupsSoFar, groups-begin, groups-done, groups-room, gquant-low, group-sound, groups-more, number-low}
 use Rattle.writer.proofs.picture.groups.Statement.{statement}
 use Rattle.writer.proofs.picture.groups.Tie as tie
@@ -27,37 +28,37 @@ group-number-requires : tie.Need-group-number-requires Inv-loop μ-loop
 group-number-requires c κs = omega (arith, c .before .before .group-count .ensures, c .loop-test .taken)
 
 mul-a : tie.Need-mul-a Inv-loop μ-loop
-mul-a c = omega (arith, c .before .loop-test .taken, c .before .before .before .group-count .ensures, counts (c .before .before .before .before .before .before .before .before .args .format), (valid-has (c .before .before .before .before .before .before .before .before .args .format) (c .before .before .before .before .before .before .before .before .args .head .now) (c .before .before .before .before .before .before .before .before .args .macroblocks .now) (c .before .before .before .before .before .before .before .before .args .levels .now) (c .before .before .before .before .before .before .before .before .pre .1)) .head-long, (valid-has (c .before .before .before .before .before .before .before .before .args .format) (c .before .before .before .before .before .before .before .before .args .head .now) (c .before .before .before .before .before .before .before .before .args .macroblocks .now) (c .before .before .before .before .before .before .before .before .args .levels .now) (c .before .before .before .before .before .before .before .before .pre .1)) .macroblocks-long, (valid-has (c .before .before .before .before .before .before .before .before .args .format) (c .before .before .before .before .before .before .before .before .args .head .now) (c .before .before .before .before .before .before .before .before .args .macroblocks .now) (c .before .before .before .before .before .before .before .before .args .levels .now) (c .before .before .before .before .before .before .before .before .pre .1)) .levels-long)
+mul-a c = omega (arith, c .before .loop-test .taken, c .before .before .before .group-count .ensures, groups-most (c .before .before .before .before .before .before .before .before .args .format), (valid-has (c .before .before .before .before .before .before .before .before .args .format) (c .before .before .before .before .before .before .before .before .args .head .now) (c .before .before .before .before .before .before .before .before .args .macroblocks .now) (c .before .before .before .before .before .before .before .before .args .levels .now) (c .before .before .before .before .before .before .before .before .pre .1)) .head-long, (valid-has (c .before .before .before .before .before .before .before .before .args .format) (c .before .before .before .before .before .before .before .before .args .head .now) (c .before .before .before .before .before .before .before .before .args .macroblocks .now) (c .before .before .before .before .before .before .before .before .args .levels .now) (c .before .before .before .before .before .before .before .before .pre .1)) .macroblocks-long, (valid-has (c .before .before .before .before .before .before .before .before .args .format) (c .before .before .before .before .before .before .before .before .args .head .now) (c .before .before .before .before .before .before .before .before .args .macroblocks .now) (c .before .before .before .before .before .before .before .before .args .levels .now) (c .before .before .before .before .before .before .before .before .pre .1)) .levels-long)
 
 mul-b : tie.Need-mul-b Inv-loop μ-loop
-mul-b c = omega (arith, c .before .loop-test .taken, c .before .before .before .group-count .ensures, counts (c .before .before .before .before .before .before .before .before .args .format), (valid-has (c .before .before .before .before .before .before .before .before .args .format) (c .before .before .before .before .before .before .before .before .args .head .now) (c .before .before .before .before .before .before .before .before .args .macroblocks .now) (c .before .before .before .before .before .before .before .before .args .levels .now) (c .before .before .before .before .before .before .before .before .pre .1)) .head-long, (valid-has (c .before .before .before .before .before .before .before .before .args .format) (c .before .before .before .before .before .before .before .before .args .head .now) (c .before .before .before .before .before .before .before .before .args .macroblocks .now) (c .before .before .before .before .before .before .before .before .args .levels .now) (c .before .before .before .before .before .before .before .before .pre .1)) .macroblocks-long, (valid-has (c .before .before .before .before .before .before .before .before .args .format) (c .before .before .before .before .before .before .before .before .args .head .now) (c .before .before .before .before .before .before .before .before .args .macroblocks .now) (c .before .before .before .before .before .before .before .before .args .levels .now) (c .before .before .before .before .before .before .before .before .pre .1)) .levels-long)
+mul-b c = omega (arith, c .before .loop-test .taken, c .before .before .before .group-count .ensures, groups-most (c .before .before .before .before .before .before .before .before .args .format), (valid-has (c .before .before .before .before .before .before .before .before .args .format) (c .before .before .before .before .before .before .before .before .args .head .now) (c .before .before .before .before .before .before .before .before .args .macroblocks .now) (c .before .before .before .before .before .before .before .before .args .levels .now) (c .before .before .before .before .before .before .before .before .pre .1)) .head-long, (valid-has (c .before .before .before .before .before .before .before .before .args .format) (c .before .before .before .before .before .before .before .before .args .head .now) (c .before .before .before .before .before .before .before .before .args .macroblocks .now) (c .before .before .before .before .before .before .before .before .args .levels .now) (c .before .before .before .before .before .before .before .before .pre .1)) .macroblocks-long, (valid-has (c .before .before .before .before .before .before .before .before .args .format) (c .before .before .before .before .before .before .before .before .args .head .now) (c .before .before .before .before .before .before .before .before .args .macroblocks .now) (c .before .before .before .before .before .before .before .before .args .levels .now) (c .before .before .before .before .before .before .before .before .pre .1)) .levels-long)
 
 add-gquant : tie.Need-add-gquant Inv-loop μ-loop
-add-gquant c = omega (arith, c .before .loop-test .taken, c .before .before .before .group-count .ensures, counts (c .before .before .before .before .before .before .before .before .args .format), (valid-has (c .before .before .before .before .before .before .before .before .args .format) (c .before .before .before .before .before .before .before .before .args .head .now) (c .before .before .before .before .before .before .before .before .args .macroblocks .now) (c .before .before .before .before .before .before .before .before .args .levels .now) (c .before .before .before .before .before .before .before .before .pre .1)) .head-long, (valid-has (c .before .before .before .before .before .before .before .before .args .format) (c .before .before .before .before .before .before .before .before .args .head .now) (c .before .before .before .before .before .before .before .before .args .macroblocks .now) (c .before .before .before .before .before .before .before .before .args .levels .now) (c .before .before .before .before .before .before .before .before .pre .1)) .macroblocks-long, (valid-has (c .before .before .before .before .before .before .before .before .args .format) (c .before .before .before .before .before .before .before .before .args .head .now) (c .before .before .before .before .before .before .before .before .args .macroblocks .now) (c .before .before .before .before .before .before .before .before .args .levels .now) (c .before .before .before .before .before .before .before .before .pre .1)) .levels-long)
+add-gquant c = omega (arith, c .before .loop-test .taken, c .before .before .before .group-count .ensures, groups-most (c .before .before .before .before .before .before .before .before .args .format), (valid-has (c .before .before .before .before .before .before .before .before .args .format) (c .before .before .before .before .before .before .before .before .args .head .now) (c .before .before .before .before .before .before .before .before .args .macroblocks .now) (c .before .before .before .before .before .before .before .before .args .levels .now) (c .before .before .before .before .before .before .before .before .pre .1)) .head-long, (valid-has (c .before .before .before .before .before .before .before .before .args .format) (c .before .before .before .before .before .before .before .before .args .head .now) (c .before .before .before .before .before .before .before .before .args .macroblocks .now) (c .before .before .before .before .before .before .before .before .args .levels .now) (c .before .before .before .before .before .before .before .before .pre .1)) .macroblocks-long, (valid-has (c .before .before .before .before .before .before .before .before .args .format) (c .before .before .before .before .before .before .before .before .args .head .now) (c .before .before .before .before .before .before .before .before .args .macroblocks .now) (c .before .before .before .before .before .before .before .before .args .levels .now) (c .before .before .before .before .before .before .before .before .pre .1)) .levels-long)
 
 shared-slice-read-gquant : tie.Need-shared-slice-read-gquant Inv-loop μ-loop
-shared-slice-read-gquant c = omega (arith, c .before .before .loop-test .taken, c .before .before .before .before .group-count .ensures, counts (c .before .before .before .before .before .before .before .before .before .args .format), (valid-has (c .before .before .before .before .before .before .before .before .before .args .format) (c .before .before .before .before .before .before .before .before .before .args .head .now) (c .before .before .before .before .before .before .before .before .before .args .macroblocks .now) (c .before .before .before .before .before .before .before .before .before .args .levels .now) (c .before .before .before .before .before .before .before .before .before .pre .1)) .head-long, (valid-has (c .before .before .before .before .before .before .before .before .before .args .format) (c .before .before .before .before .before .before .before .before .before .args .head .now) (c .before .before .before .before .before .before .before .before .before .args .macroblocks .now) (c .before .before .before .before .before .before .before .before .before .args .levels .now) (c .before .before .before .before .before .before .before .before .before .pre .1)) .macroblocks-long, (valid-has (c .before .before .before .before .before .before .before .before .before .args .format) (c .before .before .before .before .before .before .before .before .before .args .head .now) (c .before .before .before .before .before .before .before .before .before .args .macroblocks .now) (c .before .before .before .before .before .before .before .before .before .args .levels .now) (c .before .before .before .before .before .before .before .before .before .pre .1)) .levels-long)
+shared-slice-read-gquant c = omega (arith, c .before .before .loop-test .taken, c .before .before .before .before .group-count .ensures, groups-most (c .before .before .before .before .before .before .before .before .before .args .format), (valid-has (c .before .before .before .before .before .before .before .before .before .args .format) (c .before .before .before .before .before .before .before .before .before .args .head .now) (c .before .before .before .before .before .before .before .before .before .args .macroblocks .now) (c .before .before .before .before .before .before .before .before .before .args .levels .now) (c .before .before .before .before .before .before .before .before .before .pre .1)) .head-long, (valid-has (c .before .before .before .before .before .before .before .before .before .args .format) (c .before .before .before .before .before .before .before .before .before .args .head .now) (c .before .before .before .before .before .before .before .before .before .args .macroblocks .now) (c .before .before .before .before .before .before .before .before .before .args .levels .now) (c .before .before .before .before .before .before .before .before .before .pre .1)) .macroblocks-long, (valid-has (c .before .before .before .before .before .before .before .before .before .args .format) (c .before .before .before .before .before .before .before .before .before .args .head .now) (c .before .before .before .before .before .before .before .before .before .args .macroblocks .now) (c .before .before .before .before .before .before .before .before .before .args .levels .now) (c .before .before .before .before .before .before .before .before .before .pre .1)) .levels-long)
 
 sub-group : tie.Need-sub-group Inv-loop μ-loop
-sub-group c = omega (arith, c .before .before .loop-test .taken, c .before .before .before .before .group-count .ensures, counts (c .before .before .before .before .before .before .before .before .before .args .format), (valid-has (c .before .before .before .before .before .before .before .before .before .args .format) (c .before .before .before .before .before .before .before .before .before .args .head .now) (c .before .before .before .before .before .before .before .before .before .args .macroblocks .now) (c .before .before .before .before .before .before .before .before .before .args .levels .now) (c .before .before .before .before .before .before .before .before .before .pre .1)) .head-long, (valid-has (c .before .before .before .before .before .before .before .before .before .args .format) (c .before .before .before .before .before .before .before .before .before .args .head .now) (c .before .before .before .before .before .before .before .before .before .args .macroblocks .now) (c .before .before .before .before .before .before .before .before .before .args .levels .now) (c .before .before .before .before .before .before .before .before .before .pre .1)) .macroblocks-long, (valid-has (c .before .before .before .before .before .before .before .before .before .args .format) (c .before .before .before .before .before .before .before .before .before .args .head .now) (c .before .before .before .before .before .before .before .before .before .args .macroblocks .now) (c .before .before .before .before .before .before .before .before .before .args .levels .now) (c .before .before .before .before .before .before .before .before .before .pre .1)) .levels-long)
+sub-group c = omega (arith, c .before .before .loop-test .taken, c .before .before .before .before .group-count .ensures, groups-most (c .before .before .before .before .before .before .before .before .before .args .format), (valid-has (c .before .before .before .before .before .before .before .before .before .args .format) (c .before .before .before .before .before .before .before .before .before .args .head .now) (c .before .before .before .before .before .before .before .before .before .args .macroblocks .now) (c .before .before .before .before .before .before .before .before .before .args .levels .now) (c .before .before .before .before .before .before .before .before .before .pre .1)) .head-long, (valid-has (c .before .before .before .before .before .before .before .before .before .args .format) (c .before .before .before .before .before .before .before .before .before .args .head .now) (c .before .before .before .before .before .before .before .before .before .args .macroblocks .now) (c .before .before .before .before .before .before .before .before .before .args .levels .now) (c .before .before .before .before .before .before .before .before .before .pre .1)) .macroblocks-long, (valid-has (c .before .before .before .before .before .before .before .before .before .args .format) (c .before .before .before .before .before .before .before .before .before .args .head .now) (c .before .before .before .before .before .before .before .before .before .args .macroblocks .now) (c .before .before .before .before .before .before .before .before .before .args .levels .now) (c .before .before .before .before .before .before .before .before .before .pre .1)) .levels-long)
 
 part-group-start : tie.Need-part-group-start Inv-loop μ-loop
-part-group-start c = omega (arith, c .before .before .loop-test .taken, c .before .before .before .before .group-count .ensures, counts (c .before .before .before .before .before .before .before .before .before .args .format), (valid-has (c .before .before .before .before .before .before .before .before .before .args .format) (c .before .before .before .before .before .before .before .before .before .args .head .now) (c .before .before .before .before .before .before .before .before .before .args .macroblocks .now) (c .before .before .before .before .before .before .before .before .before .args .levels .now) (c .before .before .before .before .before .before .before .before .before .pre .1)) .head-long, (valid-has (c .before .before .before .before .before .before .before .before .before .args .format) (c .before .before .before .before .before .before .before .before .before .args .head .now) (c .before .before .before .before .before .before .before .before .before .args .macroblocks .now) (c .before .before .before .before .before .before .before .before .before .args .levels .now) (c .before .before .before .before .before .before .before .before .before .pre .1)) .macroblocks-long, (valid-has (c .before .before .before .before .before .before .before .before .before .args .format) (c .before .before .before .before .before .before .before .before .before .args .head .now) (c .before .before .before .before .before .before .before .before .before .args .macroblocks .now) (c .before .before .before .before .before .before .before .before .before .args .levels .now) (c .before .before .before .before .before .before .before .before .before .pre .1)) .levels-long)
+part-group-start c = omega (arith, c .before .before .loop-test .taken, c .before .before .before .before .group-count .ensures, groups-most (c .before .before .before .before .before .before .before .before .before .args .format), (valid-has (c .before .before .before .before .before .before .before .before .before .args .format) (c .before .before .before .before .before .before .before .before .before .args .head .now) (c .before .before .before .before .before .before .before .before .before .args .macroblocks .now) (c .before .before .before .before .before .before .before .before .before .args .levels .now) (c .before .before .before .before .before .before .before .before .before .pre .1)) .head-long, (valid-has (c .before .before .before .before .before .before .before .before .before .args .format) (c .before .before .before .before .before .before .before .before .before .args .head .now) (c .before .before .before .before .before .before .before .before .before .args .macroblocks .now) (c .before .before .before .before .before .before .before .before .before .args .levels .now) (c .before .before .before .before .before .before .before .before .before .pre .1)) .macroblocks-long, (valid-has (c .before .before .before .before .before .before .before .before .before .args .format) (c .before .before .before .before .before .before .before .before .before .args .head .now) (c .before .before .before .before .before .before .before .before .before .args .macroblocks .now) (c .before .before .before .before .before .before .before .before .before .args .levels .now) (c .before .before .before .before .before .before .before .before .before .pre .1)) .levels-long)
 
 part-group-end : tie.Need-part-group-end Inv-loop μ-loop
-part-group-end c = omega (arith, c .before .before .loop-test .taken, c .before .before .before .before .group-count .ensures, counts (c .before .before .before .before .before .before .before .before .before .args .format), (valid-has (c .before .before .before .before .before .before .before .before .before .args .format) (c .before .before .before .before .before .before .before .before .before .args .head .now) (c .before .before .before .before .before .before .before .before .before .args .macroblocks .now) (c .before .before .before .before .before .before .before .before .before .args .levels .now) (c .before .before .before .before .before .before .before .before .before .pre .1)) .head-long, (valid-has (c .before .before .before .before .before .before .before .before .before .args .format) (c .before .before .before .before .before .before .before .before .before .args .head .now) (c .before .before .before .before .before .before .before .before .before .args .macroblocks .now) (c .before .before .before .before .before .before .before .before .before .args .levels .now) (c .before .before .before .before .before .before .before .before .before .pre .1)) .macroblocks-long, (valid-has (c .before .before .before .before .before .before .before .before .before .args .format) (c .before .before .before .before .before .before .before .before .before .args .head .now) (c .before .before .before .before .before .before .before .before .before .args .macroblocks .now) (c .before .before .before .before .before .before .before .before .before .args .levels .now) (c .before .before .before .before .before .before .before .before .before .pre .1)) .levels-long)
+part-group-end c = omega (arith, c .before .before .loop-test .taken, c .before .before .before .before .group-count .ensures, groups-most (c .before .before .before .before .before .before .before .before .before .args .format), (valid-has (c .before .before .before .before .before .before .before .before .before .args .format) (c .before .before .before .before .before .before .before .before .before .args .head .now) (c .before .before .before .before .before .before .before .before .before .args .macroblocks .now) (c .before .before .before .before .before .before .before .before .before .args .levels .now) (c .before .before .before .before .before .before .before .before .before .pre .1)) .head-long, (valid-has (c .before .before .before .before .before .before .before .before .before .args .format) (c .before .before .before .before .before .before .before .before .before .args .head .now) (c .before .before .before .before .before .before .before .before .before .args .macroblocks .now) (c .before .before .before .before .before .before .before .before .before .args .levels .now) (c .before .before .before .before .before .before .before .before .before .pre .1)) .macroblocks-long, (valid-has (c .before .before .before .before .before .before .before .before .before .args .format) (c .before .before .before .before .before .before .before .before .before .args .head .now) (c .before .before .before .before .before .before .before .before .before .args .macroblocks .now) (c .before .before .before .before .before .before .before .before .before .args .levels .now) (c .before .before .before .before .before .before .before .before .before .pre .1)) .levels-long)
 
 sub-group-2 : tie.Need-sub-group-2 Inv-loop μ-loop
-sub-group-2 c = omega (arith, c .before .before .before .loop-test .taken, c .before .before .before .before .before .group-count .ensures, counts (c .before .before .before .before .before .before .before .before .before .before .args .format), (valid-has (c .before .before .before .before .before .before .before .before .before .before .args .format) (c .before .before .before .before .before .before .before .before .before .before .args .head .now) (c .before .before .before .before .before .before .before .before .before .before .args .macroblocks .now) (c .before .before .before .before .before .before .before .before .before .before .args .levels .now) (c .before .before .before .before .before .before .before .before .before .before .pre .1)) .head-long, (valid-has (c .before .before .before .before .before .before .before .before .before .before .args .format) (c .before .before .before .before .before .before .before .before .before .before .args .head .now) (c .before .before .before .before .before .before .before .before .before .before .args .macroblocks .now) (c .before .before .before .before .before .before .before .before .before .before .args .levels .now) (c .before .before .before .before .before .before .before .before .before .before .pre .1)) .macroblocks-long, (valid-has (c .before .before .before .before .before .before .before .before .before .before .args .format) (c .before .before .before .before .before .before .before .before .before .before .args .head .now) (c .before .before .before .before .before .before .before .before .before .before .args .macroblocks .now) (c .before .before .before .before .before .before .before .before .before .before .args .levels .now) (c .before .before .before .before .before .before .before .before .before .before .pre .1)) .levels-long)
+sub-group-2 c = omega (arith, c .before .before .before .loop-test .taken, c .before .before .before .before .before .group-count .ensures, groups-most (c .before .before .before .before .before .before .before .before .before .before .args .format), (valid-has (c .before .before .before .before .before .before .before .before .before .before .args .format) (c .before .before .before .before .before .before .before .before .before .before .args .head .now) (c .before .before .before .before .before .before .before .before .before .before .args .macroblocks .now) (c .before .before .before .before .before .before .before .before .before .before .args .levels .now) (c .before .before .before .before .before .before .before .before .before .before .pre .1)) .head-long, (valid-has (c .before .before .before .before .before .before .before .before .before .before .args .format) (c .before .before .before .before .before .before .before .before .before .before .args .head .now) (c .before .before .before .before .before .before .before .before .before .before .args .macroblocks .now) (c .before .before .before .before .before .before .before .before .before .before .args .levels .now) (c .before .before .before .before .before .before .before .before .before .before .pre .1)) .macroblocks-long, (valid-has (c .before .before .before .before .before .before .before .before .before .before .args .format) (c .before .before .before .before .before .before .before .before .before .before .args .head .now) (c .before .before .before .before .before .before .before .before .before .before .args .macroblocks .now) (c .before .before .before .before .before .before .before .before .before .before .args .levels .now) (c .before .before .before .before .before .before .before .before .before .before .pre .1)) .levels-long)
 
 part-group-start-2 : tie.Need-part-group-start-2 Inv-loop μ-loop
-part-group-start-2 c = omega (arith, c .before .before .before .loop-test .taken, c .before .before .before .before .before .group-count .ensures, counts (c .before .before .before .before .before .before .before .before .before .before .args .format), (valid-has (c .before .before .before .before .before .before .before .before .before .before .args .format) (c .before .before .before .before .before .before .before .before .before .before .args .head .now) (c .before .before .before .before .before .before .before .before .before .before .args .macroblocks .now) (c .before .before .before .before .before .before .before .before .before .before .args .levels .now) (c .before .before .before .before .before .before .before .before .before .before .pre .1)) .head-long, (valid-has (c .before .before .before .before .before .before .before .before .before .before .args .format) (c .before .before .before .before .before .before .before .before .before .before .args .head .now) (c .before .before .before .before .before .before .before .before .before .before .args .macroblocks .now) (c .before .before .before .before .before .before .before .before .before .before .args .levels .now) (c .before .before .before .before .before .before .before .before .before .before .pre .1)) .macroblocks-long, (valid-has (c .before .before .before .before .before .before .before .before .before .before .args .format) (c .before .before .before .before .before .before .before .before .before .before .args .head .now) (c .before .before .before .before .before .before .before .before .before .before .args .macroblocks .now) (c .before .before .before .before .before .before .before .before .before .before .args .levels .now) (c .before .before .before .before .before .before .before .before .before .before .pre .1)) .levels-long)
+part-group-start-2 c = omega (arith, c .before .before .before .loop-test .taken, c .before .before .before .before .before .group-count .ensures, groups-most (c .before .before .before .before .before .before .before .before .before .before .args .format), (valid-has (c .before .before .before .before .before .before .before .before .before .before .args .format) (c .before .before .before .before .before .before .before .before .before .before .args .head .now) (c .before .before .before .before .before .before .before .before .before .before .args .macroblocks .now) (c .before .before .before .before .before .before .before .before .before .before .args .levels .now) (c .before .before .before .before .before .before .before .before .before .before .pre .1)) .head-long, (valid-has (c .before .before .before .before .before .before .before .before .before .before .args .format) (c .before .before .before .before .before .before .before .before .before .before .args .head .now) (c .before .before .before .before .before .before .before .before .before .before .args .macroblocks .now) (c .before .before .before .before .before .before .before .before .before .before .args .levels .now) (c .before .before .before .before .before .before .before .before .before .before .pre .1)) .macroblocks-long, (valid-has (c .before .before .before .before .before .before .before .before .before .before .args .format) (c .before .before .before .before .before .before .before .before .before .before .args .head .now) (c .before .before .before .before .before .before .before .before .before .before .args .macroblocks .now) (c .before .before .before .before .before .before .before .before .before .before .args .levels .now) (c .before .before .before .before .before .before .before .before .before .before .pre .1)) .levels-long)
 
 part-group-end-2 : tie.Need-part-group-end-2 Inv-loop μ-loop
-part-group-end-2 c = omega (arith, c .before .before .before .loop-test .taken, c .before .before .before .before .before .group-count .ensures, counts (c .before .before .before .before .before .before .before .before .before .before .args .format), (valid-has (c .before .before .before .before .before .before .before .before .before .before .args .format) (c .before .before .before .before .before .before .before .before .before .before .args .head .now) (c .before .before .before .before .before .before .before .before .before .before .args .macroblocks .now) (c .before .before .before .before .before .before .before .before .before .before .args .levels .now) (c .before .before .before .before .before .before .before .before .before .before .pre .1)) .head-long, (valid-has (c .before .before .before .before .before .before .before .before .before .before .args .format) (c .before .before .before .before .before .before .before .before .before .before .args .head .now) (c .before .before .before .before .before .before .before .before .before .before .args .macroblocks .now) (c .before .before .before .before .before .before .before .before .before .before .args .levels .now) (c .before .before .before .before .before .before .before .before .before .before .pre .1)) .macroblocks-long, (valid-has (c .before .before .before .before .before .before .before .before .before .before .args .format) (c .before .before .before .before .before .before .before .before .before .before .args .head .now) (c .before .before .before .before .before .before .before .before .before .before .args .macroblocks .now) (c .before .before .before .before .before .before .before .before .before .before .args .levels .now) (c .before .before .before .before .before .before .before .before .before .before .pre .1)) .levels-long)
+part-group-end-2 c = omega (arith, c .before .before .before .loop-test .taken, c .before .before .before .before .before .group-count .ensures, groups-most (c .before .before .before .before .before .before .before .before .before .before .args .format), (valid-has (c .before .before .before .before .before .before .before .before .before .before .args .format) (c .before .before .before .before .before .before .before .before .before .before .args .head .now) (c .before .before .before .before .before .before .before .before .before .before .args .macroblocks .now) (c .before .before .before .before .before .before .before .before .before .before .args .levels .now) (c .before .before .before .before .before .before .before .before .before .before .pre .1)) .head-long, (valid-has (c .before .before .before .before .before .before .before .before .before .before .args .format) (c .before .before .before .before .before .before .before .before .before .before .args .head .now) (c .before .before .before .before .before .before .before .before .before .before .args .macroblocks .now) (c .before .before .before .before .before .before .before .before .before .before .args .levels .now) (c .before .before .before .before .before .before .before .before .before .before .pre .1)) .macroblocks-long, (valid-has (c .before .before .before .before .before .before .before .before .before .before .args .format) (c .before .before .before .before .before .before .before .before .before .before .args .head .now) (c .before .before .before .before .before .before .before .before .before .before .args .macroblocks .now) (c .before .before .before .before .before .before .before .before .before .before .args .levels .now) (c .before .before .before .before .before .before .before .before .before .before .pre .1)) .levels-long)
 
 group-requires : tie.Need-group-requires Inv-loop μ-loop
-group-requires c κs = (c .before .before .before .before .before .before .before .before .before .before .before .before .pre .0, number-low (c .before .before .before .before .before .before .before .before .before .before .before .before .args .format) (c .before .before .before .before .before .before .loop .g) _ (c .before .before .before .before .group-number .ensures), gquant-low (c .before .before .before .before .before .before .loop .inv) (valid-has (c .before .before .before .before .before .before .before .before .before .before .before .before .args .format) (c .before .before .before .before .before .before .before .before .before .before .before .before .args .head .now) (c .before .before .before .before .before .before .before .before .before .before .before .before .args .macroblocks .now) (c .before .before .before .before .before .before .before .before .before .before .before .before .args .levels .now) (c .before .before .before .before .before .before .before .before .before .before .before .before .pre .1)) (c .before .before .before .before .before .before .before .before .before .before .before .before .pre .2) (omega (arith, c .before .before .before .before .before .before .before .group-count .ensures, c .before .before .before .before .before .loop-test .taken)), part-length (c .before .before .before .before .before .before .before .before .before .before .before .before .args .macroblocks .now) (c .before .before .before .before .before .before .loop .g * 132) 132 (omega (arith, c .before .before .before .before .before .loop-test .taken, c .before .before .before .before .before .before .before .group-count .ensures, counts (c .before .before .before .before .before .before .before .before .before .before .before .before .args .format), (valid-has (c .before .before .before .before .before .before .before .before .before .before .before .before .args .format) (c .before .before .before .before .before .before .before .before .before .before .before .before .args .head .now) (c .before .before .before .before .before .before .before .before .before .before .before .before .args .macroblocks .now) (c .before .before .before .before .before .before .before .before .before .before .before .before .args .levels .now) (c .before .before .before .before .before .before .before .before .before .before .before .before .pre .1)) .head-long, (valid-has (c .before .before .before .before .before .before .before .before .before .before .before .before .args .format) (c .before .before .before .before .before .before .before .before .before .before .before .before .args .head .now) (c .before .before .before .before .before .before .before .before .before .before .before .before .args .macroblocks .now) (c .before .before .before .before .before .before .before .before .before .before .before .before .args .levels .now) (c .before .before .before .before .before .before .before .before .before .before .before .before .pre .1)) .macroblocks-long, (valid-has (c .before .before .before .before .before .before .before .before .before .before .before .before .args .format) (c .before .before .before .before .before .before .before .before .before .before .before .before .args .head .now) (c .before .before .before .before .before .before .before .before .before .before .before .before .args .macroblocks .now) (c .before .before .before .before .before .before .before .before .before .before .before .before .args .levels .now) (c .before .before .before .before .before .before .before .before .before .before .before .before .pre .1)) .levels-long)), part-length (c .before .before .before .before .before .before .before .before .before .before .before .before .args .levels .now) (c .before .before .before .before .before .before .loop .g * 12672) 12672 (omega (arith, c .before .before .before .before .before .loop-test .taken, c .before .before .before .before .before .before .before .group-count .ensures, counts (c .before .before .before .before .before .before .before .before .before .before .before .before .args .format), (valid-has (c .before .before .before .before .before .before .before .before .before .before .before .before .args .format) (c .before .before .before .before .before .before .before .before .before .before .before .before .args .head .now) (c .before .before .before .before .before .before .before .before .before .before .before .before .args .macroblocks .now) (c .before .before .before .before .before .before .before .before .before .before .before .before .args .levels .now) (c .before .before .before .before .before .before .before .before .before .before .before .before .pre .1)) .head-long, (valid-has (c .before .before .before .before .before .before .before .before .before .before .before .before .args .format) (c .before .before .before .before .before .before .before .before .before .before .before .before .args .head .now) (c .before .before .before .before .before .before .before .before .before .before .before .before .args .macroblocks .now) (c .before .before .before .before .before .before .before .before .before .before .before .before .args .levels .now) (c .before .before .before .before .before .before .before .before .before .before .before .before .pre .1)) .macroblocks-long, (valid-has (c .before .before .before .before .before .before .before .before .before .before .before .before .args .format) (c .before .before .before .before .before .before .before .before .before .before .before .before .args .head .now) (c .before .before .before .before .before .before .before .before .before .before .before .before .args .macroblocks .now) (c .before .before .before .before .before .before .before .before .before .before .before .before .args .levels .now) (c .before .before .before .before .before .before .before .before .before .before .before .before .pre .1)) .levels-long)), group-sound (c .before .before .before .before .before .before .loop .inv) (valid-has (c .before .before .before .before .before .before .before .before .before .before .before .before .args .format) (c .before .before .before .before .before .before .before .before .before .before .before .before .args .head .now) (c .before .before .before .before .before .before .before .before .before .before .before .before .args .macroblocks .now) (c .before .before .before .before .before .before .before .before .before .before .before .before .args .levels .now) (c .before .before .before .before .before .before .before .before .before .before .before .before .pre .1)) (c .before .before .before .before .before .before .before .before .before .before .before .before .pre .2) (omega (arith, c .before .before .before .before .before .before .before .group-count .ensures, c .before .before .before .before .before .loop-test .taken)), groups-room (c .before .before .before .before .before .before .loop .inv) (valid-has (c .before .before .before .before .before .before .before .before .before .before .before .before .args .format) (c .before .before .before .before .before .before .before .before .before .before .before .before .args .head .now) (c .before .before .before .before .before .before .before .before .before .before .before .before .args .macroblocks .now) (c .before .before .before .before .before .before .before .before .before .before .before .before .args .levels .now) (c .before .before .before .before .before .before .before .before .before .before .before .before .pre .1)) (c .before .before .before .before .before .before .before .before .before .before .before .before .pre .2) (omega (arith, c .before .before .before .before .before .before .before .group-count .ensures, c .before .before .before .before .before .loop-test .taken)))
+group-requires c κs = (c .before .before .before .before .before .before .before .before .before .before .before .before .pre .0, number-low (c .before .before .before .before .before .before .before .before .before .before .before .before .args .format) (c .before .before .before .before .before .before .loop .g) _ (c .before .before .before .before .group-number .ensures), gquant-low (c .before .before .before .before .before .before .loop .inv) (valid-has (c .before .before .before .before .before .before .before .before .before .before .before .before .args .format) (c .before .before .before .before .before .before .before .before .before .before .before .before .args .head .now) (c .before .before .before .before .before .before .before .before .before .before .before .before .args .macroblocks .now) (c .before .before .before .before .before .before .before .before .before .before .before .before .args .levels .now) (c .before .before .before .before .before .before .before .before .before .before .before .before .pre .1)) (c .before .before .before .before .before .before .before .before .before .before .before .before .pre .2) (omega (arith, c .before .before .before .before .before .before .before .group-count .ensures, c .before .before .before .before .before .loop-test .taken)), part-length (c .before .before .before .before .before .before .before .before .before .before .before .before .args .macroblocks .now) (c .before .before .before .before .before .before .loop .g * 132) 132 (omega (arith, c .before .before .before .before .before .loop-test .taken, c .before .before .before .before .before .before .before .group-count .ensures, groups-most (c .before .before .before .before .before .before .before .before .before .before .before .before .args .format), (valid-has (c .before .before .before .before .before .before .before .before .before .before .before .before .args .format) (c .before .before .before .before .before .before .before .before .before .before .before .before .args .head .now) (c .before .before .before .before .before .before .before .before .before .before .before .before .args .macroblocks .now) (c .before .before .before .before .before .before .before .before .before .before .before .before .args .levels .now) (c .before .before .before .before .before .before .before .before .before .before .before .before .pre .1)) .head-long, (valid-has (c .before .before .before .before .before .before .before .before .before .before .before .before .args .format) (c .before .before .before .before .before .before .before .before .before .before .before .before .args .head .now) (c .before .before .before .before .before .before .before .before .before .before .before .before .args .macroblocks .now) (c .before .before .before .before .before .before .before .before .before .before .before .before .args .levels .now) (c .before .before .before .before .before .before .before .before .before .before .before .before .pre .1)) .macroblocks-long, (valid-has (c .before .before .before .before .before .before .before .before .before .before .before .before .args .format) (c .before .before .before .before .before .before .before .before .before .before .before .before .args .head .now) (c .before .before .before .before .before .before .before .before .before .before .before .before .args .macroblocks .now) (c .before .before .before .before .before .before .before .before .before .before .before .before .args .levels .now) (c .before .before .before .before .before .before .before .before .before .before .before .before .pre .1)) .levels-long)), part-length (c .before .before .before .before .before .before .before .before .before .before .before .before .args .levels .now) (c .before .before .before .before .before .before .loop .g * 12672) 12672 (omega (arith, c .before .before .before .before .before .loop-test .taken, c .before .before .before .before .before .before .before .group-count .ensures, groups-most (c .before .before .before .before .before .before .before .before .before .before .before .before .args .format), (valid-has (c .before .before .before .before .before .before .before .before .before .before .before .before .args .format) (c .before .before .before .before .before .before .before .before .before .before .before .before .args .head .now) (c .before .before .before .before .before .before .before .before .before .before .before .before .args .macroblocks .now) (c .before .before .before .before .before .before .before .before .before .before .before .before .args .levels .now) (c .before .before .before .before .before .before .before .before .before .before .before .before .pre .1)) .head-long, (valid-has (c .before .before .before .before .before .before .before .before .before .before .before .before .args .format) (c .before .before .before .before .before .before .before .before .before .before .before .before .args .head .now) (c .before .before .before .before .before .before .before .before .before .before .before .before .args .macroblocks .now) (c .before .before .before .before .before .before .before .before .before .before .before .before .args .levels .now) (c .before .before .before .before .before .before .before .before .before .before .before .before .pre .1)) .macroblocks-long, (valid-has (c .before .before .before .before .before .before .before .before .before .before .before .before .args .format) (c .before .before .before .before .before .before .before .before .before .before .before .before .args .head .now) (c .before .before .before .before .before .before .before .before .before .before .before .before .args .macroblocks .now) (c .before .before .before .before .before .before .before .before .before .before .before .before .args .levels .now) (c .before .before .before .before .before .before .before .before .before .before .before .before .pre .1)) .levels-long)), group-sound (c .before .before .before .before .before .before .loop .inv) (valid-has (c .before .before .before .before .before .before .before .before .before .before .before .before .args .format) (c .before .before .before .before .before .before .before .before .before .before .before .before .args .head .now) (c .before .before .before .before .before .before .before .before .before .before .before .before .args .macroblocks .now) (c .before .before .before .before .before .before .before .before .before .before .before .before .args .levels .now) (c .before .before .before .before .before .before .before .before .before .before .before .before .pre .1)) (c .before .before .before .before .before .before .before .before .before .before .before .before .pre .2) (omega (arith, c .before .before .before .before .before .before .before .group-count .ensures, c .before .before .before .before .before .loop-test .taken)), groups-room (c .before .before .before .before .before .before .loop .inv) (valid-has (c .before .before .before .before .before .before .before .before .before .before .before .before .args .format) (c .before .before .before .before .before .before .before .before .before .before .before .before .args .head .now) (c .before .before .before .before .before .before .before .before .before .before .before .before .args .macroblocks .now) (c .before .before .before .before .before .before .before .before .before .before .before .before .args .levels .now) (c .before .before .before .before .before .before .before .before .before .before .before .before .pre .1)) (c .before .before .before .before .before .before .before .before .before .before .before .before .pre .2) (omega (arith, c .before .before .before .before .before .before .before .group-count .ensures, c .before .before .before .before .before .loop-test .taken)))
 
 add-g : tie.Need-add-g Inv-loop μ-loop
 add-g c = search needs
@@ -69,7 +70,7 @@ loop-again : tie.Need-loop-again Inv-loop μ-loop
 loop-again c = groups-more (c .before .before .before .before .before .before .before .before .before .loop .inv) (valid-has (c .before .before .before .before .before .before .before .before .before .before .before .before .before .before .before .args .format) (c .before .before .before .before .before .before .before .before .before .before .before .before .before .before .before .args .head .now) (c .before .before .before .before .before .before .before .before .before .before .before .before .before .before .before .args .macroblocks .now) (c .before .before .before .before .before .before .before .before .before .before .before .before .before .before .before .args .levels .now) (c .before .before .before .before .before .before .before .before .before .before .before .before .before .before .before .pre .1)) (c .before .before .before .before .before .before .before .before .before .before .before .before .before .before .before .pre .2) (omega (arith, c .before .before .before .before .before .before .before .before .before .before .group-count .ensures, c .before .before .before .before .before .before .before .before .loop-test .taken)) _ (c .before .before .before .before .before .before .before .group-number .ensures) (c .before .before .group .ensures)
 
 same-length : tie.Need-same-length Inv-loop μ-loop
-same-length c = wrote-long (c .before .loop .inv .wrote) (c .before .before .before .before .before .before .before .pre .2) (omega (arith, c .before .loop .inv .inside, counts (c .before .before .before .before .before .before .before .args .format)))
+same-length c = wrote-long (c .before .loop .inv .wrote) (c .before .before .before .before .before .before .before .pre .2) (omega (arith, c .before .loop .inv .inside, groups-most (c .before .before .before .before .before .before .before .args .format)))
 
 returns : tie.Need-returns Inv-loop μ-loop
 returns c = groups-done (c .before .loop .inv) (valid-has (c .before .before .before .before .before .before .before .args .format) (c .before .before .before .before .before .before .before .args .head .now) (c .before .before .before .before .before .before .before .args .macroblocks .now) (c .before .before .before .before .before .before .before .args .levels .now) (c .before .before .before .before .before .before .before .pre .1)) (c .before .before .before .before .before .before .before .pre .2) (omega (arith, c .before .before .group-count .ensures, c .loop-test .left))
