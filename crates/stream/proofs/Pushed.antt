@@ -13,9 +13,6 @@ use Rattle.bits.specs.Write.{written}
 use Rattle.stream.specs.declared.Stream.{Stream}
 use Rattle.stream.specs.Stream.{bitNumber, oneMore, windowAfter, startsAt, offsetOf, begunBy, longerBy, after, beginning, extended, keptAfter}
 
-pub more-below : (n : ℕ) → n < 18446744073709551615 → n + 1 ≡ oneMore n
-more-below n l = sym (ap (λ (t : Bool). pick t (n + 1) n) (lt-ltb n 18446744073709551615 l))
-
 pub more-last : (n : ℕ) → 18446744073709551615 ≤ n → n ≡ oneMore n
 more-last n l = sym (ap (λ (t : Bool). pick t (n + 1) n) (le-ltb n 18446744073709551615 l))
 

@@ -1,6 +1,7 @@
 -- `stream::one_more` meets its contract. Assumes nothing.
 use borrow.Author.Needs.{needs}
-use Rattle.stream.proofs.Pushed.{more-below, more-last}
+use Rattle.stream.specs.Stream.{more-below}
+use Rattle.stream.proofs.Pushed.{more-last}
 use Rattle.stream.proofs.one_more.Statement.{statement}
 use Rattle.stream.proofs.one_more.Tie as tie
 
