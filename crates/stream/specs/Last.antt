@@ -7,15 +7,11 @@ use native.Mathlib.Omega.{arith}
 use lib.Dec.{lit≤}
 use lib.ListN.{length, take, drop, replicate, length-append}
 use lib.Seq.{append-snoc, take-append-seam, take-append-le, take-append-add, take-at, drop-append-seam}
-use Rattle.laws.specs.Choice.{pick, both, opposite, true-false}
+use Rattle.laws.specs.Choice.{pick, both, alike, true-false}
 
 -- "PSC (20 bits, 0000 0000 0000 0001 0000)"
 unfoldable pub startCode : List Bool
 startCode = replicate 15 false ++ (true ∷ replicate 4 false)
-
-abbrev pub alike : Bool → Bool → Bool
-alike true b = b
-alike false b = opposite b
 
 -- whether a code stands at the start of these bits
 abbrev pub begins : List Bool → List Bool → Bool
