@@ -15,7 +15,8 @@ use Rattle.description.specs.Fields.{refresh}
 use Rattle.layers.specs.Answer.{mapRead}
 use Rattle.reader.specs.Described.{described}
 use Rattle.writer.specs.Write.{pictureOf}
-use Rattle.readback.specs.ReadBack.{Holds, written, ReadBack, reads-back}
+use Rattle.writer.specs.Output.{written}
+use Rattle.readback.specs.ReadBack.{Holds, ReadBack, reads-back}
 use Rattle.render.specs.Rendered.{rendered-length}
 use Rattle.render.specs.Reference.{refresh-same}
 use Rattle.receiver.specs.Coding.{accepted}
@@ -41,6 +42,7 @@ unfolding pictureOf
 some-bits f p = suc-le-suc zero-le
 
 pub h261-agrees : Agree S.h261 R.h261
+unfolding written
 h261-agrees = record {
   reads = λ f d bytes v. read-found f d bytes (true-T (valid f d) v);
   has-bits = λ f d. some-bits f (pictureIn d);
