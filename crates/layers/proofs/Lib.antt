@@ -6,6 +6,5 @@ pub mod CoefficientsTurn
 pub mod IntraSteps
 pub mod BlocksTurn
 pub mod VectorSteps
-pub mod TypeSays
 pub mod MacroblockSteps
 pub mod MacroblockWhole

@@ -3,7 +3,6 @@ use refusals::Refusal;
 
 pub mod block;
 pub mod head;
-pub mod kind;
 pub mod macroblock;
 pub mod vector;
 

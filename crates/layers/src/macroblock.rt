@@ -9,10 +9,6 @@ use crate::head::field_refusal;
 use crate::head::place_refusal;
 use crate::head::quantiser;
 use crate::head::word_refusal;
-use crate::kind::has_cbp;
-use crate::kind::has_mquant;
-use crate::kind::is_intra;
-use crate::kind::is_mc;
 use crate::vector::restarts;
 use crate::vector::vector;
 use bits::FieldRead;
@@ -20,6 +16,10 @@ use bits::WordRead;
 use format::Format;
 use refusals::Reason;
 use refusals::Refusal;
+use words::kind::has_cbp;
+use words::kind::has_mquant;
+use words::kind::is_intra;
+use words::kind::is_mc;
 ghost use mathlib.Core.Path.{_≡_};
 ghost use Prim.Native.Nat.{_+_, _-_, _*_, _≤_, _<_};
 ghost use mathlib.Core.Bool.{true, false};
@@ -35,7 +35,7 @@ ghost use Rattle.words.specs.Words.{isMC, hasMQUANT};
 ghost use Rattle.words.specs.Lookup.{Tables};
 ghost use Rattle.description.specs.Flat.{byteOf};
 ghost use Rattle.description.specs.Vector.{zeroVector, preceding as precedingOf};
-ghost use Rattle.layers.specs.Answer.{Typed, Kept, KeptBehind, componentOf, beforeOf, asMba, asVector, asMacroblock, mapRead, putSent, vectorRefusal};
+ghost use Rattle.layers.specs.Answer.{Kept, KeptBehind, componentOf, beforeOf, asMba, asVector, asMacroblock, mapRead, putSent, vectorRefusal};
 ghost use Rattle.layers.specs.Vector.{vectorRead};
 ghost use Rattle.layers.specs.Grammar.{mba as mbaRead, mbaOf, optional, quantiser as quantiserRead, patternRead, macroblock as macroblockRead};
 
@@ -107,7 +107,7 @@ pub fn mba(
 
 // MQUANT, where the type has it; else 0.
 fn mquant(bytes: &[u8], count: usize, at: usize, mtype: u16) -> FieldRead
-    requires { ⌜ (Within (now bytes) count at) × (Typed mtype) ⌝ }
+    requires { ⌜ Within (now bytes) count at ⌝ }
     ensures { λ r. ⌜ asField (now (bytes .entry)) count r ≡ optional (hasMQUANT mtype) 0 quantiserRead (bitsLeft (now (bytes .entry)) count at) at ⌝ }
 {
     if has_mquant(mtype) {
@@ -118,7 +118,7 @@ fn mquant(bytes: &[u8], count: usize, at: usize, mtype: u16) -> FieldRead
 
 // CBP, where the type has it; else all blocks of INTRA, and none.
 fn pattern(tables: &[u16; 1521], bytes: &[u8], count: usize, at: usize, mtype: u16) -> WordRead
-    requires { ⌜ (Tables (now tables)) × (Within (now bytes) count at) × (Typed mtype) ⌝ }
+    requires { ⌜ (Tables (now tables)) × (Within (now bytes) count at) ⌝ }
     ensures { λ r. ⌜ asWord (now (bytes .entry)) count r ≡ patternRead mtype (bitsLeft (now (bytes .entry)) count at) at ⌝ }
 {
     if has_cbp(mtype) {
@@ -142,7 +142,7 @@ fn moved(
     step: usize,
     mtype: u16,
 ) -> VectorRead
-    requires { ⌜ (Tables (now tables)) × (Within (now bytes) count at) × (1 ≤ number) × (number ≤ 12) × (1 ≤ step) × (behind .address + step ≤ 33) × (KeptBehind behind) × (Typed mtype) ⌝ }
+    requires { ⌜ (Tables (now tables)) × (Within (now bytes) count at) × (1 ≤ number) × (number ≤ 12) × (1 ≤ step) × (behind .address + step ≤ 33) × (KeptBehind behind) ⌝ }
     ensures { λ r. ⌜ asVector (now (bytes .entry)) count r ≡ optional (isMC mtype) zeroVector (vectorRead format number (behind .address + step) (precedingOf (beforeOf behind) step)) (bitsLeft (now (bytes .entry)) count at) at ⌝ }
 {
     if is_mc(mtype) {

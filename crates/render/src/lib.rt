@@ -53,16 +53,7 @@ fn stood(head: &[u8], macroblock: usize, last: u8) -> u8
 fn stands(kind: u8, mquant: u8, before: u8) -> u8
     ensures { λ r. ⌜ r ≡ pick (hasMQUANT kind) mquant before ⌝ }
 {
-    if kind == 2 {
-        return mquant;
-    }
-    if kind == 4 {
-        return mquant;
-    }
-    if kind == 7 {
-        return mquant;
-    }
-    if kind == 10 {
+    if words::kind::has_mquant(kind as u16) {
         return mquant;
     }
     before

@@ -4,7 +4,6 @@ ghost use mathlib.Core.Path.{_≡_};
 ghost use mathlib.Core.List.{[]};
 ghost use lib.Dec.{T};
 ghost use lib.ListN.{length};
-ghost use Rattle.words.specs.Words.{isIntra};
 ghost use Rattle.format.specs.Format.{macroblocksLength, storeLength};
 ghost use Rattle.description.specs.Valid.{valid};
 ghost use Rattle.description.specs.Fields.{flat, refresh};
@@ -77,15 +76,6 @@ pub fn show<'a>(format: Format, holder: Holder, first: &'a [u8], second: &'a [u8
 
 // ---- refreshes
 
-fn is_intra(kind: u8) -> bool
-    ensures { λ r. ⌜ r ≡ isIntra kind ⌝ }
-{
-    if kind == 1 {
-        return true;
-    }
-    kind == 2
-}
-
 // Whether every macroblock is sent as INTRA. Nothing else of a description is looked at.
 pub fn is_refresh(format: Format, macroblocks: &[u8]) -> bool
     requires { ⌜ length (now macroblocks) ≡ macroblocksLength format ⌝ }
@@ -94,7 +84,7 @@ pub fn is_refresh(format: Format, macroblocks: &[u8]) -> bool
     let count = format::order::macroblock_count(format);
     let mut n: usize = 0;
     while n < count {
-        if !is_intra(macroblocks[n * 4]) {
+        if !words::kind::is_intra(macroblocks[n * 4] as u16) {
             return false;
         }
         n += 1;

@@ -1,20 +1,17 @@
 -- The tests of a description, and the loops over them, on plain values. Assumes nothing.
 use mathlib.Core.Path.{_≡_, refl, sym, ap, ap₂, _∙_}
 use mathlib.Core.Bool.{Bool, true, false}
-use mathlib.Core.List.{List, [], _∷_}
+use mathlib.Core.List.{List, _∷_}
 use Prim.Native.Nat.{ℕ, zero, suc, _+_, _-_, _*_, _≤_, _<_}
 use native.Mathlib.Omega.{arith}
 use native.Mathlib.Nat.{add-zero}
 use borrow.Author.Tests.{lt-ltb, le-ltb, le-leb, lt-leb, eq-eqb, ne-eqb}
 use lib.Dec.{T, leb, ltb, eqb, eqb→eq, lit≤}
-use types.Run.{OneOf}
-use mathlib.Core.Logic.{inl, inr}
 use Rattle.words.specs.Words.{isIntra, isMC, hasMQUANT, hasCBP}
 use lib.ListN.{length, getD, take, drop, length-drop}
 use lib.Seq.{drop-length, drop-drop, getD-drop, take-all, length-take-le}
 use lib.IntN.{ℤ, pos, negsuc, natAbs}
-use Rattle.laws.specs.Choice.{pick, both, either, opposite, either-right, both-left, both-right, true-T, alike, alike-same}
-use Rattle.laws.specs.Table.{allB, all-at}
+use Rattle.laws.specs.Choice.{pick, both, opposite, both-left, both-right, true-T}
 use Rattle.laws.specs.Lists.{drop-on}
 use Rattle.format.specs.Format.{formatBit, groupNumbers, groupCount, width, height, column, row, headLength, macroblocksLength, levelsLength}
 use Rattle.format.specs.declared.Format.{Format}
@@ -24,11 +21,6 @@ use Rattle.description.specs.Vector.{inRange, inside}
 use Rattle.description.specs.Flat.{numberOf}
 use Rattle.description.specs.Valid.{all, isZero, isQuantiser, isLevel, codesFirst, validVector, validLevels, validMacroblock, validMacroblocks, validGroups, lengthsOf, validHead, valid}
 use Rattle.description.specs.Fields.{flat}
-
--- ---- a test that is the same on a range of numbers, computed once
-pub ranged : (p : ℕ → Bool) (b : Bool) (from to : ℕ) → T (allB to (λ k. either (ltb k from) (alike b (p k)))) → (k : ℕ) → from ≤ k → k < to → b ≡ p k
-ranged p b from to t k l h =
-    alike-same b (p k) (either-right (ltb k from) (alike b (p k)) (le-ltb k from l) (all-at to (λ k. either (ltb k from) (alike b (p k))) t k h))
 
 -- ---- tests of one byte
 pub quantiser-zero : (b : ℕ) → b ≡ 0 → false ≡ isQuantiser b
@@ -269,17 +261,6 @@ module _ {whole : Bool} {f : Format} {fields levels : List ℕ} {g : ℕ} (h : G
 -- a part to the end is the rest
 pub part-rest : (l : List ℕ) (a : ℕ) → take (length l - a) (drop a l) ≡ drop a l
 part-rest l a = take-all (length l - a) (drop a l) (omega (arith, length-drop a l))
-
--- ---- MQUANT's types are no range
-pub mquant-yes : (k : ℕ) → OneOf (2 ∷ 4 ∷ 7 ∷ 10 ∷ []) k → true ≡ hasMQUANT k
-mquant-yes k (inl e) = sym (ap hasMQUANT e)
-mquant-yes k (inr (inl e)) = sym (ap hasMQUANT e)
-mquant-yes k (inr (inr (inl e))) = sym (ap hasMQUANT e)
-mquant-yes k (inr (inr (inr e))) = sym (ap hasMQUANT e)
-
-pub mquant-no : (k : ℕ) → (OneOf (2 ∷ 4 ∷ 7 ∷ 10 ∷ []) k → ⊥) → false ≡ hasMQUANT k
-mquant-no k n =
-    rw (ne-eqb k 2 (λ e. n (inl e)), ne-eqb k 4 (λ e. n (inr (inl e))), ne-eqb k 7 (λ e. n (inr (inr (inl e)))), ne-eqb k 10 (λ e. n (inr (inr (inr e)))))
 
 -- ---- a vector: where the type has one, and where it hasn't
 module _ (f : Format) (number address : ℕ) (fields : List ℕ) where

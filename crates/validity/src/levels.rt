@@ -1,5 +1,4 @@
 // The levels of a macroblock under their rules.
-use crate::kind;
 ghost use mathlib.Core.Path.{_≡_};
 ghost use lib.ListN.{length};
 ghost use Rattle.description.specs.Valid.{all, isZero, isLevel, codesFirst, validLevels};
@@ -52,13 +51,13 @@ pub fn valid_levels(kind: u8, bytes: &[u8]) -> bool
     requires { ⌜ length (now bytes) ≡ 384 ⌝ }
     ensures { λ r. ⌜ r ≡ validLevels kind (now (bytes .entry)) ⌝ }
 {
-    if kind::is_intra(kind) {
+    if words::kind::is_intra(kind as u16) {
         if all_levels(bytes) {
             return codes_first(bytes);
         }
         return false;
     }
-    if kind::has_cbp(kind) {
+    if words::kind::has_cbp(kind as u16) {
         if all_levels(bytes) {
             if all_zero(bytes) {
                 return false;

@@ -7,7 +7,6 @@ ghost use Rattle.format.specs.Format.{macroblocksLength, levelsLength, groupNum
 ghost use Rattle.description.specs.Valid.{all, isQuantiser, lengthsOf, validHead, validMacroblocks, validGroups, valid as isValid};
 ghost use Rattle.description.specs.Fields.{flat};
 
-pub mod kind;
 pub mod levels;
 mod macroblock;
 

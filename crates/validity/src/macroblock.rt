@@ -1,5 +1,4 @@
 // A macroblock under the rules of its type and place.
-use crate::kind;
 use crate::levels;
 use format::Format;
 ghost use mathlib.Core.Path.{_≡_};
@@ -25,7 +24,7 @@ pub fn is_quantiser(byte: u8) -> bool
 fn valid_mquant(kind: u8, mquant: u8) -> bool
     ensures { λ r. ⌜ r ≡ pick (hasMQUANT kind) (isQuantiser mquant) (isZero mquant) ⌝ }
 {
-    if kind::has_mquant(kind) {
+    if words::kind::has_mquant(kind as u16) {
         return is_quantiser(mquant);
     }
     mquant == 0
@@ -57,7 +56,7 @@ fn valid_vector(format: Format, number: usize, address: usize, fields: &[u8]) ->
 {
     let across = fields[2];
     let down = fields[3];
-    if kind::is_mc(fields[0]) {
+    if words::kind::is_mc(fields[0] as u16) {
         let column = (number - 1) % 2 * 176 + (address - 1) % 11 * 16;
         let row = (number - 1) / 2 * 48 + (address - 1) / 11 * 16;
         if !valid_component(across, column, format::width(format)) {

@@ -1,2 +1,3 @@
 pub mod Outcomes
 pub mod Codewords
+pub mod TypeSays

@@ -17,6 +17,7 @@ ghost use Rattle.words.specs.Back.{Sendable};
 ghost use Rattle.words.specs.Written.{made, Writes};
 ghost use Rattle.words.specs.Lookup.{Tables, placed, firstAt, laterAt};
 
+pub mod kind;
 mod lookup;
 
 use lookup::TABLES;

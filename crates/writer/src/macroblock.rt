@@ -22,7 +22,7 @@ fn quantiser(kind: u8, mquant: u8, out: &mut [u8], at: usize) -> usize
     requires { ⌜ (T (pick (hasMQUANT kind) (isQuantiser mquant) (isZero mquant))) × (Room (now out) at 24) ⌝ }
     ensures { λ r. ⌜ Wrote 24 (given (hasMQUANT kind) (bitsOf 5 mquant)) (now (out .entry)) at (now (out .exit)) r ⌝ }
 {
-    if validity::kind::has_mquant(kind) {
+    if words::kind::has_mquant(kind as u16) {
         return block::field(out, at, 5, mquant as u32);
     }
     at
@@ -33,7 +33,7 @@ fn pattern(tables: &[u16; 1521], kind: u8, levels: &[u8], out: &mut [u8], at: us
     requires { ⌜ (Tables (now tables)) × (length (now levels) ≡ 384) × (T (validLevels kind (now levels))) × (Room (now out) at 24) ⌝ }
     ensures { λ r. ⌜ Wrote 24 (given (hasCBP kind) (wordOf table4 (patternOf (gathers 6 (now (levels .entry)))))) (now (out .entry)) at (now (out .exit)) r ⌝ }
 {
-    if validity::kind::has_cbp(kind) {
+    if words::kind::has_cbp(kind as u16) {
         let word = words::cbp_codeword(tables, block::pattern(levels));
         return words::put(out, at, word);
     }
@@ -76,7 +76,7 @@ pub fn macroblock(
     block::blocks(
         tables,
         levels,
-        validity::kind::is_intra(kind),
+        words::kind::is_intra(kind as u16),
         out,
         patterned,
     )

@@ -1,12 +1,9 @@
 // MVD: a macroblock's vector against the preceding one. Components are bytes, in two's complement.
 ghost use mathlib.Core.Path.{_≡_};
-ghost use mathlib.Core.List.{[], _∷_};
 ghost use Prim.Native.Nat.{_+_, _≤_};
-ghost use lib.Dec.{eqb};
-ghost use Rattle.laws.specs.Choice.{either, opposite, oneOf};
 ghost use Rattle.words.specs.Words.{isMC};
 ghost use Rattle.words.specs.Lookup.{Tables};
-ghost use Rattle.description.specs.Vector.{preceding as precedingOf};
+ghost use Rattle.description.specs.Vector.{restarts as restartsAt, preceding as precedingOf};
 ghost use Rattle.description.specs.Flat.{numberOf};
 ghost use Rattle.writer.specs.Write.{given, componentOf, vectorOf};
 ghost use Rattle.writer.specs.Sound.{Near, behind};
@@ -25,7 +22,7 @@ fn component(tables: &[u16; 1521], preceding: u8, byte: u8, out: &mut [u8], at: 
 // Whether the preceding vector counts as zero.
 fn restarts(last: usize, step: usize) -> bool
     requires { ⌜ last + step ≤ 33 ⌝ }
-    ensures { λ r. ⌜ r ≡ either (oneOf (1 ∷ 12 ∷ 23 ∷ []) (last + step)) (either (opposite (eqb step 1)) (eqb last 0)) ⌝ }
+    ensures { λ r. ⌜ r ≡ restartsAt last step ⌝ }
 {
     let to = last + step;
     if to == 1 {
@@ -75,7 +72,7 @@ pub fn vector(
     requires { ⌜ (Tables (now tables)) × (last + step ≤ 33) × (Near horizontal) × (Near vertical) × (Near across) × (Near down) × (Room (now out) at 48) ⌝ }
     ensures { λ r. ⌜ Wrote 48 (given (isMC kind) (vectorOf (precedingOf (behind last horizontal vertical) step) (behind 0 across down .vector))) (now (out .entry)) at (now (out .exit)) r ⌝ }
 {
-    if !validity::kind::is_mc(kind) {
+    if !words::kind::is_mc(kind as u16) {
         return at;
     }
     if restarts(last, step) {

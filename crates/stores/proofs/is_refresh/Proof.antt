@@ -56,6 +56,9 @@ mul-is-intra c = omega arith
 shared-slice-read-is-intra : tie.Need-shared-slice-read-is-intra Inv-loop μ-loop
 shared-slice-read-is-intra c = omega arith
 
+cast-is-intra : tie.Need-cast-is-intra Inv-loop μ-loop
+cast-is-intra c = omega (arith, c .shared-slice-known2 .given (c .before .before .loop .n * 4))
+
 is-intra-requires : tie.Need-is-intra-requires Inv-loop μ-loop
 is-intra-requires c κs = search needs
 
@@ -84,6 +87,7 @@ is-refresh-spec =
     loop-holds
     mul-is-intra
     shared-slice-read-is-intra
+    cast-is-intra
     is-intra-requires
     returns
     add-n

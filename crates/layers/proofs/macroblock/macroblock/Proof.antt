@@ -21,7 +21,7 @@ use Rattle.layers.proofs.block.blocks.Reads as blocks-reads
 use Rattle.layers.proofs.head.field_refusal.Reads as field-refusal-reads
 use Rattle.layers.proofs.head.place_refusal.Reads as place-refusal-reads
 use Rattle.layers.proofs.head.word_refusal.Reads as word-refusal-reads
-use Rattle.layers.proofs.kind.is_intra.Reads as is-intra-reads
+use Rattle.words.proofs.kind.is_intra.Reads as is-intra-reads
 use Rattle.layers.proofs.macroblock.moved.Reads as moved-reads
 use Rattle.layers.proofs.macroblock.mquant.Reads as mquant-reads
 use Rattle.layers.proofs.macroblock.pattern.Reads as pattern-reads
@@ -55,7 +55,7 @@ returns c =
 
 -- src/macroblock.rt:215:9
 mquant-requires : tie.Need-mquant-requires
-mquant-requires c κs = (within-next _ _ _ _ _ (reads-word layers.typed table2 layers.table2-meanings) (c .before .before .before .before .before .before .before .pre .1) (is-word _ _ _ _ _ (c .before .before .before .mtype .ensures) (c .before .kind .given .1)), type-typed _ _ _ _ _ (c .before .before .before .before .before .before .before .pre .1 .inside) (is-word _ _ _ _ _ (c .before .before .before .mtype .ensures) (c .before .kind .given .1)))
+mquant-requires c κs = within-next _ _ _ _ _ (reads-word layers.typed table2 layers.table2-meanings) (c .before .before .before .before .before .before .before .pre .1) (is-word _ _ _ _ _ (c .before .before .before .mtype .ensures) (c .before .kind .given .1))
 
 -- src/macroblock.rt:216:24
 enum-known-quantised : tie.Need-enum-known-quantised
@@ -97,7 +97,6 @@ moved-requires c κs =
       start .pre .5,
       start .pre .6,
       start .pre .7,
-      type-typed _ _ _ _ _ (start .pre .1 .inside) (is-word _ _ _ _ _ (at-mtype .mtype .ensures) (at-kind .kind .given .1)),
     )
 
 -- src/macroblock.rt:230:25
@@ -144,7 +143,6 @@ pattern-requires c κs =
           (within-next _ _ _ _ _ (reads-word layers.typed table2 layers.table2-meanings) (start .pre .1) (is-word _ _ _ _ _ (at-mtype .mtype .ensures) (at-kind .kind .given .1)))
           (is-field _ _ _ _ _ (at-mquant .mquant .ensures) (at-quantised .quantised .given .1)))
           (is-vector _ _ _ _ _ _ (at-moved .moved .ensures) (c .before .pointed .given .1)),
-      type-typed _ _ _ _ _ (start .pre .1 .inside) (is-word _ _ _ _ _ (at-mtype .mtype .ensures) (at-kind .kind .given .1)),
     )
 
 -- src/macroblock.rt:234:23
@@ -194,7 +192,7 @@ add-index c = omega (arith, c .before .before .before .before .before .before .b
 
 -- src/macroblock.rt:239:9
 is-intra-requires : tie.Need-is-intra-requires
-is-intra-requires c κs = type-typed _ _ _ _ _ (c .before .before .before .before .before .before .before .before .before .before .before .before .before .before .before .before .before .before .before .before .pre .1 .inside) (is-word _ _ _ _ _ (c .before .before .before .before .before .before .before .before .before .before .before .before .before .before .before .before .mtype .ensures) (c .before .before .before .before .before .before .before .before .before .before .before .before .before .before .kind .given .1))
+is-intra-requires c κs = search needs
 
 -- src/macroblock.rt:248:9
 mul-blocks : tie.Need-mul-blocks

@@ -13,7 +13,7 @@ use Rattle.layers.proofs.macroblock.moved.Statement.{statement}
 use Rattle.layers.proofs.macroblock.moved.Tie as tie
 use Rattle.layers.proofs.macroblock.moved.Reads as reads
 use Rattle.layers.proofs.macroblock.moved.Lts as lts
-use Rattle.layers.proofs.kind.is_mc.Reads as is-mc-reads
+use Rattle.words.proofs.kind.is_mc.Reads as is-mc-reads
 use Rattle.layers.proofs.vector.restarts.Reads as restarts-reads
 use Rattle.layers.proofs.vector.vector.Reads as vector-reads
 

@@ -11,7 +11,7 @@ use Rattle.layers.proofs.macroblock.mquant.Tie as tie
 use Rattle.layers.proofs.macroblock.mquant.Reads as reads
 use Rattle.layers.proofs.macroblock.mquant.Lts as lts
 use Rattle.layers.proofs.head.quantiser.Reads as quantiser-reads
-use Rattle.layers.proofs.kind.has_mquant.Reads as has-mquant-reads
+use Rattle.words.proofs.kind.has_mquant.Reads as has-mquant-reads
 
 -- src/macroblock.rt:99:8
 has-mquant-requires : tie.Need-has-mquant-requires

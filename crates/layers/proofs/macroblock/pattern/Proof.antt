@@ -12,8 +12,8 @@ use Rattle.layers.proofs.macroblock.pattern.Statement.{statement}
 use Rattle.layers.proofs.macroblock.pattern.Tie as tie
 use Rattle.layers.proofs.macroblock.pattern.Reads as reads
 use Rattle.layers.proofs.macroblock.pattern.Lts as lts
-use Rattle.layers.proofs.kind.has_cbp.Reads as has-cbp-reads
-use Rattle.layers.proofs.kind.is_intra.Reads as is-intra-reads
+use Rattle.words.proofs.kind.has_cbp.Reads as has-cbp-reads
+use Rattle.words.proofs.kind.is_intra.Reads as is-intra-reads
 use Rattle.words.proofs.cbp.Reads as cbp-reads
 
 -- src/macroblock.rt:110:8

@@ -14,6 +14,9 @@ shared-slice-read-down c = search needs
 shared-slice-read-is-mc : tie.Need-shared-slice-read-is-mc
 shared-slice-read-is-mc c = search needs
 
+cast-is-mc : tie.Need-cast-is-mc
+cast-is-mc c = omega (arith, c .shared-slice-known4 .given 0)
+
 is-mc-requires : tie.Need-is-mc-requires
 is-mc-requires c κs = search needs
 
@@ -73,4 +76,4 @@ returns-4 c = still-yes (c .before .before .before .before .before .before .befo
 
 pub valid-vector-spec : {M : Type 1} → statement M
 valid-vector-spec =
-    tie.close (tie.spec shared-slice-read-across shared-slice-read-down shared-slice-read-is-mc is-mc-requires sub-column mul-column sub-column-2 mul-column-2 add-column sub-row mul-row sub-row-2 mul-row-2 add-row width-requires valid-component-requires returns height-requires valid-component-requires-2 returns-2 returns-3 returns-4)
+    tie.close (tie.spec shared-slice-read-across shared-slice-read-down shared-slice-read-is-mc cast-is-mc is-mc-requires sub-column mul-column sub-column-2 mul-column-2 add-column sub-row mul-row sub-row-2 mul-row-2 add-row width-requires valid-component-requires returns height-requires valid-component-requires-2 returns-2 returns-3 returns-4)

@@ -47,6 +47,9 @@ vector-requires c κs = (c .before .before .before .before .before .before .befo
 pattern-requires : tie.Need-pattern-requires
 pattern-requires c κs = (c .before .before .before .before .before .before .before .before .before .before .before .before .before .before .before .before .before .before .before .before .before .before .before .before .before .before .pre .0, c .before .before .before .before .before .before .before .before .before .before .before .before .before .before .before .before .before .before .before .before .before .before .before .before .before .before .pre .2, c .before .before .before .before .before .before .before .before .before .before .before .before .before .before .before .before .before .before .before .before .before .before .before .before .before .before .pre .3 .levelled, room-less 24 (room-after (c .before .before .before .vector .ensures) (room-after (c .before .before .before .before .before .before .before .before .before .quantiser .ensures) (room-after (wrote-word (c .before .before .before .before .before .before .before .before .before .before .before .before .before .before .before .mtype-codeword .ensures) (c .before .before .before .before .before .before .before .before .before .before .before .before .before .before .put2 .ensures)) (room-after (wrote-word (c .before .before .before .before .before .before .before .before .before .before .before .before .before .before .before .before .before .before .before .before .mba-codeword .ensures) (c .before .before .before .before .before .before .before .before .before .before .before .before .before .before .before .before .before .before .before .put .ensures)) (c .before .before .before .before .before .before .before .before .before .before .before .before .before .before .before .before .before .before .before .before .before .before .before .before .before .before .pre .8) (lit≤ tt) 9624 (lit≤ tt)) (lit≤ tt) 9600 (lit≤ tt)) (lit≤ tt) 9576 (lit≤ tt)) (lit≤ tt) 9528 (lit≤ tt)) (lit≤ tt))
 
+cast-is-intra : tie.Need-cast-is-intra
+cast-is-intra c = omega (arith, c .before .before .before .before .before .before .before .before .before .before .before .before .before .before .before .before .before .before .before .before .before .before .before .before .before .before .before .before .before .pre .3 .known)
+
 is-intra-requires : tie.Need-is-intra-requires
 is-intra-requires c κs = search needs
 
@@ -61,4 +64,4 @@ returns c = macroblock-whole (c .before .before .before .before .before .before 
 
 pub macroblock-spec : {M : Type 1} → statement M
 macroblock-spec =
-    tie.close (tie.spec shared-slice-read-kind sub-step mba-codeword-requires put-requires cast-mtype-codeword mtype-codeword-requires put-requires-2 shared-slice-read-quantiser quantiser-requires shared-slice-read-vector shared-slice-read-vector-2 vector-requires pattern-requires is-intra-requires blocks-requires same-length returns)
+    tie.close (tie.spec shared-slice-read-kind sub-step mba-codeword-requires put-requires cast-mtype-codeword mtype-codeword-requires put-requires-2 shared-slice-read-quantiser quantiser-requires shared-slice-read-vector shared-slice-read-vector-2 vector-requires pattern-requires cast-is-intra is-intra-requires blocks-requires same-length returns)

@@ -1,9 +1,10 @@
 use mathlib.Core.Bool.{true, false}
+use mathlib.Core.List.{[], _∷_}
 use native.Mathlib.Omega.{arith}
 use Rattle.words.specs.Words.{hasCBP}
-use Rattle.validity.proofs.Steps.{ranged}
-use Rattle.validity.proofs.kind.has_cbp.Statement.{statement}
-use Rattle.validity.proofs.kind.has_cbp.Tie as tie
+use Rattle.words.proofs.TypeSays.{ranged, past}
+use Rattle.words.proofs.kind.has_cbp.Statement.{statement}
+use Rattle.words.proofs.kind.has_cbp.Tie as tie
 
 returns : tie.Need-returns
 returns c = ranged hasCBP true 3 5 tt (c .before .before .args .kind) (omega arith) (omega arith)
@@ -24,7 +25,7 @@ returns-6 : tie.Need-returns-6
 returns-6 c = ranged hasCBP false 8 9 tt (c .before .before .before .before .before .args .kind) (omega arith) (omega arith)
 
 returns-7 : tie.Need-returns-7
-returns-7 c = ranged hasCBP false 11 256 tt (c .before .before .before .before .before .before .args .kind) (omega arith) (omega arith)
+returns-7 c = past (3 ∷ 4 ∷ 6 ∷ 7 ∷ 9 ∷ 10 ∷ []) 10 tt (c .before .before .before .before .before .before .args .kind) (omega arith)
 
 pub has-cbp-spec : {M : Type 1} → statement M
 has-cbp-spec =

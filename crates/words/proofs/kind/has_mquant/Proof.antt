@@ -1,6 +1,6 @@
-use Rattle.validity.proofs.Steps.{mquant-yes, mquant-no}
-use Rattle.validity.proofs.kind.has_mquant.Statement.{statement}
-use Rattle.validity.proofs.kind.has_mquant.Tie as tie
+use Rattle.words.proofs.TypeSays.{mquant-yes, mquant-no}
+use Rattle.words.proofs.kind.has_mquant.Statement.{statement}
+use Rattle.words.proofs.kind.has_mquant.Tie as tie
 
 returns : tie.Need-returns
 returns c = mquant-yes _ (c .match .keys1)

@@ -1,8 +1,8 @@
-// The type of a macroblock: 0 for one that isn't sent, 1 to 10 in the order of Table 2.
+// What a macroblock's type says: 0 is one that isn't sent, 1 to 10 are in the order of Table 2.
 ghost use mathlib.Core.Path.{_≡_};
 ghost use Rattle.words.specs.Words.{isIntra, isMC, hasMQUANT, hasCBP};
 
-pub fn is_intra(kind: u8) -> bool
+pub fn is_intra(kind: u16) -> bool
     ensures { λ r. ⌜ r ≡ isIntra kind ⌝ }
 {
     match kind {
@@ -11,7 +11,7 @@ pub fn is_intra(kind: u8) -> bool
     }
 }
 
-pub fn is_mc(kind: u8) -> bool
+pub fn is_mc(kind: u16) -> bool
     ensures { λ r. ⌜ r ≡ isMC kind ⌝ }
 {
     match kind {
@@ -20,7 +20,7 @@ pub fn is_mc(kind: u8) -> bool
     }
 }
 
-pub fn has_mquant(kind: u8) -> bool
+pub fn has_mquant(kind: u16) -> bool
     ensures { λ r. ⌜ r ≡ hasMQUANT kind ⌝ }
 {
     match kind {
@@ -29,7 +29,7 @@ pub fn has_mquant(kind: u8) -> bool
     }
 }
 
-pub fn has_cbp(kind: u8) -> bool
+pub fn has_cbp(kind: u16) -> bool
     ensures { λ r. ⌜ r ≡ hasCBP kind ⌝ }
 {
     match kind {
