@@ -1,6 +1,6 @@
 -- `reader::read_in` meets its contract: what was parsed is copied on acceptance alone. Assumes nothing.
 use mathlib.Core.Path.{sym, _∙_}
-use native.Mathlib.Nat.{le-of-eq}
+use native.Mathlib.Omega.{arith}
 use Rattle.reader.specs.Blank.{blank-lengths}
 use Rattle.reader.proofs.ReadSteps.{accepted-tag, copied, accepted-buffers, refused-unchanged}
 use borrow.Author.Needs.{needs}
@@ -21,19 +21,19 @@ copy-requires : tie.Need-copy-requires
 copy-requires c κs =
     let at-parse = c .before .before .before .before .before .before .before .before .before .before in
     let start = at-parse .before .before .before .before .before .before .before .before .before .before .before in
-    le-of-eq (at-parse .parse .kept .1 .1 .1 .0 ∙ blank-lengths (start .pre .0) .head-long ∙ sym (start .pre .1 .head-long))
+    omega (arith, at-parse .parse .kept .1 .1 .1 .0, blank-lengths (start .pre .0) .head-long, start .pre .1 .head-long)
 
 copy-requires-2 : tie.Need-copy-requires-2
 copy-requires-2 c κs =
     let at-parse = c .before .before .before .before .before .before .before .before .before .before .before .before .before .before .before in
     let start = at-parse .before .before .before .before .before .before .before .before .before .before .before in
-    le-of-eq (at-parse .parse .kept .1 .1 .1 .1 .0 ∙ blank-lengths (start .pre .0) .ms-long ∙ sym (start .pre .1 .ms-long))
+    omega (arith, at-parse .parse .kept .1 .1 .1 .1 .0, blank-lengths (start .pre .0) .ms-long, start .pre .1 .ms-long)
 
 copy-requires-3 : tie.Need-copy-requires-3
 copy-requires-3 c κs =
     let at-parse = c .before .before .before .before .before .before .before .before .before .before .before .before .before .before .before .before .before .before .before .before in
     let start = at-parse .before .before .before .before .before .before .before .before .before .before .before in
-    le-of-eq (at-parse .parse .kept .1 .1 .1 .1 .1 .0 ∙ blank-lengths (start .pre .0) .ls-long ∙ sym (start .pre .1 .ls-long))
+    omega (arith, at-parse .parse .kept .1 .1 .1 .1 .1 .0, blank-lengths (start .pre .0) .ls-long, start .pre .1 .ls-long)
 
 same-length : tie.Need-same-length
 same-length c = search needs
