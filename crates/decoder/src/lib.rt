@@ -6,7 +6,7 @@ use refusals::Refusal;
 ghost use mathlib.Core.Path.{_≡_};
 ghost use lib.ListN.{length};
 ghost use Rattle.format.specs.Format.{storeLength};
-ghost use Rattle.reader.specs.Described.{Lengths, verdictOf};
+ghost use Rattle.reader.specs.Described.{Blank, verdictOf};
 ghost use Rattle.decoder.specs.Decoded.{drawn, storeAfter, DecodeSays, DecodeLeaves};
 
 // The description is read into lent scratch, then rendered.
@@ -20,7 +20,7 @@ fn decode_in(
     reference: &[u8],
     store: &mut [u8],
 ) -> Verdict
-    requires { ⌜ (Lengths format (now head) (now macroblocks) (now levels)) × (length (now reference) ≡ storeLength format) × (length (now store) ≡ storeLength format) ⌝ }
+    requires { ⌜ (Blank format (now head) (now macroblocks) (now levels)) × (length (now reference) ≡ storeLength format) × (length (now store) ≡ storeLength format) ⌝ }
     ensures verdict { λ r. ⌜ r ≡ verdictOf (drawn format (now (bytes .entry)) count (now (reference .entry))) ⌝ }
     ensures samples { λ _. ⌜ now (store .exit) ≡ storeAfter (now (store .entry)) (drawn format (now (bytes .entry)) count (now (reference .entry))) ⌝ }
 {

@@ -153,6 +153,3 @@ module _ (f : Format) (x : Read Flat) where
         no : (r : PlaceRead) → tagOf place-type r ≡ 1 → leaving s n r d ≡ x → x ≡ refused (placeRefusal r)
         no (At p) t v = absurd (omega arith)
         no (Refused r) t v = sym v
-
-pub long-cleared : (l : List ℕ) (k : ℕ) → l ≡ replicate k 0 → length l ≡ k
-long-cleared l k e = ap length e ∙ length-replicate k 0

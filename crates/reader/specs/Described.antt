@@ -21,6 +21,12 @@ pub record Lengths (f : Format) (head macroblocks levels : List ℕ) : Type 0 wh
   pub ms-long : length macroblocks ≡ groupCount f * 132
   pub ls-long : length levels ≡ groupCount f * 12672
 
+-- the three slices are zeros in the lengths of the format
+pub record Blank (f : Format) (head macroblocks levels : List ℕ) : Type 0 where
+  pub head-blank : head ≡ replicate (3 + groupCount f) 0
+  pub ms-blank : macroblocks ≡ replicate (groupCount f * 132) 0
+  pub ls-blank : levels ≡ replicate (groupCount f * 12672) 0
+
 -- the description of the picture that N bits of a slice are
 unfoldable pub described : Format → List ℕ → ℕ → Read Flat
 described f bytes n = mapRead (laid f) (reading f bytes n)

@@ -1,3 +1,4 @@
+pub mod Blank
 pub mod Described
 pub mod ReadOf
 pub mod Verdict

@@ -3,7 +3,7 @@ use format::Format;
 use refusals::Reason;
 use refusals::Refusal;
 ghost use mathlib.Core.Path.{_≡_};
-ghost use Rattle.reader.specs.Described.{Lengths, described, verdictOf};
+ghost use Rattle.reader.specs.Described.{Lengths, Blank, described, verdictOf};
 ghost use Rattle.reader.specs.ReadOf.{flatAfter, ReadSays, ReadLeaves};
 ghost use Rattle.description.specs.Fields.{flat};
 
@@ -29,7 +29,7 @@ fn read_in(
     macroblocks: &mut [u8],
     levels: &mut [u8],
 ) -> Verdict
-    requires { ⌜ (Lengths format (now header) (now fields) (now coefficients)) × (Lengths format (now head) (now macroblocks) (now levels)) ⌝ }
+    requires { ⌜ (Blank format (now header) (now fields) (now coefficients)) × (Lengths format (now head) (now macroblocks) (now levels)) ⌝ }
     ensures verdict { λ r. ⌜ r ≡ verdictOf (described format (now (bytes .entry)) count) ⌝ }
     ensures buffers { λ _. ⌜ flat (now (head .exit)) (now (macroblocks .exit)) (now (levels .exit)) ≡ flatAfter (flat (now (head .entry)) (now (macroblocks .entry)) (now (levels .entry))) (described format (now (bytes .entry)) count) ⌝ }
 {

@@ -1,4 +1,4 @@
-// A picture's bits to its description, or the refusal, in buffers of the format's lengths.
+// A picture's bits to its description, or the refusal, in buffers of the format's lengths that are lent as zeros.
 use crate::Verdict;
 use crate::opening::header;
 use crate::picture::groups;
@@ -16,7 +16,7 @@ ghost use Rattle.laws.specs.Choice.{either};
 ghost use Rattle.format.specs.Format.{limit, groupCount};
 ghost use Rattle.description.specs.Fields.{flat};
 ghost use Rattle.layers.specs.Answer.{headerRefusal};
-ghost use Rattle.reader.specs.Described.{Lengths, described, verdictOf, laidOr};
+ghost use Rattle.reader.specs.Described.{Blank, described, verdictOf, laidOr};
 
 fn header_refusal(read: HeaderRead) -> Refusal
     ensures { λ r. ⌜ r ≡ headerRefusal read ⌝ }
@@ -60,13 +60,10 @@ pub fn parse(
     macroblocks: &mut [u8],
     levels: &mut [u8],
 ) -> Verdict
-    requires { ⌜ Lengths format (now head) (now macroblocks) (now levels) ⌝ }
+    requires { ⌜ Blank format (now head) (now macroblocks) (now levels) ⌝ }
     ensures verdict { λ r. ⌜ r ≡ verdictOf (described format (now (bytes .entry)) count) ⌝ }
     ensures buffers { λ _. ⌜ flat (now (head .exit)) (now (macroblocks .exit)) (now (levels .exit)) ≡ laidOr format (described format (now (bytes .entry)) count) ⌝ }
 {
-    clear(head);
-    clear(macroblocks);
-    clear(levels);
     if above(bytes.len(), count, format) {
         return Verdict::Refused(Refusal {
             reason: Reason::Count,

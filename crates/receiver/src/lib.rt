@@ -10,10 +10,11 @@ ghost use mathlib.Core.Path.{_≡_};
 ghost use Prim.Native.Nat.{_<_, _≤_};
 ghost use lib.Dec.{T};
 ghost use lib.ListN.{length};
-ghost use Rattle.format.specs.Format.{headLength, macroblocksLength, levelsLength, storeLength};
+ghost use Rattle.format.specs.Format.{storeLength};
 ghost use Rattle.vault.specs.Parts.{placed};
 ghost use Rattle.description.specs.Valid.{valid};
 ghost use Rattle.description.specs.Fields.{flat};
+ghost use Rattle.reader.specs.Described.{Blank};
 ghost use Rattle.receiver.specs.Coding.{accepted};
 ghost use Rattle.receiver.specs.H261.{h261, ReceiveDoes};
 ghost use Rattle.receiver.specs.Laws.{Ready, Settles};
@@ -349,7 +350,7 @@ fn finish_in(
     first: &mut [u8],
     second: &mut [u8],
 ) -> Received
-    requires { ⌜ (header .picture < 4096) × (header .part ≤ 65) × (header .used ≤ 4000) × (length (now head) ≡ headLength (receiver .format)) × (length (now macroblocks) ≡ macroblocksLength (receiver .format)) × (length (now levels) ≡ levelsLength (receiver .format)) × (length (now first) ≡ storeLength (receiver .format)) × (length (now second) ≡ storeLength (receiver .format)) ⌝ }
+    requires { ⌜ (header .picture < 4096) × (header .part ≤ 65) × (header .used ≤ 4000) × (Blank (receiver .format) (now head) (now macroblocks) (now levels)) × (length (now first) ≡ storeLength (receiver .format)) × (length (now second) ≡ storeLength (receiver .format)) ⌝ }
     ensures { λ r. ⌜ Settles h261 receiver (stores (now (first .entry)) (now (second .entry))) (ended h261 receiver header (h261 (receiver .format) .read (now (collection .entry)) (countOf header))) r (stores (now (first .exit)) (now (second .exit))) ⌝ }
 {
     let format = receiver.format;

@@ -1,8 +1,8 @@
 use mathlib.Core.Path.{_≡_, sym, ap, _∙_}
 use native.Mathlib.Omega.{arith}
 use lib.ListN.{length}
-use lib.Seq.{length-take-le}
 use Rattle.format.specs.Room.{part-long, groups-most}
+use Rattle.reader.specs.Blank.{blank-scratch}
 use Rattle.reader.specs.Described.{verdictOf}
 use Rattle.decoder.specs.Decoded.{storeAfter}
 use Rattle.decoder.proofs.Steps.{unfit-reference, unfit-store, fit}
@@ -67,7 +67,18 @@ slice-aggregate-decode-in-3 c = part-long _ (array-borrow-prefix-levels (c .befo
 
 -- src/lib.rt:64:5
 decode-in-requires : tie.Need-decode-in-requires
-decode-in-requires c κs = (record { head-long = length-take-le _ _ (array-borrow-prefix-head (c .before .before .before .before)) ∙ c .before .before .before .before .before .before .head-length .ensures; ms-long = length-take-le _ _ (array-borrow-prefix-macroblocks (c .before .before .before)) ∙ c .before .before .before .before .before .macroblocks-length .ensures; ls-long = length-take-le _ _ (array-borrow-prefix-levels (c .before .before)) ∙ c .before .before .before .before .levels-length .ensures }, c .before .before .before .before .before .before .before .before .if1 .left ∙ c .before .before .before .before .before .before .before .before .before .store-length .ensures, c .before .before .before .before .before .before .before .if2 .left ∙ c .before .before .before .before .before .before .before .before .before .store-length .ensures)
+decode-in-requires c κs =
+    let at-levels-length = c .before .before .before .before in
+    let at-macroblocks-length = at-levels-length .before in
+    let at-head-length = at-macroblocks-length .before in
+    let at-if2 = at-head-length .before in
+    let at-if1 = at-if2 .before in
+    let at-store-length = at-if1 .before in
+    let start = at-store-length .before .before .before .before in (
+      blank-scratch (start .args .format) (at-head-length .head-length .ensures) (at-macroblocks-length .macroblocks-length .ensures) (at-levels-length .levels-length .ensures),
+      at-if1 .if1 .left ∙ at-store-length .store-length .ensures,
+      at-if2 .if2 .left ∙ at-store-length .store-length .ensures,
+    )
 
 -- src/lib.rt:37:1
 same-length : tie.Need-same-length

@@ -1,10 +1,9 @@
 -- `reader::read` meets its contract: the scratch has room for either format. Assumes nothing.
-use mathlib.Core.Path.{_∙_}
 use native.Mathlib.Omega.{arith}
 use borrow.Author.Tests.{not-true, not-false}
-use lib.Seq.{length-take-le}
 use Rattle.format.specs.Room.{part-long, groups-most}
 use Rattle.description.specs.Fields.{flat}
+use Rattle.reader.specs.Blank.{blank-scratch}
 use Rattle.reader.proofs.ReadSteps.{unfit, fit, lengths-are}
 use borrow.Author.Needs.{needs}
 use Rattle.reader.proofs.read.Statement.{statement}
@@ -57,17 +56,13 @@ slice-aggregate-read-in-3 c = part-long _ (array-borrow-prefix-coefficients (c .
 
 read-in-requires : tie.Need-read-in-requires
 read-in-requires c κs =
-    let at-before = c .before .before .before in
-    let at-before-here = at-before .before in
-    let at-before-there = at-before-here .before in
-    let at-levels-length = at-before-there .before in
+    let at-levels-length = c .before .before .before .before .before .before in
     let at-macroblocks-length = at-levels-length .before in
     let at-head-length = at-macroblocks-length .before in
     let at-if1 = at-head-length .before in
     let at-lengths = at-if1 .before in
     let start = at-lengths .before .before .before .before .before .before .before .before in (
-      record
-          { head-long = length-take-le _ _ (array-borrow-prefix-header (at-before-there .before)) ∙ at-head-length .head-length .ensures; ms-long = length-take-le _ _ (array-borrow-prefix-fields (at-before-here .before)) ∙ at-macroblocks-length .macroblocks-length .ensures; ls-long = length-take-le _ _ (array-borrow-prefix-coefficients (at-before .before)) ∙ at-levels-length .levels-length .ensures },
+      blank-scratch (start .args .format) (at-head-length .head-length .ensures) (at-macroblocks-length .macroblocks-length .ensures) (at-levels-length .levels-length .ensures),
       lengths-are (start .args .format) (flat (start .args .head .now) (start .args .macroblocks .now) (start .args .levels .now)) (at-lengths .lengths .ensures)
           (not-false _ (at-if1 .if1 .left)),
     )

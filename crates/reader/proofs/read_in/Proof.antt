@@ -1,5 +1,7 @@
 -- `reader::read_in` meets its contract: what was parsed is copied on acceptance alone. Assumes nothing.
 use mathlib.Core.Path.{sym, _∙_}
+use native.Mathlib.Omega.{arith}
+use Rattle.reader.specs.Blank.{blank-lengths}
 use Rattle.reader.proofs.ReadSteps.{accepted-tag, copied, accepted-buffers, refused-unchanged}
 use borrow.Author.Needs.{needs}
 use Rattle.reader.proofs.read_in.Statement.{statement}
@@ -16,13 +18,22 @@ enum-told : tie.Need-enum-told
 enum-told c = search needs
 
 copy-requires : tie.Need-copy-requires
-copy-requires c κs = search needs
+copy-requires c κs =
+    let at-parse = c .before .before .before .before .before .before .before .before .before .before in
+    let start = at-parse .before .before .before .before .before .before .before .before .before .before .before in
+    omega (arith, at-parse .parse .kept .1 .1 .1 .0, blank-lengths (start .pre .0) .head-long, start .pre .1 .head-long)
 
 copy-requires-2 : tie.Need-copy-requires-2
-copy-requires-2 c κs = search needs
+copy-requires-2 c κs =
+    let at-parse = c .before .before .before .before .before .before .before .before .before .before .before .before .before .before .before in
+    let start = at-parse .before .before .before .before .before .before .before .before .before .before .before in
+    omega (arith, at-parse .parse .kept .1 .1 .1 .1 .0, blank-lengths (start .pre .0) .ms-long, start .pre .1 .ms-long)
 
 copy-requires-3 : tie.Need-copy-requires-3
-copy-requires-3 c κs = search needs
+copy-requires-3 c κs =
+    let at-parse = c .before .before .before .before .before .before .before .before .before .before .before .before .before .before .before .before .before .before .before .before in
+    let start = at-parse .before .before .before .before .before .before .before .before .before .before .before in
+    omega (arith, at-parse .parse .kept .1 .1 .1 .1 .1 .0, blank-lengths (start .pre .0) .ls-long, start .pre .1 .ls-long)
 
 same-length : tie.Need-same-length
 same-length c = search needs
@@ -72,9 +83,9 @@ returns-2 c =
       sym a ∙ at-parse .parse .ensures .0,
       accepted-buffers (start .args .format) (start .args .bytes .now) (start .args .count) (at-parse .parse .ensures .0) (at-parse .parse .ensures .1) a
           (flat (start .args .head .now) (start .args .macroblocks .now) (start .args .levels .now)) _ _ _
-          (copied _ _ _ (at-parse .parse .kept .1 .1 .1 .0 ∙ start .pre .0 .head-long ∙ sym (start .pre .1 .head-long)) (at-copy .copy .ensures .1))
-          (copied _ _ _ (at-parse .parse .kept .1 .1 .1 .1 .0 ∙ start .pre .0 .ms-long ∙ sym (start .pre .1 .ms-long)) (at-copy2 .copy2 .ensures .1))
-          (copied _ _ _ (at-parse .parse .kept .1 .1 .1 .1 .1 .0 ∙ start .pre .0 .ls-long ∙ sym (start .pre .1 .ls-long)) (c .before .before .copy3 .ensures .1)),
+          (copied _ _ _ (at-parse .parse .kept .1 .1 .1 .0 ∙ blank-lengths (start .pre .0) .head-long ∙ sym (start .pre .1 .head-long)) (at-copy .copy .ensures .1))
+          (copied _ _ _ (at-parse .parse .kept .1 .1 .1 .1 .0 ∙ blank-lengths (start .pre .0) .ms-long ∙ sym (start .pre .1 .ms-long)) (at-copy2 .copy2 .ensures .1))
+          (copied _ _ _ (at-parse .parse .kept .1 .1 .1 .1 .1 .0 ∙ blank-lengths (start .pre .0) .ls-long ∙ sym (start .pre .1 .ls-long)) (c .before .before .copy3 .ensures .1)),
     )
 
 pub read-in-spec : {M : Type 1} → statement M

@@ -1,9 +1,8 @@
 -- `receiver::finish` meets its contract: the scratch has room for either format. Assumes nothing.
 use borrow.Author.Needs.{needs}
 use native.Mathlib.Omega.{arith}
-use mathlib.Core.Path.{_∙_}
-use lib.Seq.{length-take-le}
 use Rattle.format.specs.Room.{part-long, groups-most}
+use Rattle.reader.specs.Blank.{blank-scratch}
 use Rattle.receiver.proofs.finish.Statement.{statement}
 use Rattle.receiver.proofs.finish.Tie as tie
 
@@ -36,18 +35,14 @@ slice-aggregate-finish-in-3 c = part-long _ (array-borrow-prefix-levels (c .befo
 
 finish-in-requires : tie.Need-finish-in-requires
 finish-in-requires c κs =
-    let at-before = c .before .before .before in
-    let at-before-here = at-before .before in
-    let at-levels-length = at-before-here .before in
+    let at-levels-length = c .before .before .before .before .before in
     let at-macroblocks-length = at-levels-length .before in
     let at-head-length = at-macroblocks-length .before in
     let start = at-head-length .before .before .before .before in (
       start .pre .0,
       start .pre .1,
       start .pre .2,
-      length-take-le _ _ (array-borrow-prefix-head (at-before-here .before)) ∙ at-head-length .head-length .ensures,
-      length-take-le _ _ (array-borrow-prefix-macroblocks (at-before .before)) ∙ at-macroblocks-length .macroblocks-length .ensures,
-      length-take-le _ _ (array-borrow-prefix-levels (c .before .before .before)) ∙ at-levels-length .levels-length .ensures,
+      blank-scratch (start .args .receiver .format) (at-head-length .head-length .ensures) (at-macroblocks-length .macroblocks-length .ensures) (at-levels-length .levels-length .ensures),
       start .pre .3,
       start .pre .4,
     )

@@ -57,7 +57,7 @@ add-count : tie.Need-add-count
 add-count c = search needs
 
 parse-requires : tie.Need-parse-requires
-parse-requires c κs = record { head-long = c .before .before .before .before .before .before .before .before .before .before .before .pre .3; ms-long = c .before .before .before .before .before .before .before .before .before .before .before .pre .4; ls-long = c .before .before .before .before .before .before .before .before .before .before .before .pre .5 }
+parse-requires c κs = c .before .before .before .before .before .before .before .before .before .before .before .pre .3
 
 enum-known-verdict : tie.Need-enum-known-verdict
 enum-known-verdict c = search needs
@@ -78,8 +78,8 @@ settle-requires c κs =
       start .pre .0,
       is-valid format collection _ (flat (at-parse .parse .last .1 .1 .1 .0) (at-parse .parse .last .1 .1 .1 .1 .0) (at-parse .parse .last .1 .1 .1 .1 .1 .0))
           (told-found format collection _ (at-parse .parse .ensures .0) (at-parse .parse .ensures .1)) (at-enum-told .enum-told .given .1),
-      start .pre .6,
-      start .pre .7,
+      start .pre .4,
+      start .pre .5,
     )
 
 same-length : tie.Need-same-length
