@@ -1,11 +1,16 @@
 -- `vault::follows` meets its contract: at each `return` the tests that led there. Assumes nothing.
 use borrow.Author.Needs.{needs}
 use borrow.Author.Tests.{le-leb, lt-leb, not-true, not-false}
-use mathlib.Core.Path.{sym, ap, _∙_}
+use mathlib.Core.Path.{_≡_, sym, ap, _∙_}
+use mathlib.Core.Bool.{Bool}
 use Rattle.vault.specs.declared.Header.{Header}
 use Rattle.vault.specs.Block.{ruled, clear, payloadOf, follows}
 use Rattle.vault.proofs.follows.Statement.{statement}
 use Rattle.vault.proofs.follows.Tie as tie
+
+-- what a test of the header that was read came to, it comes to on the block's own
+of-header : {read own : Header} {told is : Bool} (test : Header → Bool) → told ≡ test read → read ≡ own → told ≡ is → test own ≡ is
+of-header test e h t = sym (e ∙ ap test h) ∙ t
 
 header-of-requires : tie.Need-header-of-requires
 header-of-requires c κs = search needs
@@ -17,7 +22,7 @@ returns : tie.Need-returns
 unfolding follows
 returns c =
     let start = c .before .before .before .before in
-    simp (sym ((c .before .ruled .ensures) ∙ ap (ruled (start .args .format)) (c .before .before .header-of .ensures)) ∙ not-true _ (c .if1 .taken))
+    simp (of-header (ruled (start .args .format)) (c .before .ruled .ensures) (c .before .before .header-of .ensures) (not-true _ (c .if1 .taken)))
 
 shared-slice-read-if2 : tie.Need-shared-slice-read-if2
 shared-slice-read-if2 c = search needs
@@ -28,8 +33,7 @@ returns-2 c =
     let at-ruled = c .before .before .before in
     let start = at-ruled .before .before .before in
     simp (
-      sym ((at-ruled .ruled .ensures) ∙ ap (ruled (start .args .format)) (at-ruled .before .header-of .ensures))
-          ∙ not-false _ (c .before .before .if1 .left),
+      of-header (ruled (start .args .format)) (at-ruled .ruled .ensures) (at-ruled .before .header-of .ensures) (not-false _ (c .before .before .if1 .left)),
       lt-leb _ _ (c .if2 .taken),
     )
 
@@ -47,11 +51,10 @@ returns-3 c =
     let at-header-of = at-ruled .before in
     let start = at-header-of .before .before in
     simp (
-      sym ((at-ruled .ruled .ensures) ∙ ap (ruled (start .args .format)) (at-header-of .header-of .ensures))
-          ∙ not-false _ (at-if2 .before .before .if1 .left),
+      of-header (ruled (start .args .format)) (at-ruled .ruled .ensures) (at-header-of .header-of .ensures) (not-false _ (at-if2 .before .before .if1 .left)),
       le-leb _ _ (at-if2 .if2 .left),
-      sym ((c .before .unused-zero .ensures)
-          ∙ ap (λ (h : Header). clear (h .used) (payloadOf (start .args .block .now)) 500) (at-header-of .header-of .ensures)) ∙ not-true _ (c .if3 .taken),
+      of-header (λ (h : Header). clear (h .used) (payloadOf (start .args .block .now)) 500) (c .before .unused-zero .ensures) (at-header-of .header-of .ensures)
+          (not-true _ (c .if3 .taken)),
     )
 
 pair-requires : tie.Need-pair-requires
@@ -65,12 +68,10 @@ returns-4 c =
     let at-header-of = at-ruled .before in
     let start = at-header-of .before .before in
     simp (
-      sym ((at-ruled .ruled .ensures) ∙ ap (ruled (start .args .format)) (at-header-of .header-of .ensures))
-          ∙ not-false _ (at-if2 .before .before .if1 .left),
+      of-header (ruled (start .args .format)) (at-ruled .ruled .ensures) (at-header-of .header-of .ensures) (not-false _ (at-if2 .before .before .if1 .left)),
       le-leb _ _ (at-if2 .if2 .left),
-      sym ((c .before .before .unused-zero .ensures)
-          ∙ ap (λ (h : Header). clear (h .used) (payloadOf (start .args .block .now)) 500) (at-header-of .header-of .ensures))
-          ∙ not-false _ (c .before .if3 .left),
+      of-header (λ (h : Header). clear (h .used) (payloadOf (start .args .block .now)) 500) (c .before .before .unused-zero .ensures) (at-header-of .header-of .ensures)
+          (not-false _ (c .before .if3 .left)),
       c .pair .ensures,
     )
 
