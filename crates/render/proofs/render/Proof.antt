@@ -12,7 +12,9 @@ use Rattle.render.proofs.render.Statement.{statement}
 use Rattle.render.proofs.render.Tie as tie
 
 abbrev Inv-loop : tie.InvT-loop
-Inv-loop format head macroblocks levels reference store₀ count quantiser₀ n₀ store quantiser n = (n ≤ count) × ((n % 33 ≡ 0 → ⊥) → quantiser ≡ quantiserBefore (flat head macroblocks levels) (n / 33) (n % 33)) × Drawn format n (valueAt format (flat head macroblocks levels) reference) store
+Inv-loop format head macroblocks levels reference store₀ count quantiser₀ n₀ store quantiser n =
+    (n ≤ count) × ((n % 33 ≡ 0 → ⊥) → quantiser ≡ quantiserBefore (flat head macroblocks levels) (n / 33) (n % 33)) × Drawn format n
+    (valueAt format (flat head macroblocks levels) reference) store
 
 abbrev μ-loop : tie.MeasureT-loop
 μ-loop format head macroblocks levels reference store₀ count quantiser₀ n₀ store quantiser n = count - n

@@ -33,7 +33,12 @@ module _ (clip picture : ℕ) (refresh : Bool) (bytes : List ℕ) (count : ℕ) 
     is = is;
     long =
         ap length is
-        ∙ omega (arith, length-append (firstBlocks clip picture refresh bytes count (n + 1)) (drop (512 * (n + 1)) out₀), first-length clip picture refresh bytes count (n + 1), length-drop (512 * (n + 1)) out₀);
+        ∙ omega (
+          arith,
+          length-append (firstBlocks clip picture refresh bytes count (n + 1)) (drop (512 * (n + 1)) out₀),
+          first-length clip picture refresh bytes count (n + 1),
+          length-drop (512 * (n + 1)) out₀,
+        );
     within = omega arith;
   }
     where

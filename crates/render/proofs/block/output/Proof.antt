@@ -55,7 +55,9 @@ dequantise-requires c κs = search needs
 
 inverse-requires : tie.Need-inverse-requires
 inverse-requires c κs =
-    dequantised-small _ _ _ (λ position. omega (arith, c .before .before .before .shared-slice-known .given (c .before .before .before .before .args .at + position))) (c .dequantise .ensures)
+    dequantised-small _ _ _
+    (λ position. omega (arith, c .before .before .before .shared-slice-known .given (c .before .before .before .before .args .at + position)))
+    (c .dequantise .ensures)
 
 returns-2 : tie.Need-returns-2
 unfolding differenceOf

@@ -33,7 +33,8 @@ module _ (c : tie.After-start3) where
   cr-start = c .before .before .before .before .before .before .before .before .before .before .before .before .before .before .before
 
   cr-room : {n : ℕ} → n ≡ storeLength (cr-start .args .format)
-      → Room 8 8 (c .start3 .result + cr-start .args .row * 8 * c .before .before .before .before .before .before .stride2 .result + cr-start .args .column * 8) (c .before .before .before .before .before .before .stride2 .result) n
+      → Room 8 8 (c .start3 .result + cr-start .args .row * 8 * c .before .before .before .before .before .before .stride2 .result + cr-start .args .column * 8)
+      (c .before .before .before .before .before .before .stride2 .result) n
   cr-room e =
       room-to (plane (cr-start .args .format) 2 (c .start3 .ensures) (c .before .before .before .before .before .before .stride2 .ensures))
       (chroma (cr-start .args .format) 2 (cr-start .args .row) (cr-start .args .column) (omega arith) (omega arith) (cr-start .pre .2) (cr-start .pre .3) .on) e

@@ -12,7 +12,10 @@ use Rattle.render.proofs.macroblock.sent.Statement.{statement}
 use Rattle.render.proofs.macroblock.sent.Tie as tie
 
 abbrev Inv-loop : tie.InvT-loop
-Inv-loop format reference store₀ row column prediction horizontal vertical quantiser levels at b₀ store b = (b ≤ 6) × Part format row column b (sentOf format reference prediction (vectorFrom horizontal vertical) (λ b. differenceOf (bytesFrom levels (at + b * 64)) (intraOf prediction) quantiser)) store₀ store
+Inv-loop format reference store₀ row column prediction horizontal vertical quantiser levels at b₀ store b =
+    (b ≤ 6) × Part format row column b
+    (sentOf format reference prediction (vectorFrom horizontal vertical) (λ b. differenceOf (bytesFrom levels (at + b * 64)) (intraOf prediction) quantiser))
+    store₀ store
 
 abbrev μ-loop : tie.MeasureT-loop
 μ-loop format reference store₀ row column prediction horizontal vertical quantiser levels at b₀ store b = 6 - b
