@@ -11,7 +11,8 @@ use Rattle.writer.proofs.block.coefficients.Statement.{statement}
 use Rattle.writer.proofs.block.coefficients.Tie as tie
 
 abbrev Inv-loop : tie.InvT-loop
-Inv-loop tables levels from opening out₀ at first₀ run₀ k₀ place₀ out first run k place = CodedSoFar (codedOf opening (gather 0 (drop from levels))) levels out₀ at out first run k place
+Inv-loop tables levels from opening out₀ at first₀ run₀ k₀ place₀ out first run k place =
+    CodedSoFar (codedOf opening (gather 0 (drop from levels))) levels out₀ at out first run k place
 
 abbrev μ-loop : tie.MeasureT-loop
 μ-loop tables levels from opening out₀ at first₀ run₀ k₀ place₀ out first run k place = 64 - k

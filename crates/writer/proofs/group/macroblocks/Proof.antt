@@ -11,7 +11,8 @@ use Rattle.writer.proofs.group.macroblocks.Statement.{statement}
 use Rattle.writer.proofs.group.macroblocks.Tie as tie
 
 abbrev Inv-loop : tie.InvT-loop
-Inv-loop tables fields levels out₀ at last₀ horizontal₀ vertical₀ place₀ k₀ out last horizontal vertical place k = MacroblocksSoFar (macroblocksOf atStart (macroblocksIn 33 1 fields levels)) fields levels out₀ at out last horizontal vertical place k
+Inv-loop tables fields levels out₀ at last₀ horizontal₀ vertical₀ place₀ k₀ out last horizontal vertical place k =
+    MacroblocksSoFar (macroblocksOf atStart (macroblocksIn 33 1 fields levels)) fields levels out₀ at out last horizontal vertical place k
 
 abbrev μ-loop : tie.MeasureT-loop
 μ-loop tables fields levels out₀ at last₀ horizontal₀ vertical₀ place₀ k₀ out last horizontal vertical place k = 33 - k

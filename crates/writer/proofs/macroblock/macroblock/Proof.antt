@@ -127,12 +127,8 @@ returns c =
 
 same-length : tie.Need-same-length
 same-length c =
-    let at-is-intra = c .before .before .before .before in
-    let at-pattern = at-is-intra .before .before .before in
-    let at-vector = at-pattern .before .before .before .before in
-    let at-quantiser = at-vector .before .before .before .before .before .before in
-    let at-put2 = at-quantiser .before .before .before .before .before in
-    let at-put = at-put2 .before .before .before .before .before in
+    let at-vector = c .before .before .before .before .before .before .before .before .before .before .before in
+    let at-put = at-vector .before .before .before .before .before .before .before .before .before .before .before .before .before .before .before .before in
     let start = at-put .before .before .before .before .before .before .before in
     wrote-long (returns c) (start .pre .8) (lit≤ tt)
 

@@ -14,7 +14,8 @@ use Rattle.writer.proofs.picture.groups.Statement.{statement}
 use Rattle.writer.proofs.picture.groups.Tie as tie
 
 abbrev Inv-loop : tie.InvT-loop
-Inv-loop tables head macroblocks levels format out₀ at count place₀ g₀ out place g = GroupsSoFar (groupsOf (groupNumbers format) (groupsIn (drop 3 head) macroblocks levels)) format head macroblocks levels out₀ at out place g
+Inv-loop tables head macroblocks levels format out₀ at count place₀ g₀ out place g =
+    GroupsSoFar (groupsOf (groupNumbers format) (groupsIn (drop 3 head) macroblocks levels)) format head macroblocks levels out₀ at out place g
 
 abbrev μ-loop : tie.MeasureT-loop
 μ-loop tables head macroblocks levels format out₀ at count place₀ g₀ out place g = count - g
