@@ -16,7 +16,7 @@ use Rattle.laws.specs.Lists.{drop-on}
 use Rattle.format.specs.Format.{formatBit, groupNumbers, groupCount, width, height, column, row, headLength, macroblocksLength, levelsLength}
 use Rattle.format.specs.declared.Format.{Format}
 use Rattle.format.specs.declared.Format.the-variants.{Qcif, Cif}
-use Rattle.format.specs.Room.{groups-listed}
+use Rattle.format.specs.Room.{groups-listed, groups-most}
 use Rattle.description.specs.Vector.{inRange, inside}
 use Rattle.description.specs.Flat.{numberOf}
 use Rattle.description.specs.Valid.{all, isZero, isQuantiser, isLevel, codesFirst, validVector, validLevels, validMacroblock, validMacroblocks, validGroups, lengthsOf, validHead, valid}
@@ -429,6 +429,16 @@ group-part f fields levels g number r n e = e ∙ (λ i. validMacroblocks 33 f (
 
 pub part-length : (l : List ℕ) (a n : ℕ) → a + n ≤ length l → n ≤ length (take (length l - a) (drop a l))
 part-length l a n h = omega (arith, ap length (part-rest l a), length-drop a l)
+
+-- a group's parts lie in the lists
+pub record GroupFits (g : ℕ) (fields levels : List ℕ) : Type 0 where
+  pub low : g < 12
+  pub fields-fit : g * 132 + 132 ≤ length fields
+  pub levels-fit : g * 12672 + 12672 ≤ length levels
+
+pub group-fits : (f : Format) {fields levels : List ℕ} {g count : ℕ}
+    → length fields ≡ macroblocksLength f → length levels ≡ levelsLength f → count ≡ groupCount f → g < count → GroupFits g fields levels
+group-fits f a b e h = record { low = omega (arith, groups-most f); fields-fit = omega arith; levels-fit = omega arith }
 
 pub piece-length : (l : List ℕ) (a n : ℕ) → a + n ≤ length l → length (take (a + n - a) (drop a l)) ≡ n
 piece-length l a n h =

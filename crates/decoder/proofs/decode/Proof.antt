@@ -23,11 +23,24 @@ store-length-requires c κs = search needs
 
 -- src/lib.rt:53:9
 returns : tie.Need-returns
-returns c = let e = unfit-reference (c .before .before .before .before .before .args .format) (c .before .before .before .before .before .args .bytes .now) (c .before .before .before .before .before .args .count) (c .before .before .before .before .before .args .reference .now) (length (c .before .before .before .before .before .args .store .now)) (λ h. c .if1 .taken (h ∙ sym (c .before .store-length .ensures))) in (sym (ap verdictOf e), sym (ap (storeAfter (c .before .before .before .before .before .args .store .now)) e))
+returns c =
+    let start = c .before .before .before .before .before in
+    let store = start .args .store .now in
+    let e =
+    unfit-reference (start .args .format) (start .args .bytes .now) (start .args .count) (start .args .reference .now) (length store)
+    (λ h. c .if1 .taken (h ∙ sym (c .before .store-length .ensures))) in
+    (sym (ap verdictOf e), sym (ap (storeAfter store) e))
 
 -- src/lib.rt:56:9
 returns-2 : tie.Need-returns-2
-returns-2 c = let e = unfit-store (c .before .before .before .before .before .before .args .format) (c .before .before .before .before .before .before .args .bytes .now) (c .before .before .before .before .before .before .args .count) (c .before .before .before .before .before .before .args .reference .now) (length (c .before .before .before .before .before .before .args .store .now)) (c .before .if1 .left ∙ c .before .before .store-length .ensures) (λ h. c .if2 .taken (h ∙ sym (c .before .before .store-length .ensures))) in (sym (ap verdictOf e), sym (ap (storeAfter (c .before .before .before .before .before .before .args .store .now)) e))
+returns-2 c =
+    let at-store-length = c .before .before in
+    let start = at-store-length .before .before .before .before in
+    let store = start .args .store .now in
+    let e =
+    unfit-store (start .args .format) (start .args .bytes .now) (start .args .count) (start .args .reference .now) (length store)
+    (c .before .if1 .left ∙ at-store-length .store-length .ensures) (λ h. c .if2 .taken (h ∙ sym (at-store-length .store-length .ensures))) in
+    (sym (ap verdictOf e), sym (ap (storeAfter store) e))
 
 -- src/lib.rt:61:9
 head-length-requires : tie.Need-head-length-requires
@@ -43,7 +56,9 @@ levels-length-requires c κs = search needs
 
 -- src/lib.rt:68:9
 array-borrow-prefix-head : tie.Need-array-borrow-prefix-head
-array-borrow-prefix-head c = omega (arith, c .before .before .head-length .ensures, groups-most (c .before .before .before .before .before .before .before .before .before .args .format))
+array-borrow-prefix-head c =
+    let start = c .before .before .before .before .before .before .before .before .before in
+    omega (arith, c .before .before .head-length .ensures, groups-most (start .args .format))
 
 -- src/lib.rt:68:9
 slice-aggregate-decode-in : tie.Need-slice-aggregate-decode-in
@@ -51,7 +66,9 @@ slice-aggregate-decode-in c = part-long _ (array-borrow-prefix-head (c .before))
 
 -- src/lib.rt:69:9
 array-borrow-prefix-macroblocks : tie.Need-array-borrow-prefix-macroblocks
-array-borrow-prefix-macroblocks c = omega (arith, c .before .before .macroblocks-length .ensures, groups-most (c .before .before .before .before .before .before .before .before .before .before .args .format))
+array-borrow-prefix-macroblocks c =
+    let start = c .before .before .before .before .before .before .before .before .before .before in
+    omega (arith, c .before .before .macroblocks-length .ensures, groups-most (start .args .format))
 
 -- src/lib.rt:69:9
 slice-aggregate-decode-in-2 : tie.Need-slice-aggregate-decode-in-2
@@ -59,7 +76,9 @@ slice-aggregate-decode-in-2 c = part-long _ (array-borrow-prefix-macroblocks (c 
 
 -- src/lib.rt:70:9
 array-borrow-prefix-levels : tie.Need-array-borrow-prefix-levels
-array-borrow-prefix-levels c = omega (arith, c .before .before .levels-length .ensures, groups-most (c .before .before .before .before .before .before .before .before .before .before .before .args .format))
+array-borrow-prefix-levels c =
+    let start = c .before .before .before .before .before .before .before .before .before .before .before in
+    omega (arith, c .before .before .levels-length .ensures, groups-most (start .args .format))
 
 -- src/lib.rt:70:9
 slice-aggregate-decode-in-3 : tie.Need-slice-aggregate-decode-in-3
@@ -86,7 +105,16 @@ same-length c = search needs
 
 -- src/lib.rt:37:1
 returns-3 : tie.Need-returns-3
-returns-3 c = let e = fit (c .before .before .before .before .before .before .before .before .before .before .before .before .before .before .before .before .before .before .before .args .format) (c .before .before .before .before .before .before .before .before .before .before .before .before .before .before .before .before .before .before .before .args .bytes .now) (c .before .before .before .before .before .before .before .before .before .before .before .before .before .before .before .before .before .before .before .args .count) (c .before .before .before .before .before .before .before .before .before .before .before .before .before .before .before .before .before .before .before .args .reference .now) (length (c .before .before .before .before .before .before .before .before .before .before .before .before .before .before .before .before .before .before .before .args .store .now)) (c .before .before .before .before .before .before .before .before .before .before .before .before .before .before .if1 .left ∙ c .before .before .before .before .before .before .before .before .before .before .before .before .before .before .before .store-length .ensures) (c .before .before .before .before .before .before .before .before .before .before .before .before .before .if2 .left ∙ c .before .before .before .before .before .before .before .before .before .before .before .before .before .before .before .store-length .ensures) in (c .before .before .before .before .before .decode-in .ensures .0 ∙ sym (ap verdictOf e), c .before .before .before .before .before .decode-in .ensures .1 ∙ sym (ap (storeAfter (c .before .before .before .before .before .before .before .before .before .before .before .before .before .before .before .before .before .before .before .args .store .now)) e))
+returns-3 c =
+    let at-decode-in = c .before .before .before .before .before in
+    let at-if2 = at-decode-in .before .before .before .before .before .before .before .before in
+    let at-store-length = at-if2 .before .before in
+    let start = at-store-length .before .before .before .before in
+    let store = start .args .store .now in
+    let e =
+    fit (start .args .format) (start .args .bytes .now) (start .args .count) (start .args .reference .now) (length store)
+    (at-if2 .before .if1 .left ∙ at-store-length .store-length .ensures) (at-if2 .if2 .left ∙ at-store-length .store-length .ensures) in
+    (at-decode-in .decode-in .ensures .0 ∙ sym (ap verdictOf e), at-decode-in .decode-in .ensures .1 ∙ sym (ap (storeAfter store) e))
 
 pub decode-spec : {M : Type 1} → statement M
 decode-spec =

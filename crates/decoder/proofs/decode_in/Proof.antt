@@ -22,7 +22,15 @@ enum-told c = search needs
 
 -- src/lib.rt:30:13
 render-requires : tie.Need-render-requires
-render-requires c κs = (read-valid (c .before .before .before .before .before .before .before .before .before .before .before .before .before .before .before .before .before .before .before .before .before .before .args .format) (c .before .before .before .before .before .before .before .before .before .before .before .before .before .before .before .before .before .before .before .before .before .before .args .bytes .now) (c .before .before .before .before .before .before .before .before .before .before .before .before .before .before .before .before .before .before .before .before .before .before .args .count) _ (c .before .before .before .before .before .before .before .before .before .before .before .before .parse .result) (c .before .before .before .before .before .before .before .before .before .before .before .before .parse .ensures .0) (c .before .before .before .before .before .before .before .before .before .before .before .before .parse .ensures .1) (accepted-tag (c .before .before .before .before .before .before .before .before .before .before .before .before .parse .result) (c .before .before .before .before .before .match .keys2)), c .before .before .before .before .before .before .before .before .before .before .before .before .before .before .before .before .before .before .before .before .before .before .pre .1, c .before .before .before .before .before .before .before .before .before .before .before .before .before .before .before .before .before .before .before .before .before .before .pre .2)
+render-requires c κs =
+    let at-match = c .before .before .before .before .before in
+    let at-parse = at-match .before .before .before .before .before .before .before in
+    let start = at-parse .before .before .before .before .before .before .before .before .before .before in (
+      read-valid (start .args .format) (start .args .bytes .now) (start .args .count) _ (at-parse .parse .result) (at-parse .parse .ensures .0)
+          (at-parse .parse .ensures .1) (accepted-tag (at-parse .parse .result) (at-match .match .keys2)),
+      start .pre .1,
+      start .pre .2,
+    )
 
 -- src/lib.rt:12:1
 same-length : tie.Need-same-length
@@ -38,7 +46,19 @@ same-length-3 c = search needs
 
 -- src/lib.rt:12:1
 returns : tie.Need-returns
-returns c = (refused-verdict (c .before .before .before .before .before .before .before .before .before .before .before .before .before .before .before .before .before .before .before .args .format) (c .before .before .before .before .before .before .before .before .before .before .before .before .before .before .before .before .before .before .before .args .bytes .now) (c .before .before .before .before .before .before .before .before .before .before .before .before .before .before .before .before .before .before .before .args .count) _ (c .before .before .before .before .before .before .before .before .before .parse .result) (c .before .before .before .before .before .before .before .before .before .parse .ensures .0) (c .before .before .before .before .before .before .before .before .before .parse .ensures .1) _ (c .before .verdict .given .1) (c .before .before .before .before .before .before .before .before .before .before .before .before .before .before .before .before .before .before .before .args .reference .now), refused-store (c .before .before .before .before .before .before .before .before .before .before .before .before .before .before .before .before .before .before .before .args .format) (c .before .before .before .before .before .before .before .before .before .before .before .before .before .before .before .before .before .before .before .args .bytes .now) (c .before .before .before .before .before .before .before .before .before .before .before .before .before .before .before .before .before .before .before .args .count) _ (c .before .before .before .before .before .before .before .before .before .parse .result) (c .before .before .before .before .before .before .before .before .before .parse .ensures .0) (c .before .before .before .before .before .before .before .before .before .parse .ensures .1) _ (c .before .verdict .given .1) (c .before .before .before .before .before .before .before .before .before .before .before .before .before .before .before .before .before .before .before .args .reference .now) (c .before .before .before .before .before .before .before .before .before .before .before .before .before .before .before .before .before .before .before .args .store .now))
+returns c =
+    let at-verdict = c .before in
+    let at-parse = at-verdict .before .before .before .before .before .before .before .before in
+    let start = at-parse .before .before .before .before .before .before .before .before .before .before in
+    let bytes = start .args .bytes .now in
+    let reference = start .args .reference .now in
+    let format = start .args .format in
+    let count = start .args .count in (
+      refused-verdict format bytes count _ (at-parse .parse .result) (at-parse .parse .ensures .0) (at-parse .parse .ensures .1) _ (at-verdict .verdict .given .1)
+          reference,
+      refused-store format bytes count _ (at-parse .parse .result) (at-parse .parse .ensures .0) (at-parse .parse .ensures .1) _ (at-verdict .verdict .given .1)
+          reference (start .args .store .now),
+    )
 
 -- src/lib.rt:12:1
 same-length-4 : tie.Need-same-length-4
@@ -58,7 +78,19 @@ same-length-7 c = search needs
 
 -- src/lib.rt:12:1
 returns-2 : tie.Need-returns-2
-returns-2 c = (drawn-verdict (c .before .before .before .before .before .before .before .before .before .before .before .before .before .before .before .before .before .before .before .before .before .before .before .before .before .args .format) (c .before .before .before .before .before .before .before .before .before .before .before .before .before .before .before .before .before .before .before .before .before .before .before .before .before .args .bytes .now) (c .before .before .before .before .before .before .before .before .before .before .before .before .before .before .before .before .before .before .before .before .before .before .before .before .before .args .count) _ (c .before .before .before .before .before .before .before .before .before .before .before .before .before .before .before .parse .result) (c .before .before .before .before .before .before .before .before .before .before .before .before .before .before .before .parse .ensures .0) (c .before .before .before .before .before .before .before .before .before .before .before .before .before .before .before .parse .ensures .1) (accepted-tag (c .before .before .before .before .before .before .before .before .before .before .before .before .before .before .before .parse .result) (c .before .before .before .before .before .before .before .before .match .keys2)) (c .before .before .before .before .before .before .before .before .before .before .before .before .before .before .before .before .before .before .before .before .before .before .before .before .before .args .reference .now), drawn-store (c .before .before .before .before .before .before .before .before .before .before .before .before .before .before .before .before .before .before .before .before .before .before .before .before .before .args .format) (c .before .before .before .before .before .before .before .before .before .before .before .before .before .before .before .before .before .before .before .before .before .before .before .before .before .args .bytes .now) (c .before .before .before .before .before .before .before .before .before .before .before .before .before .before .before .before .before .before .before .before .before .before .before .before .before .args .count) _ (c .before .before .before .before .before .before .before .before .before .before .before .before .before .before .before .parse .result) (c .before .before .before .before .before .before .before .before .before .before .before .before .before .before .before .parse .ensures .0) (c .before .before .before .before .before .before .before .before .before .before .before .before .before .before .before .parse .ensures .1) (accepted-tag (c .before .before .before .before .before .before .before .before .before .before .before .before .before .before .before .parse .result) (c .before .before .before .before .before .before .before .before .match .keys2)) (c .before .before .before .before .before .before .before .before .before .before .before .before .before .before .before .before .before .before .before .before .before .before .before .before .before .args .reference .now) (c .before .before .before .before .before .before .before .before .before .before .before .before .before .before .before .before .before .before .before .before .before .before .before .before .before .args .store .now) _ (c .before .before .render .ensures))
+returns-2 c =
+    let at-match = c .before .before .before .before .before .before .before .before in
+    let at-parse = at-match .before .before .before .before .before .before .before in
+    let start = at-parse .before .before .before .before .before .before .before .before .before .before in
+    let bytes = start .args .bytes .now in
+    let reference = start .args .reference .now in
+    let format = start .args .format in
+    let count = start .args .count in (
+      drawn-verdict format bytes count _ (at-parse .parse .result) (at-parse .parse .ensures .0) (at-parse .parse .ensures .1)
+          (accepted-tag (at-parse .parse .result) (at-match .match .keys2)) reference,
+      drawn-store format bytes count _ (at-parse .parse .result) (at-parse .parse .ensures .0) (at-parse .parse .ensures .1)
+          (accepted-tag (at-parse .parse .result) (at-match .match .keys2)) reference (start .args .store .now) _ (c .before .before .render .ensures),
+    )
 
 pub decode-in-spec : {M : Type 1} → statement M
 decode-in-spec =

@@ -42,19 +42,32 @@ one-format-requires : tie.Need-one-format-requires
 one-format-requires c κs = search needs
 
 returns : tie.Need-returns
-returns c = not-one (c .before .before .before .before .before .before .before .before .args .format) (flat (c .before .before .before .before .before .before .before .before .args .head .now) (c .before .before .before .before .before .before .before .before .args .macroblocks .now) (c .before .before .before .before .before .before .before .before .args .levels .now)) (c .before .before .before .before .before .before .before .before .args .out .now) (c .before .before .before .before .before .before .before .before .args .first .now) (c .before .before .before .before .before .before .before .before .args .second .now) (c .before .one-format .ensures) (not-true _ (c .if1 .taken))
+returns c =
+    let start = c .before .before .before .before .before .before .before .before in
+    not-one (start .args .format) (flat (start .args .head .now) (start .args .macroblocks .now) (start .args .levels .now)) (start .args .out .now)
+    (start .args .first .now) (start .args .second .now) (c .before .one-format .ensures) (not-true _ (c .if1 .taken))
 
 blocks-length-requires : tie.Need-blocks-length-requires
 blocks-length-requires c κs = search needs
 
 returns-2 : tie.Need-returns-2
-returns-2 c = unfit (c .before .before .before .before .before .before .before .before .before .before .args .format) (flat (c .before .before .before .before .before .before .before .before .before .before .args .head .now) (c .before .before .before .before .before .before .before .before .before .before .args .macroblocks .now) (c .before .before .before .before .before .before .before .before .before .before .args .levels .now)) (c .before .before .before .before .before .before .before .before .before .before .args .out .now) (c .before .before .before .before .before .before .before .before .before .before .args .first .now) (c .before .before .before .before .before .before .before .before .before .before .args .second .now) (c .before .before .before .one-format .ensures) (not-false _ (c .before .before .if1 .left)) (c .before .blocks-length .ensures) (c .if2 .taken)
+returns-2 c =
+    let at-one-format = c .before .before .before in
+    let start = at-one-format .before .before .before .before .before .before .before in
+    unfit (start .args .format) (flat (start .args .head .now) (start .args .macroblocks .now) (start .args .levels .now)) (start .args .out .now)
+    (start .args .first .now) (start .args .second .now) (at-one-format .one-format .ensures) (not-false _ (c .before .before .if1 .left))
+    (c .before .blocks-length .ensures) (c .if2 .taken)
 
 sized-requires : tie.Need-sized-requires
 sized-requires c κs = search needs
 
 returns-3 : tie.Need-returns-3
-returns-3 c = fit (c .before .before .before .before .before .before .before .before .before .before .before .args .format) (flat (c .before .before .before .before .before .before .before .before .before .before .before .args .head .now) (c .before .before .before .before .before .before .before .before .before .before .before .args .macroblocks .now) (c .before .before .before .before .before .before .before .before .before .before .before .args .levels .now)) (c .before .before .before .before .before .before .before .before .before .before .before .args .out .now) (c .before .before .before .before .before .before .before .before .before .before .before .args .first .now) (c .before .before .before .before .before .before .before .before .before .before .before .args .second .now) (c .before .before .before .before .one-format .ensures) (not-false _ (c .before .before .before .if1 .left)) (c .before .before .blocks-length .ensures) (c .before .if2 .left) (c .sized .ensures)
+returns-3 c =
+    let at-if1 = c .before .before .before in
+    let start = at-if1 .before .before .before .before .before .before .before .before in
+    fit (start .args .format) (flat (start .args .head .now) (start .args .macroblocks .now) (start .args .levels .now)) (start .args .out .now)
+    (start .args .first .now) (start .args .second .now) (at-if1 .before .one-format .ensures) (not-false _ (at-if1 .if1 .left))
+    (c .before .before .blocks-length .ensures) (c .before .if2 .left) (c .sized .ensures)
 
 pub named-spec : {M : Type 1} → statement M
 named-spec =

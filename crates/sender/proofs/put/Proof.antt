@@ -26,7 +26,13 @@ same-length-3 : tie.Need-same-length-3
 same-length-3 c = search needs
 
 returns : tie.Need-returns
-returns c = came-sent h261 (c .before .before .before .before .before .before .before .before .before .before .before .before .before .before .before .before .before .before .before .args .sender) (flat (c .before .before .before .before .before .before .before .before .before .before .before .before .before .before .before .before .before .before .before .args .head .now) (c .before .before .before .before .before .before .before .before .before .before .before .before .before .before .before .before .before .before .before .args .macroblocks .now) (c .before .before .before .before .before .before .before .before .before .before .before .before .before .before .before .before .before .before .before .args .levels .now)) (buffers (c .before .before .before .before .before .before .before .before .before .before .before .before .before .before .before .before .before .before .before .args .out .now) (c .before .before .before .before .before .before .before .before .before .before .before .before .before .before .before .before .before .before .before .args .first .now) (c .before .before .before .before .before .before .before .before .before .before .before .before .before .before .before .before .before .before .before .args .second .now)) (c .before .before .before .before .before .before .before .before .before .before .before .before .before .before .before .before .before .before .before .pre) (c .before .before .before .before .before .before .before .before .before .before .blocks2 .ensures .0) (c .before .before .before .before .before .before .before .before .before .before .blocks2 .ensures .1) (c .before .before .before .before .before .keep .ensures) (c .number-on .ensures)
+returns c =
+    let at-keep = c .before .before .before .before .before in
+    let at-blocks2 = at-keep .before .before .before .before .before in
+    let start = at-blocks2 .before .before .before .before .before .before .before .before .before in
+    came-sent h261 (start .args .sender) (flat (start .args .head .now) (start .args .macroblocks .now) (start .args .levels .now))
+    (buffers (start .args .out .now) (start .args .first .now) (start .args .second .now)) (start .pre) (at-blocks2 .blocks2 .ensures .0)
+    (at-blocks2 .blocks2 .ensures .1) (at-keep .keep .ensures) (c .number-on .ensures)
 
 pub put-spec : {M : Type 1} → statement M
 put-spec =

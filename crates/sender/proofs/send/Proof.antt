@@ -31,7 +31,13 @@ same-length-3 : tie.Need-same-length-3
 same-length-3 c = search needs
 
 returns : tie.Need-returns
-returns c = came-refused h261 (c .before .before .before .before .before .before .before .before .before .before .before .before .args .sender) (flat (c .before .before .before .before .before .before .before .before .before .before .before .before .args .head .now) (c .before .before .before .before .before .before .before .before .before .before .before .before .args .macroblocks .now) (c .before .before .before .before .before .before .before .before .before .before .before .before .args .levels .now)) (buffers (c .before .before .before .before .before .before .before .before .before .before .before .before .args .out .now) (c .before .before .before .before .before .before .before .before .before .before .before .before .args .first .now) (c .before .before .before .before .before .before .before .before .before .before .before .before .args .second .now)) (c .refused .ensures) (unnamed h261 (c .before .before .before .before .before .before .before .before .before .before .before .before .args .sender) (flat (c .before .before .before .before .before .before .before .before .before .before .before .before .args .head .now) (c .before .before .before .before .before .before .before .before .before .before .before .before .args .macroblocks .now) (c .before .before .before .before .before .before .before .before .before .before .before .before .args .levels .now)) (buffers (c .before .before .before .before .before .before .before .before .before .before .before .before .args .out .now) (c .before .before .before .before .before .before .before .before .before .before .before .before .args .first .now) (c .before .before .before .before .before .before .before .before .before .before .before .before .args .second .now)) (sym (c .before .before .named .ensures) ∙ not-true _ (c .before .if1 .taken)))
+returns c =
+    let start = c .before .before .before .before .before .before .before .before .before .before .before .before in
+    let sender = start .args .sender in
+    let d = flat (start .args .head .now) (start .args .macroblocks .now) (start .args .levels .now) in
+    let lent = buffers (start .args .out .now) (start .args .first .now) (start .args .second .now) in
+    came-refused h261 sender d lent (c .refused .ensures)
+    (unnamed h261 sender d lent (sym (c .before .before .named .ensures) ∙ not-true _ (c .before .if1 .taken)))
 
 refused-requires-2 : tie.Need-refused-requires-2
 refused-requires-2 c κs = search needs
@@ -46,7 +52,14 @@ same-length-6 : tie.Need-same-length-6
 same-length-6 c = search needs
 
 returns-2 : tie.Need-returns-2
-returns-2 c = came-refused h261 (c .before .before .before .before .before .before .before .before .before .before .before .before .before .before .args .sender) (flat (c .before .before .before .before .before .before .before .before .before .before .before .before .before .before .args .head .now) (c .before .before .before .before .before .before .before .before .before .before .before .before .before .before .args .macroblocks .now) (c .before .before .before .before .before .before .before .before .before .before .before .before .before .before .args .levels .now)) (buffers (c .before .before .before .before .before .before .before .before .before .before .before .before .before .before .args .out .now) (c .before .before .before .before .before .before .before .before .before .before .before .before .before .before .args .first .now) (c .before .before .before .before .before .before .before .before .before .before .before .before .before .before .args .second .now)) (c .refused2 .ensures) (all-sent h261 (c .before .before .before .before .before .before .before .before .before .before .before .before .before .before .args .sender) (flat (c .before .before .before .before .before .before .before .before .before .before .before .before .before .before .args .head .now) (c .before .before .before .before .before .before .before .before .before .before .before .before .before .before .args .macroblocks .now) (c .before .before .before .before .before .before .before .before .before .before .before .before .before .before .args .levels .now)) (buffers (c .before .before .before .before .before .before .before .before .before .before .before .before .before .before .args .out .now) (c .before .before .before .before .before .before .before .before .before .before .before .before .before .before .args .first .now) (c .before .before .before .before .before .before .before .before .before .before .before .before .before .before .args .second .now)) (sym (c .before .before .before .before .named .ensures) ∙ not-false _ (c .before .before .before .if1 .left)) (c .before .if2 .taken))
+returns-2 c =
+    let at-if1 = c .before .before .before in
+    let start = at-if1 .before .before .before .before .before .before .before .before .before .before .before in
+    let sender = start .args .sender in
+    let d = flat (start .args .head .now) (start .args .macroblocks .now) (start .args .levels .now) in
+    let lent = buffers (start .args .out .now) (start .args .first .now) (start .args .second .now) in
+    came-refused h261 sender d lent (c .refused2 .ensures)
+    (all-sent h261 sender d lent (sym (at-if1 .before .named .ensures) ∙ not-false _ (at-if1 .if1 .left)) (c .before .if2 .taken))
 
 valid-requires : tie.Need-valid-requires
 valid-requires c κs = search needs
@@ -64,10 +77,22 @@ same-length-9 : tie.Need-same-length-9
 same-length-9 c = search needs
 
 returns-3 : tie.Need-returns-3
-returns-3 c = came-refused h261 (c .before .before .before .before .before .before .before .before .before .before .before .before .before .before .before .before .args .sender) (flat (c .before .before .before .before .before .before .before .before .before .before .before .before .before .before .before .before .args .head .now) (c .before .before .before .before .before .before .before .before .before .before .before .before .before .before .before .before .args .macroblocks .now) (c .before .before .before .before .before .before .before .before .before .before .before .before .before .before .before .before .args .levels .now)) (buffers (c .before .before .before .before .before .before .before .before .before .before .before .before .before .before .before .before .args .out .now) (c .before .before .before .before .before .before .before .before .before .before .before .before .before .before .before .before .args .first .now) (c .before .before .before .before .before .before .before .before .before .before .before .before .before .before .before .before .args .second .now)) (c .refused3 .ensures) (invalid h261 (c .before .before .before .before .before .before .before .before .before .before .before .before .before .before .before .before .args .sender) (flat (c .before .before .before .before .before .before .before .before .before .before .before .before .before .before .before .before .args .head .now) (c .before .before .before .before .before .before .before .before .before .before .before .before .before .before .before .before .args .macroblocks .now) (c .before .before .before .before .before .before .before .before .before .before .before .before .before .before .before .before .args .levels .now)) (buffers (c .before .before .before .before .before .before .before .before .before .before .before .before .before .before .before .before .args .out .now) (c .before .before .before .before .before .before .before .before .before .before .before .before .before .before .before .before .args .first .now) (c .before .before .before .before .before .before .before .before .before .before .before .before .before .before .before .before .args .second .now)) (sym (c .before .before .before .before .before .before .named .ensures) ∙ not-false _ (c .before .before .before .before .before .if1 .left)) (c .before .before .before .if2 .left) (sym (c .before .before .valid .ensures) ∙ not-true _ (c .before .if3 .taken)))
+returns-3 c =
+    let at-if2 = c .before .before .before in
+    let at-named = at-if2 .before .before .before in
+    let start = at-named .before .before .before .before .before .before .before .before .before .before in
+    let sender = start .args .sender in
+    let d = flat (start .args .head .now) (start .args .macroblocks .now) (start .args .levels .now) in
+    let lent = buffers (start .args .out .now) (start .args .first .now) (start .args .second .now) in
+    came-refused h261 sender d lent (c .refused3 .ensures)
+    (invalid h261 sender d lent (sym (at-named .named .ensures) ∙ not-false _ (at-if2 .before .before .if1 .left)) (at-if2 .if2 .left)
+    (sym (c .before .before .valid .ensures) ∙ not-true _ (c .before .if3 .taken)))
 
 is-refresh-requires : tie.Need-is-refresh-requires
-is-refresh-requires c κs = valid-lists (c .before .before .before .before .before .before .before .before .before .before .before .before .before .before .before .args .sender .format) (flat (c .before .before .before .before .before .before .before .before .before .before .before .before .before .before .before .args .head .now) (c .before .before .before .before .before .before .before .before .before .before .before .before .before .before .before .args .macroblocks .now) (c .before .before .before .before .before .before .before .before .before .before .before .before .before .before .before .args .levels .now)) (true-T _ (sym (c .before .valid .ensures) ∙ not-false _ (c .if3 .left))) .macroblocks-length
+is-refresh-requires c κs =
+    let start = c .before .before .before .before .before .before .before .before .before .before .before .before .before .before .before in
+    valid-lists (start .args .sender .format) (flat (start .args .head .now) (start .args .macroblocks .now) (start .args .levels .now))
+    (true-T _ (sym (c .before .valid .ensures) ∙ not-false _ (c .if3 .left))) .macroblocks-length
 
 begins-requires : tie.Need-begins-requires
 begins-requires c κs = search needs
@@ -85,19 +110,52 @@ same-length-12 : tie.Need-same-length-12
 same-length-12 c = search needs
 
 returns-4 : tie.Need-returns-4
-returns-4 c = came-refused h261 (c .before .before .before .before .before .before .before .before .before .before .before .before .before .before .before .before .before .before .before .args .sender) (flat (c .before .before .before .before .before .before .before .before .before .before .before .before .before .before .before .before .before .before .before .args .head .now) (c .before .before .before .before .before .before .before .before .before .before .before .before .before .before .before .before .before .before .before .args .macroblocks .now) (c .before .before .before .before .before .before .before .before .before .before .before .before .before .before .before .before .before .before .before .args .levels .now)) (buffers (c .before .before .before .before .before .before .before .before .before .before .before .before .before .before .before .before .before .before .before .args .out .now) (c .before .before .before .before .before .before .before .before .before .before .before .before .before .before .before .before .before .before .before .args .first .now) (c .before .before .before .before .before .before .before .before .before .before .before .before .before .before .before .before .before .before .before .args .second .now)) (c .refused4 .ensures) (not-refresh h261 (c .before .before .before .before .before .before .before .before .before .before .before .before .before .before .before .before .before .before .before .args .sender) (flat (c .before .before .before .before .before .before .before .before .before .before .before .before .before .before .before .before .before .before .before .args .head .now) (c .before .before .before .before .before .before .before .before .before .before .before .before .before .before .before .before .before .before .before .args .macroblocks .now) (c .before .before .before .before .before .before .before .before .before .before .before .before .before .before .before .before .before .before .before .args .levels .now)) (buffers (c .before .before .before .before .before .before .before .before .before .before .before .before .before .before .before .before .before .before .before .args .out .now) (c .before .before .before .before .before .before .before .before .before .before .before .before .before .before .before .before .before .before .before .args .first .now) (c .before .before .before .before .before .before .before .before .before .before .before .before .before .before .before .before .before .before .before .args .second .now)) (sym (c .before .before .before .before .before .before .before .before .before .named .ensures) ∙ not-false _ (c .before .before .before .before .before .before .before .before .if1 .left)) (c .before .before .before .before .before .before .if2 .left) (sym (c .before .before .before .before .before .valid .ensures) ∙ not-false _ (c .before .before .before .before .if3 .left)) (sym (c .before .before .begins .ensures ∙ ap (either (opposite (eqb (c .before .before .before .before .before .before .before .before .before .before .before .before .before .before .before .before .before .before .before .args .sender .picture) 0))) (c .before .before .before .is-refresh .ensures ∙ refresh-of (c .before .before .before .before .before .before .before .before .before .before .before .before .before .before .before .before .before .before .before .args .sender .format) (c .before .before .before .before .before .before .before .before .before .before .before .before .before .before .before .before .before .before .before .args .head .now) (c .before .before .before .before .before .before .before .before .before .before .before .before .before .before .before .before .before .before .before .args .macroblocks .now) (c .before .before .before .before .before .before .before .before .before .before .before .before .before .before .before .before .before .before .before .args .levels .now))) ∙ not-true _ (c .before .if4 .taken)))
+returns-4 c =
+    let at-is-refresh = c .before .before .before in
+    let at-if2 = at-is-refresh .before .before .before in
+    let at-named = at-if2 .before .before .before in
+    let start = at-named .before .before .before .before .before .before .before .before .before .before in
+    let head = start .args .head .now in
+    let macroblocks = start .args .macroblocks .now in
+    let levels = start .args .levels .now in
+    let sender = start .args .sender in
+    let d = flat head macroblocks levels in
+    let lent = buffers (start .args .out .now) (start .args .first .now) (start .args .second .now) in
+    came-refused h261 sender d lent (c .refused4 .ensures)
+    (not-refresh h261 sender d lent (sym (at-named .named .ensures) ∙ not-false _ (at-if2 .before .before .if1 .left)) (at-if2 .if2 .left)
+    (sym (at-is-refresh .before .before .valid .ensures) ∙ not-false _ (at-is-refresh .before .if3 .left))
+    (sym (c .before .before .begins .ensures
+    ∙ ap (either (opposite (eqb (sender .picture) 0)))
+    (at-is-refresh .is-refresh .ensures ∙ refresh-of (sender .format) head macroblocks levels)) ∙ not-true _ (c .before .if4 .taken)))
 
 output-length-requires : tie.Need-output-length-requires
 output-length-requires c κs = search needs
 
 array-borrow-prefix-scratch : tie.Need-array-borrow-prefix-scratch
-array-borrow-prefix-scratch c = omega (arith, c .output-length .ensures, output-most (c .before .before .before .before .before .before .before .before .before .before .before .before .before .before .before .before .before .before .before .args .sender .format))
+array-borrow-prefix-scratch c =
+    let start = c .before .before .before .before .before .before .before .before .before .before .before .before .before .before .before .before .before .before .before in
+    omega (arith, c .output-length .ensures, output-most (start .args .sender .format))
 
 slice-aggregate-send-in : tie.Need-slice-aggregate-send-in
 slice-aggregate-send-in c = sym (length-take-le _ _ (array-borrow-prefix-scratch (c .before)))
 
 send-in-requires : tie.Need-send-in-requires
-send-in-requires c κs = (record { named-is = (sym (c .before .before .before .before .before .before .before .before .before .before .before .before .before .named .ensures) ∙ not-false _ (c .before .before .before .before .before .before .before .before .before .before .before .before .if1 .left)); counted = c .before .before .before .before .before .before .before .before .before .before .if2 .left; valid-is = (sym (c .before .before .before .before .before .before .before .before .before .valid .ensures) ∙ not-false _ (c .before .before .before .before .before .before .before .before .if3 .left)); refresh-is = (c .before .before .before .before .before .before .before .is-refresh .ensures ∙ refresh-of (c .before .before .before .before .before .before .before .before .before .before .before .before .before .before .before .before .before .before .before .before .before .before .before .args .sender .format) (c .before .before .before .before .before .before .before .before .before .before .before .before .before .before .before .before .before .before .before .before .before .before .before .args .head .now) (c .before .before .before .before .before .before .before .before .before .before .before .before .before .before .before .before .before .before .before .before .before .before .before .args .macroblocks .now) (c .before .before .before .before .before .before .before .before .before .before .before .before .before .before .before .before .before .before .before .before .before .before .before .args .levels .now)); begins = sym (c .before .before .before .before .before .before .begins .ensures) ∙ not-false _ (c .before .before .before .before .before .if4 .left) }, length-take-le _ _ (array-borrow-prefix-scratch (c .before .before .before .before)) ∙ c .before .before .before .before .output-length .ensures)
+send-in-requires c κs =
+    let at-output-length = c .before .before .before .before in
+    let at-is-refresh = at-output-length .before .before .before in
+    let at-if2 = at-is-refresh .before .before .before in
+    let at-named = at-if2 .before .before .before in
+    let start = at-named .before .before .before .before .before .before .before .before .before .before in (
+      record {
+        named-is = (sym (at-named .named .ensures) ∙ not-false _ (at-if2 .before .before .if1 .left));
+        counted = at-if2 .if2 .left;
+        valid-is = (sym (at-is-refresh .before .before .valid .ensures) ∙ not-false _ (at-is-refresh .before .if3 .left));
+        refresh-is = (at-is-refresh .is-refresh .ensures
+            ∙ refresh-of (start .args .sender .format) (start .args .head .now) (start .args .macroblocks .now) (start .args .levels .now));
+        begins = sym (at-output-length .before .before .begins .ensures) ∙ not-false _ (at-output-length .before .if4 .left);
+      },
+      length-take-le _ _ (array-borrow-prefix-scratch at-output-length) ∙ at-output-length .output-length .ensures,
+    )
 
 same-length-13 : tie.Need-same-length-13
 same-length-13 c = search needs

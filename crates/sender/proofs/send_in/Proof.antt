@@ -12,16 +12,40 @@ enum-known-written : tie.Need-enum-known-written
 enum-known-written c = search needs
 
 add-bytes : tie.Need-add-bytes
-add-bytes c = omega (arith, count-fits (c .before .before .before .before .before .before .before .before .before .before .before .before .before .before .args .sender) (c .before .before .before .before .before .before .before .before .before .before .before .before .before .before .args .head .now) (c .before .before .before .before .before .before .before .before .before .before .before .before .before .before .args .macroblocks .now) (c .before .before .before .before .before .before .before .before .before .before .before .before .before .before .args .levels .now) (c .before .before .before .before .before .before .before .before .before .before .before .before .before .before .args .out .now) (c .before .before .before .before .before .before .before .before .before .before .before .before .before .before .args .first .now) (c .before .before .before .before .before .before .before .before .before .before .before .before .before .before .args .second .now) (c .before .before .before .before .before .before .before .before .before .before .before .before .before .before .pre .0) (c .before .before .before .before .before .before .before .before .before .before .before .before .before .before .args .scratch .now) (c .before .before .before .before .before .before .before .before .before .before .before .before .before .before .pre .1) (c .before .before .before .before .before .write .kept .1 .1 .1 .1 .0) (c .before .before .before .before .before .write .ensures .0) (c .before .before .before .before .before .write .ensures .1) (c .before .written .given .1))
+add-bytes c =
+    let at-write = c .before .before .before .before .before in
+    let start = at-write .before .before .before .before .before .before .before .before .before in
+    omega (
+      arith,
+      count-fits (start .args .sender) (start .args .head .now) (start .args .macroblocks .now) (start .args .levels .now) (start .args .out .now)
+          (start .args .first .now) (start .args .second .now) (start .pre .0) (start .args .scratch .now) (start .pre .1)
+          (at-write .write .kept .1 .1 .1 .1 .0) (at-write .write .ensures .0) (at-write .write .ensures .1) (c .before .written .given .1),
+    )
 
 slice-reshare-prefix-put : tie.Need-slice-reshare-prefix-put
-slice-reshare-prefix-put c = bytes-fit (c .before .before .before .before .before .before .before .before .before .before .before .before .before .before .args .sender) (c .before .before .before .before .before .before .before .before .before .before .before .before .before .before .args .head .now) (c .before .before .before .before .before .before .before .before .before .before .before .before .before .before .args .macroblocks .now) (c .before .before .before .before .before .before .before .before .before .before .before .before .before .before .args .levels .now) (c .before .before .before .before .before .before .before .before .before .before .before .before .before .before .args .out .now) (c .before .before .before .before .before .before .before .before .before .before .before .before .before .before .args .first .now) (c .before .before .before .before .before .before .before .before .before .before .before .before .before .before .args .second .now) (c .before .before .before .before .before .before .before .before .before .before .before .before .before .before .pre .0) (c .before .before .before .before .before .before .before .before .before .before .before .before .before .before .args .scratch .now) (c .before .before .before .before .before .before .before .before .before .before .before .before .before .before .pre .1) (c .before .before .before .before .before .write .kept .1 .1 .1 .1 .0) (c .before .before .before .before .before .write .ensures .0) (c .before .before .before .before .before .write .ensures .1) (c .before .written .given .1)
+slice-reshare-prefix-put c =
+    let at-write = c .before .before .before .before .before in
+    let start = at-write .before .before .before .before .before .before .before .before .before in
+    bytes-fit (start .args .sender) (start .args .head .now) (start .args .macroblocks .now) (start .args .levels .now) (start .args .out .now)
+    (start .args .first .now) (start .args .second .now) (start .pre .0) (start .args .scratch .now) (start .pre .1) (at-write .write .kept .1 .1 .1 .1 .0)
+    (at-write .write .ensures .0) (at-write .write .ensures .1) (c .before .written .given .1)
 
 slice-aggregate-put : tie.Need-slice-aggregate-put
-slice-aggregate-put c = bytes-long (c .before .before .before .before .before .before .before .before .before .before .before .before .before .before .before .args .sender) (c .before .before .before .before .before .before .before .before .before .before .before .before .before .before .before .args .head .now) (c .before .before .before .before .before .before .before .before .before .before .before .before .before .before .before .args .macroblocks .now) (c .before .before .before .before .before .before .before .before .before .before .before .before .before .before .before .args .levels .now) (c .before .before .before .before .before .before .before .before .before .before .before .before .before .before .before .args .out .now) (c .before .before .before .before .before .before .before .before .before .before .before .before .before .before .before .args .first .now) (c .before .before .before .before .before .before .before .before .before .before .before .before .before .before .before .args .second .now) (c .before .before .before .before .before .before .before .before .before .before .before .before .before .before .before .pre .0) (c .before .before .before .before .before .before .before .before .before .before .before .before .before .before .before .args .scratch .now) (c .before .before .before .before .before .before .before .before .before .before .before .before .before .before .before .pre .1) (c .before .before .before .before .before .before .write .kept .1 .1 .1 .1 .0) (c .before .before .before .before .before .before .write .ensures .0) (c .before .before .before .before .before .before .write .ensures .1) (c .before .before .written .given .1)
+slice-aggregate-put c =
+    let at-write = c .before .before .before .before .before .before in
+    let start = at-write .before .before .before .before .before .before .before .before .before in
+    bytes-long (start .args .sender) (start .args .head .now) (start .args .macroblocks .now) (start .args .levels .now) (start .args .out .now)
+    (start .args .first .now) (start .args .second .now) (start .pre .0) (start .args .scratch .now) (start .pre .1) (at-write .write .kept .1 .1 .1 .1 .0)
+    (at-write .write .ensures .0) (at-write .write .ensures .1) (c .before .before .written .given .1)
 
 put-requires : tie.Need-put-requires
-put-requires c κs = is-encoded (c .before .before .before .before .before .before .before .before .before .before .before .before .before .before .before .before .before .before .args .sender) (c .before .before .before .before .before .before .before .before .before .before .before .before .before .before .before .before .before .before .args .head .now) (c .before .before .before .before .before .before .before .before .before .before .before .before .before .before .before .before .before .before .args .macroblocks .now) (c .before .before .before .before .before .before .before .before .before .before .before .before .before .before .before .before .before .before .args .levels .now) (c .before .before .before .before .before .before .before .before .before .before .before .before .before .before .before .before .before .before .args .out .now) (c .before .before .before .before .before .before .before .before .before .before .before .before .before .before .before .before .before .before .args .first .now) (c .before .before .before .before .before .before .before .before .before .before .before .before .before .before .before .before .before .before .args .second .now) (c .before .before .before .before .before .before .before .before .before .before .before .before .before .before .before .before .before .before .pre .0) (c .before .before .before .before .before .before .before .before .before .before .before .before .before .before .before .before .before .before .args .scratch .now) (c .before .before .before .before .before .before .before .before .before .before .before .before .before .before .before .before .before .before .pre .1) (c .before .before .before .before .before .before .before .before .before .write .kept .1 .1 .1 .1 .0) (c .before .before .before .before .before .before .before .before .before .write .ensures .0) (c .before .before .before .before .before .before .before .before .before .write .ensures .1) (c .before .before .before .before .before .written .given .1)
+put-requires c κs =
+    let at-written = c .before .before .before .before .before in
+    let at-write = at-written .before .before .before .before in
+    let start = at-write .before .before .before .before .before .before .before .before .before in
+    is-encoded (start .args .sender) (start .args .head .now) (start .args .macroblocks .now) (start .args .levels .now) (start .args .out .now)
+    (start .args .first .now) (start .args .second .now) (start .pre .0) (start .args .scratch .now) (start .pre .1) (at-write .write .kept .1 .1 .1 .1 .0)
+    (at-write .write .ensures .0) (at-write .write .ensures .1) (at-written .written .given .1)
 
 enum-known-written-2 : tie.Need-enum-known-written-2
 enum-known-written-2 c = search needs
@@ -39,13 +63,25 @@ same-length-4 : tie.Need-same-length-4
 same-length-4 c = search needs
 
 returns : tie.Need-returns
-returns c = sent-comes (c .before .before .before .before .before .before .before .before .before .before .before .before .before .before .before .before .before .before .before .before .before .before .before .before .before .args .sender) (c .before .before .before .before .before .before .before .before .before .before .before .before .before .before .before .before .before .before .before .before .before .before .before .before .before .args .head .now) (c .before .before .before .before .before .before .before .before .before .before .before .before .before .before .before .before .before .before .before .before .before .before .before .before .before .args .macroblocks .now) (c .before .before .before .before .before .before .before .before .before .before .before .before .before .before .before .before .before .before .before .before .before .before .before .before .before .args .levels .now) (c .before .before .before .before .before .before .before .before .before .before .before .before .before .before .before .before .before .before .before .before .before .before .before .before .before .args .out .now) (c .before .before .before .before .before .before .before .before .before .before .before .before .before .before .before .before .before .before .before .before .before .before .before .before .before .args .first .now) (c .before .before .before .before .before .before .before .before .before .before .before .before .before .before .before .before .before .before .before .before .before .before .before .before .before .args .second .now) (c .before .before .before .before .before .before .before .before .before .before .before .before .before .before .before .before .before .before .before .before .before .before .before .before .before .pre .0) (c .before .before .before .before .before .before .before .before .before .before .before .before .before .before .before .before .before .before .before .before .before .before .before .before .before .args .scratch .now) (c .before .before .before .before .before .before .before .before .before .before .before .before .before .before .before .before .before .before .before .before .before .before .before .before .before .pre .1) (c .before .before .before .before .before .before .before .before .before .before .before .before .before .before .before .before .write .kept .1 .1 .1 .1 .0) (c .before .before .before .before .before .before .before .before .before .before .before .before .before .before .before .before .write .ensures .0) (c .before .before .before .before .before .before .before .before .before .before .before .before .before .before .before .before .write .ensures .1) (c .before .before .before .before .before .before .before .before .before .before .before .before .written .given .1) (c .before .before .before .before .before .before .put .ensures)
+returns c =
+    let at-put = c .before .before .before .before .before .before in
+    let at-written = at-put .before .before .before .before .before .before in
+    let at-write = at-written .before .before .before .before in
+    let start = at-write .before .before .before .before .before .before .before .before .before in
+    sent-comes (start .args .sender) (start .args .head .now) (start .args .macroblocks .now) (start .args .levels .now) (start .args .out .now)
+    (start .args .first .now) (start .args .second .now) (start .pre .0) (start .args .scratch .now) (start .pre .1) (at-write .write .kept .1 .1 .1 .1 .0)
+    (at-write .write .ensures .0) (at-write .write .ensures .1) (at-written .written .given .1) (at-put .put .ensures)
 
 same-length-5 : tie.Need-same-length-5
 same-length-5 c = search needs
 
 returns-2 : tie.Need-returns-2
-returns-2 c = refused-comes (c .before .before .before .before .before .before .before .before .before .before .before .before .before .before .args .sender) (c .before .before .before .before .before .before .before .before .before .before .before .before .before .before .args .head .now) (c .before .before .before .before .before .before .before .before .before .before .before .before .before .before .args .macroblocks .now) (c .before .before .before .before .before .before .before .before .before .before .before .before .before .before .args .levels .now) (c .before .before .before .before .before .before .before .before .before .before .before .before .before .before .args .out .now) (c .before .before .before .before .before .before .before .before .before .before .before .before .before .before .args .first .now) (c .before .before .before .before .before .before .before .before .before .before .before .before .before .before .args .second .now) (c .before .before .before .before .before .before .before .before .before .before .before .before .before .before .pre .0) (c .before .before .before .before .before .before .before .before .before .before .before .before .before .before .args .scratch .now) (c .before .before .before .before .before .before .before .before .before .before .before .before .before .before .pre .1) (c .before .before .before .before .before .write .kept .1 .1 .1 .1 .0) (c .before .before .before .before .before .write .ensures .0) (c .before .before .before .before .before .write .ensures .1) (c .before .written2 .given .1)
+returns-2 c =
+    let at-write = c .before .before .before .before .before in
+    let start = at-write .before .before .before .before .before .before .before .before .before in
+    refused-comes (start .args .sender) (start .args .head .now) (start .args .macroblocks .now) (start .args .levels .now) (start .args .out .now)
+    (start .args .first .now) (start .args .second .now) (start .pre .0) (start .args .scratch .now) (start .pre .1) (at-write .write .kept .1 .1 .1 .1 .0)
+    (at-write .write .ensures .0) (at-write .write .ensures .1) (c .before .written2 .given .1)
 
 pub send-in-spec : {M : Type 1} → statement M
 send-in-spec =

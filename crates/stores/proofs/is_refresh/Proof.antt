@@ -63,7 +63,14 @@ is-intra-requires : tie.Need-is-intra-requires Inv-loop μ-loop
 is-intra-requires c κs = search needs
 
 returns : tie.Need-returns Inv-loop μ-loop
-returns c = is-all (c .before .before .before .before .before .before .before .args .format) (c .before .before .before .before .before .before .before .args .macroblocks .now) false (c .before .before .before .before .before .macroblock-count .ensures) (fails (c .before .before .before .before .before .macroblock-count .result) (intraAt (c .before .before .before .before .before .before .before .args .macroblocks .now)) (c .before .before .before .before .loop .n) (omega arith) (sym (c .before .is-intra .ensures) ∙ not-true _ (c .if1 .taken)))
+returns c =
+    let at-loop = c .before .before .before .before in
+    let at-macroblock-count = at-loop .before in
+    let start = at-macroblock-count .before .before in
+    let macroblocks = start .args .macroblocks .now in
+    is-all (start .args .format) macroblocks false (at-macroblock-count .macroblock-count .ensures)
+    (fails (at-macroblock-count .macroblock-count .result) (intraAt macroblocks) (at-loop .loop .n) (omega arith)
+    (sym (c .before .is-intra .ensures) ∙ not-true _ (c .if1 .taken)))
 
 add-n : tie.Need-add-n Inv-loop μ-loop
 add-n c = omega arith
@@ -72,10 +79,21 @@ loop-less : tie.Need-loop-less Inv-loop μ-loop
 loop-less c = omega arith
 
 loop-again : tie.Need-loop-again Inv-loop μ-loop
-loop-again c = (omega arith, more (intraAt (c .before .before .before .before .before .before .before .args .macroblocks .now)) (c .before .before .before .before .loop .n) (c .before .before .before .before .loop .inv .1) (sym (c .before .is-intra .ensures) ∙ not-false _ (c .if1 .left)))
+loop-again c =
+    let at-loop = c .before .before .before .before in
+    let start = at-loop .before .before .before in (
+      omega arith,
+      more (intraAt (start .args .macroblocks .now)) (at-loop .loop .n) (at-loop .loop .inv .1) (sym (c .before .is-intra .ensures) ∙ not-false _ (c .if1 .left)),
+    )
 
 returns-2 : tie.Need-returns-2 Inv-loop μ-loop
-returns-2 c = is-all (c .before .before .before .before .args .format) (c .before .before .before .before .args .macroblocks .now) true (c .before .before .macroblock-count .ensures) (all-passed (intraAt (c .before .before .before .before .args .macroblocks .now)) (c .before .loop .n) (c .before .before .macroblock-count .result) (omega arith) (c .before .loop .inv .1))
+returns-2 c =
+    let at-loop = c .before in
+    let at-macroblock-count = at-loop .before in
+    let start = at-macroblock-count .before .before in
+    let macroblocks = start .args .macroblocks .now in
+    is-all (start .args .format) macroblocks true (at-macroblock-count .macroblock-count .ensures)
+    (all-passed (intraAt macroblocks) (at-loop .loop .n) (at-macroblock-count .macroblock-count .result) (omega arith) (at-loop .loop .inv .1))
 
 pub is-refresh-spec : {M : Type 1} → statement M
 is-refresh-spec =

@@ -52,7 +52,11 @@ same-length-2 : tie.Need-same-length-2
 same-length-2 c = search needs
 
 returns : tie.Need-returns
-returns c = at-first (c .before .before .before .before .before .before .before .before .before .before .before .before .args .format) (flat (c .before .before .before .before .before .before .before .before .before .before .before .before .args .head .now) (c .before .before .before .before .before .before .before .before .before .before .before .before .args .macroblocks .now) (c .before .before .before .before .before .before .before .before .before .before .before .before .args .levels .now)) (c .before .before .before .before .before .before .before .before .before .before .before .before .args .first .now) (c .before .before .before .before .before .before .before .before .before .before .before .before .args .second .now) (c .before .before .before .before .before .enum-told .given .1) (c .before .before .render .ensures)
+returns c =
+    let at-enum-told = c .before .before .before .before .before in
+    let start = at-enum-told .before .before .before .before .before .before .before in
+    at-first (start .args .format) (flat (start .args .head .now) (start .args .macroblocks .now) (start .args .levels .now)) (start .args .first .now)
+    (start .args .second .now) (at-enum-told .enum-told .given .1) (c .before .before .render .ensures)
 
 same-length-3 : tie.Need-same-length-3
 same-length-3 c = search needs
@@ -61,7 +65,11 @@ same-length-4 : tie.Need-same-length-4
 same-length-4 c = search needs
 
 returns-2 : tie.Need-returns-2
-returns-2 c = into-second (c .before .before .before .before .before .before .before .before .before .before .before .before .args .format) (flat (c .before .before .before .before .before .before .before .before .before .before .before .before .args .head .now) (c .before .before .before .before .before .before .before .before .before .before .before .before .args .macroblocks .now) (c .before .before .before .before .before .before .before .before .before .before .before .before .args .levels .now)) (c .before .before .before .before .before .before .before .before .before .before .before .before .args .first .now) (c .before .before .before .before .before .before .before .before .before .before .before .before .args .second .now) (c .before .before .before .before .before .enum-told2 .given .1) (c .before .before .render2 .ensures)
+returns-2 c =
+    let at-enum-told2 = c .before .before .before .before .before in
+    let start = at-enum-told2 .before .before .before .before .before .before .before in
+    into-second (start .args .format) (flat (start .args .head .now) (start .args .macroblocks .now) (start .args .levels .now)) (start .args .first .now)
+    (start .args .second .now) (at-enum-told2 .enum-told2 .given .1) (c .before .before .render2 .ensures)
 
 same-length-5 : tie.Need-same-length-5
 same-length-5 c = search needs
@@ -70,7 +78,11 @@ same-length-6 : tie.Need-same-length-6
 same-length-6 c = search needs
 
 returns-3 : tie.Need-returns-3
-returns-3 c = into-first (c .before .before .before .before .before .before .before .before .before .before .before .before .args .format) (flat (c .before .before .before .before .before .before .before .before .before .before .before .before .args .head .now) (c .before .before .before .before .before .before .before .before .before .before .before .before .args .macroblocks .now) (c .before .before .before .before .before .before .before .before .before .before .before .before .args .levels .now)) (c .before .before .before .before .before .before .before .before .before .before .before .before .args .first .now) (c .before .before .before .before .before .before .before .before .before .before .before .before .args .second .now) (c .before .before .before .before .before .enum-told3 .given .1) (c .before .before .render3 .ensures)
+returns-3 c =
+    let at-enum-told3 = c .before .before .before .before .before in
+    let start = at-enum-told3 .before .before .before .before .before .before .before in
+    into-first (start .args .format) (flat (start .args .head .now) (start .args .macroblocks .now) (start .args .levels .now)) (start .args .first .now)
+    (start .args .second .now) (at-enum-told3 .enum-told3 .given .1) (c .before .before .render3 .ensures)
 
 pub keep-spec : {M : Type 1} → statement M
 keep-spec =

@@ -37,16 +37,31 @@ slice-aggregate-result-2 : tie.Need-slice-aggregate-result-2
 slice-aggregate-result-2 c = search needs
 
 returns : tie.Need-returns
-returns c = handed (c .before .before .before .before .before .before .before .args .format) (c .before .before .before .before .before .before .before .args .holder) (c .before .before .before .before .before .before .before .args .first .now) (c .before .before .before .before .before .before .before .args .second .now) (c .before .before .before .before .sized .ensures) _ (c .before .before .before .if1 .taken) (c .before .enum-told .given .1)
+returns c =
+    let at-if1 = c .before .before .before in
+    let start = at-if1 .before .before .before .before in
+    handed (start .args .format) (start .args .holder) (start .args .first .now) (start .args .second .now) (at-if1 .before .sized .ensures) _ (at-if1 .if1 .taken)
+    (c .before .enum-told .given .1)
 
 returns-2 : tie.Need-returns-2
-returns-2 c = handed (c .before .before .before .before .before .before .args .format) (c .before .before .before .before .before .before .args .holder) (c .before .before .before .before .before .before .args .first .now) (c .before .before .before .before .before .before .args .second .now) (c .before .before .before .sized .ensures) _ (c .before .before .if1 .taken) (c .enum-told2 .given .1)
+returns-2 c =
+    let at-sized = c .before .before .before in
+    let start = at-sized .before .before .before in
+    handed (start .args .format) (start .args .holder) (start .args .first .now) (start .args .second .now) (at-sized .sized .ensures) _
+    (c .before .before .if1 .taken) (c .enum-told2 .given .1)
 
 returns-3 : tie.Need-returns-3
-returns-3 c = handed (c .before .before .before .before .before .before .args .format) (c .before .before .before .before .before .before .args .holder) (c .before .before .before .before .before .before .args .first .now) (c .before .before .before .before .before .before .args .second .now) (c .before .before .before .sized .ensures) _ (c .before .before .if1 .taken) (c .enum-told3 .given .1)
+returns-3 c =
+    let at-sized = c .before .before .before in
+    let start = at-sized .before .before .before in
+    handed (start .args .format) (start .args .holder) (start .args .first .now) (start .args .second .now) (at-sized .sized .ensures) _
+    (c .before .before .if1 .taken) (c .enum-told3 .given .1)
 
 returns-4 : tie.Need-returns-4
-returns-4 c = nothing (c .before .before .before .before .before .args .format) (c .before .before .before .before .before .args .holder) (c .before .before .before .before .before .args .first .now) (c .before .before .before .before .before .args .second .now) (c .before .before .sized .ensures) (c .before .if1 .left)
+returns-4 c =
+    let start = c .before .before .before .before .before in
+    nothing (start .args .format) (start .args .holder) (start .args .first .now) (start .args .second .now) (c .before .before .sized .ensures)
+    (c .before .if1 .left)
 
 pub show-spec : {M : Type 1} → statement M
 show-spec =

@@ -24,7 +24,10 @@ is-quantiser-requires : tie.Need-is-quantiser-requires Inv-loop μ-loop
 is-quantiser-requires c κs = search needs
 
 returns : tie.Need-returns Inv-loop μ-loop
-returns c = all-no (c .before .before .before .before .loop .inv) (c .before .before .before .loop-test .taken) (sym (c .before .is-quantiser .ensures) ∙ not-true _ (c .if1 .taken))
+returns c =
+    let at-loop-test = c .before .before .before in
+    let at-loop = at-loop-test .before in
+    all-no (at-loop .loop .inv) (at-loop-test .loop-test .taken) (sym (c .before .is-quantiser .ensures) ∙ not-true _ (c .if1 .taken))
 
 add-i : tie.Need-add-i Inv-loop μ-loop
 add-i c = search needs
@@ -33,7 +36,10 @@ loop-less : tie.Need-loop-less Inv-loop μ-loop
 loop-less c = search needs
 
 loop-again : tie.Need-loop-again Inv-loop μ-loop
-loop-again c = all-more (c .before .before .before .before .loop .inv) (c .before .before .before .loop-test .taken) (sym (c .before .is-quantiser .ensures) ∙ not-false _ (c .if1 .left))
+loop-again c =
+    let at-loop-test = c .before .before .before in
+    let at-loop = at-loop-test .before in
+    all-more (at-loop .loop .inv) (at-loop-test .loop-test .taken) (sym (c .before .is-quantiser .ensures) ∙ not-false _ (c .if1 .left))
 
 returns-2 : tie.Need-returns-2 Inv-loop μ-loop
 returns-2 c = all-done (c .before .loop .inv) (c .loop-test .left)

@@ -7,19 +7,31 @@ head-length-requires : tie.Need-head-length-requires
 head-length-requires c κs = search needs
 
 returns : tie.Need-returns
-returns c = lengths-head (c .before .before .before .before .before .args .format) (c .before .before .before .before .before .args .head .now) (c .before .before .before .before .before .args .macroblocks .now) (c .before .before .before .before .before .args .levels .now) _ (c .before .head-length .ensures) (c .if1 .taken)
+returns c =
+    let start = c .before .before .before .before .before in
+    lengths-head (start .args .format) (start .args .head .now) (start .args .macroblocks .now) (start .args .levels .now) _ (c .before .head-length .ensures)
+    (c .if1 .taken)
 
 macroblocks-length-requires : tie.Need-macroblocks-length-requires
 macroblocks-length-requires c κs = search needs
 
 returns-2 : tie.Need-returns-2
-returns-2 c = lengths-macroblocks (c .before .before .before .before .before .before .before .args .format) (c .before .before .before .before .before .before .before .args .head .now) (c .before .before .before .before .before .before .before .args .macroblocks .now) (c .before .before .before .before .before .before .before .args .levels .now) _ (c .before .before .before .head-length .ensures) (c .before .before .if1 .left) _ (c .before .macroblocks-length .ensures) (c .if2 .taken)
+returns-2 c =
+    let at-head-length = c .before .before .before in
+    let start = at-head-length .before .before .before .before in
+    lengths-macroblocks (start .args .format) (start .args .head .now) (start .args .macroblocks .now) (start .args .levels .now) _
+    (at-head-length .head-length .ensures) (c .before .before .if1 .left) _ (c .before .macroblocks-length .ensures) (c .if2 .taken)
 
 levels-length-requires : tie.Need-levels-length-requires
 levels-length-requires c κs = search needs
 
 returns-3 : tie.Need-returns-3
-returns-3 c = lengths-levels (c .before .before .before .before .before .before .before .before .args .format) (c .before .before .before .before .before .before .before .before .args .head .now) (c .before .before .before .before .before .before .before .before .args .macroblocks .now) (c .before .before .before .before .before .before .before .before .args .levels .now) _ (c .before .before .before .before .head-length .ensures) (c .before .before .before .if1 .left) _ (c .before .before .macroblocks-length .ensures) (c .before .if2 .left) _ (c .levels-length .ensures)
+returns-3 c =
+    let at-if1 = c .before .before .before in
+    let start = at-if1 .before .before .before .before .before in
+    lengths-levels (start .args .format) (start .args .head .now) (start .args .macroblocks .now) (start .args .levels .now) _
+    (at-if1 .before .head-length .ensures) (at-if1 .if1 .left) _ (c .before .before .macroblocks-length .ensures) (c .before .if2 .left) _
+    (c .levels-length .ensures)
 
 pub lengths-spec : {M : Type 1} → statement M
 lengths-spec =

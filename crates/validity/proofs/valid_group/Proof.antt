@@ -50,10 +50,23 @@ part-valid-macroblock-end-2 : tie.Need-part-valid-macroblock-end-2 Inv-loop μ-l
 part-valid-macroblock-end-2 c = search needs
 
 valid-macroblock-requires : tie.Need-valid-macroblock-requires Inv-loop μ-loop
-valid-macroblock-requires c κs = (c .before .before .before .before .before .before .pre .0, c .before .before .before .before .before .before .pre .1, omega arith, omega arith, piece-length (c .before .before .before .before .before .before .args .fields .now) (c .before .before .before .loop .k * 4) 4 (omega (arith, c .before .before .before .before .before .before .pre, c .before .before .loop-test .taken)), piece-length (c .before .before .before .before .before .before .args .levels .now) (c .before .before .before .loop .k * 384) 384 (omega (arith, c .before .before .before .before .before .before .pre, c .before .before .loop-test .taken)))
+valid-macroblock-requires c κs =
+    let at-loop-test = c .before .before in
+    let at-loop = at-loop-test .before in
+    let start = at-loop .before .before .before in (
+      start .pre .0,
+      start .pre .1,
+      omega arith,
+      omega arith,
+      piece-length (start .args .fields .now) (at-loop .loop .k * 4) 4 (omega (arith, start .pre, at-loop-test .loop-test .taken)),
+      piece-length (start .args .levels .now) (at-loop .loop .k * 384) 384 (omega (arith, start .pre, at-loop-test .loop-test .taken)),
+    )
 
 returns : tie.Need-returns Inv-loop μ-loop
-returns c = group-no (c .before .before .before .before .before .loop .inv) (c .before .before .before .before .loop-test .taken) _ (c .before .valid-macroblock .ensures) (not-true _ (c .if1 .taken))
+returns c =
+    let at-loop-test = c .before .before .before .before in
+    let at-loop = at-loop-test .before in
+    group-no (at-loop .loop .inv) (at-loop-test .loop-test .taken) _ (c .before .valid-macroblock .ensures) (not-true _ (c .if1 .taken))
 
 add-k : tie.Need-add-k Inv-loop μ-loop
 add-k c = search needs
@@ -62,11 +75,35 @@ loop-less : tie.Need-loop-less Inv-loop μ-loop
 loop-less c = search needs
 
 loop-again : tie.Need-loop-again Inv-loop μ-loop
-loop-again c = group-more (c .before .before .before .before .before .loop .inv) (c .before .before .before .before .loop-test .taken) _ (c .before .valid-macroblock .ensures) (not-false _ (c .if1 .left))
+loop-again c =
+    let at-loop-test = c .before .before .before .before in
+    let at-loop = at-loop-test .before in
+    group-more (at-loop .loop .inv) (at-loop-test .loop-test .taken) _ (c .before .valid-macroblock .ensures) (not-false _ (c .if1 .left))
 
 returns-2 : tie.Need-returns-2 Inv-loop μ-loop
 returns-2 c = group-done (c .before .loop .inv) (c .loop-test .left)
 
 pub valid-group-spec : {M : Type 1} → statement M
 valid-group-spec =
-    tie.close (tie.spec Inv-loop μ-loop loop-holds mul-a mul-b add-valid-macroblock add-valid-macroblock-2 sub-valid-macroblock part-valid-macroblock-start part-valid-macroblock-end add-valid-macroblock-3 sub-valid-macroblock-2 part-valid-macroblock-start-2 part-valid-macroblock-end-2 valid-macroblock-requires returns add-k loop-less loop-again returns-2)
+    tie.close
+    (tie.spec
+    Inv-loop
+    μ-loop
+    loop-holds
+    mul-a
+    mul-b
+    add-valid-macroblock
+    add-valid-macroblock-2
+    sub-valid-macroblock
+    part-valid-macroblock-start
+    part-valid-macroblock-end
+    add-valid-macroblock-3
+    sub-valid-macroblock-2
+    part-valid-macroblock-start-2
+    part-valid-macroblock-end-2
+    valid-macroblock-requires
+    returns
+    add-k
+    loop-less
+    loop-again
+    returns-2)

@@ -33,7 +33,12 @@ module _ (clip picture : ℕ) (refresh : Bool) (bytes : List ℕ) (count : ℕ) 
     is = is;
     long =
         ap length is
-        ∙ omega (arith, length-append (firstBlocks clip picture refresh bytes count (n + 1)) (drop (512 * (n + 1)) out₀), first-length clip picture refresh bytes count (n + 1), length-drop (512 * (n + 1)) out₀);
+        ∙ omega (
+          arith,
+          length-append (firstBlocks clip picture refresh bytes count (n + 1)) (drop (512 * (n + 1)) out₀),
+          first-length clip picture refresh bytes count (n + 1),
+          length-drop (512 * (n + 1)) out₀,
+        );
     within = omega arith;
   }
     where
@@ -81,7 +86,15 @@ part-write-block-end : tie.Need-part-write-block-end Inv-loop μ-loop
 part-write-block-end c = omega (arith, (c .before .before .loop .inv .long), (c .before .before .before .part-count .ensures))
 
 write-block-requires : tie.Need-write-block-requires Inv-loop μ-loop
-write-block-requires c κs = (lent _ (c .before .before .before .loop .part) (omega (arith, (c .before .before .before .loop .inv .long), (c .before .before .before .before .part-count .ensures))), omega (arith, ap (λ (h : Header). h .picture) (c .before .header-at .ensures)), omega (arith, ap (λ (h : Header). h .part) (c .before .header-at .ensures), (c .before .before .before .before .part-count .ensures)), omega arith)
+write-block-requires c κs =
+    let at-header-at = c .before in
+    let at-loop = at-header-at .before .before in
+    let at-part-count = at-loop .before in (
+      lent _ (at-loop .loop .part) (omega (arith, (at-loop .loop .inv .long), (at-part-count .part-count .ensures))),
+      omega (arith, ap (λ (h : Header). h .picture) (at-header-at .header-at .ensures)),
+      omega (arith, ap (λ (h : Header). h .part) (at-header-at .header-at .ensures), (at-part-count .part-count .ensures)),
+      omega arith,
+    )
 
 add-part : tie.Need-add-part Inv-loop μ-loop
 add-part c = omega (arith, (c .before .before .before .before .before .before .before .part-count .ensures))
@@ -90,13 +103,28 @@ loop-less : tie.Need-loop-less Inv-loop μ-loop
 loop-less c = omega (arith, (c .before .before .before .before .before .before .before .part-count .ensures))
 
 loop-again : tie.Need-loop-again Inv-loop μ-loop
-loop-again c = more _ _ _ _ _ _ _ _ _ (c .before .before .before .before .before .before .loop .inv) (omega (arith, (c .before .before .before .before .before .before .before .part-count .ensures))) (omega arith) (c .before .before .before .before .header-at .ensures) (c .before .before .write-block .ensures)
+loop-again c =
+    let at-header-at = c .before .before .before .before in
+    let at-part-count = at-header-at .before .before .before in
+    more _ _ _ _ _ _ _ _ _ (at-header-at .before .before .loop .inv) (omega (arith, (at-part-count .part-count .ensures))) (omega arith)
+    (at-header-at .header-at .ensures) (c .before .before .write-block .ensures)
 
 same-length : tie.Need-same-length Inv-loop μ-loop
 same-length c = (c .before .loop .inv .long)
 
 returns : tie.Need-returns Inv-loop μ-loop
-returns c = let e : (c .before .loop .part) ≡ partCount (c .before .before .before .before .before .args .count) = omega (arith, (c .before .before .part-count .ensures), (c .before .loop .inv .within)) in ((c .before .before .part-count .ensures), (c .before .loop .inv .is) ∙ ap (λ (n : ℕ). firstBlocks (c .before .before .before .before .before .args .clip) (c .before .before .before .before .before .args .picture) (c .before .before .before .before .before .args .refresh) (c .before .before .before .before .before .args .bytes .now) (c .before .before .before .before .before .args .count) n ++ drop (512 * n) (c .before .before .before .before .before .args .out .now)) e)
+returns c =
+    let at-loop = c .before in
+    let at-part-count = at-loop .before in
+    let start = at-part-count .before .before .before in
+    let count = start .args .count in
+    let e : (at-loop .loop .part) ≡ partCount count = omega (arith, (at-part-count .part-count .ensures), (at-loop .loop .inv .within)) in (
+      (at-part-count .part-count .ensures),
+      (at-loop .loop .inv .is)
+          ∙ ap (λ (n : ℕ). firstBlocks (start .args .clip) (start .args .picture) (start .args .refresh) (start .args .bytes .now) count n ++ drop (512 * n)
+          (start .args .out .now))
+          e,
+    )
 
 pub blocks-spec : {M : Type 1} → statement M
 blocks-spec =

@@ -27,7 +27,11 @@ refused-requires-2 c κs = search needs
 
 returns-2 : tie.Need-returns-2
 unfolding checkOf
-returns-2 c = simp (eq-eqb _ _ (c .before .before .before .before .if1 .left), ne-eqb _ _ (λ e. (c .before .if2 .taken) ((c .before .before .before .sum .ensures) ∙ e ∙ sym (c .before .before .pair .ensures)))) (c .refused2 .ensures)
+returns-2 c =
+    let at-sum = c .before .before .before in
+    let at-if1 = at-sum .before in
+    simp (eq-eqb _ _ (at-if1 .if1 .left), ne-eqb _ _ (λ e. (c .before .if2 .taken) ((at-sum .sum .ensures) ∙ e ∙ sym (c .before .before .pair .ensures))))
+    (c .refused2 .ensures)
 
 follows-requires : tie.Need-follows-requires
 follows-requires c κs = search needs
@@ -37,14 +41,30 @@ refused-requires-3 c κs = search needs
 
 returns-3 : tie.Need-returns-3
 unfolding checkOf
-returns-3 c = simp (eq-eqb _ _ (c .before .before .before .before .before .before .if1 .left), eq-eqb _ _ (sym (c .before .before .before .before .before .sum .ensures) ∙ (c .before .before .before .if2 .left) ∙ (c .before .before .before .before .pair .ensures)), sym (c .before .before .follows .ensures) ∙ not-true _ (c .before .if3 .taken)) (c .refused3 .ensures)
+returns-3 c =
+    let at-if2 = c .before .before .before in
+    let at-if1 = at-if2 .before .before .before in
+    simp (
+      eq-eqb _ _ (at-if1 .if1 .left),
+      eq-eqb _ _ (sym (at-if2 .before .before .sum .ensures) ∙ (at-if2 .if2 .left) ∙ (at-if2 .before .pair .ensures)),
+      sym (c .before .before .follows .ensures) ∙ not-true _ (c .before .if3 .taken),
+    )
+    (c .refused3 .ensures)
 
 header-of-requires : tie.Need-header-of-requires
 header-of-requires c κs = search needs
 
 returns-4 : tie.Need-returns-4
 unfolding checkOf
-returns-4 c = simp (eq-eqb _ _ (c .before .before .before .before .before .before .if1 .left), eq-eqb _ _ (sym (c .before .before .before .before .before .sum .ensures) ∙ (c .before .before .before .if2 .left) ∙ (c .before .before .before .before .pair .ensures)), sym (c .before .before .follows .ensures) ∙ not-false _ (c .before .if3 .left), c .header-of .ensures)
+returns-4 c =
+    let at-if2 = c .before .before .before in
+    let at-if1 = at-if2 .before .before .before in
+    simp (
+      eq-eqb _ _ (at-if1 .if1 .left),
+      eq-eqb _ _ (sym (at-if2 .before .before .sum .ensures) ∙ (at-if2 .if2 .left) ∙ (at-if2 .before .pair .ensures)),
+      sym (c .before .before .follows .ensures) ∙ not-false _ (c .before .if3 .left),
+      c .header-of .ensures,
+    )
 
 pub check-spec : {M : Type 1} → statement M
 check-spec =

@@ -21,7 +21,18 @@ used-at-requires : tie.Need-used-at-requires
 used-at-requires c κs = search needs
 
 returns : tie.Need-returns
-returns c = λ i. record { clip = (c .before .before .before .args .clip); picture = (c .before .before .before .args .picture); part = (c .before .before .before .args .part); last = eqb ((c .before .before .before .args .part) + 1) ((c .before .before .part-count .ensures) i); refresh = (c .before .refresh-at .ensures) i; used = c .used-at .ensures i }
+returns c =
+    let start = c .before .before .before in
+    let part-here = start .args .part in
+    λ i.
+    record {
+      clip = (start .args .clip);
+      picture = (start .args .picture);
+      part = part-here;
+      last = eqb (part-here + 1) ((c .before .before .part-count .ensures) i);
+      refresh = (c .before .refresh-at .ensures) i;
+      used = c .used-at .ensures i;
+    }
 
 pub header-at-spec : {M : Type 1} → statement M
 header-at-spec =

@@ -20,7 +20,19 @@ pair-requires-2 : tie.Need-pair-requires-2
 pair-requires-2 c κs = search needs
 
 returns : tie.Need-returns
-returns c = λ i. record { clip = (c .before .before .before .pair .ensures) i; picture = (c .before .before .picture-of .ensures) i; part = partOf (c .before .before .before .before .before .before .args .block .now); last = lastOf (c .before .before .before .before .before .before .args .block .now); refresh = refreshOf (c .before .before .before .before .before .before .args .block .now); used = c .pair2 .ensures i }
+returns c =
+    let at-pair = c .before .before .before in
+    let start = at-pair .before .before .before in
+    let block = start .args .block .now in
+    λ i.
+    record {
+      clip = (at-pair .pair .ensures) i;
+      picture = (c .before .before .picture-of .ensures) i;
+      part = partOf block;
+      last = lastOf block;
+      refresh = refreshOf block;
+      used = c .pair2 .ensures i;
+    }
 
 pub header-of-spec : {M : Type 1} → statement M
 header-of-spec =

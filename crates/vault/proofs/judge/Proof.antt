@@ -42,7 +42,10 @@ returns c = own _ (sym (c .before .before .before .header .given .1) ∙ (c .bef
 
 returns-2 : tie.Need-returns-2
 unfolding judgeOf
-returns-2 c = c .refused .ensures ∙ other _ (sym (c .before .before .before .before .header .given .1) ∙ (c .before .before .before .before .before .before .check .ensures)) (c .before .if1 .left)
+returns-2 c =
+    let at-header = c .before .before .before .before in
+    let at-check = at-header .before .before in
+    c .refused .ensures ∙ other _ (sym (at-header .header .given .1) ∙ (at-check .check .ensures)) (c .before .if1 .left)
 
 returns-3 : tie.Need-returns-3
 unfolding judgeOf

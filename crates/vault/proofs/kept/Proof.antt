@@ -27,10 +27,16 @@ div-result : tie.Need-div-result
 div-result c = omega (arith, pow-pos (unused (c .before .before .before .before .args .count) (c .before .before .before .before .args .i)), (c .before .unused-weight .ensures))
 
 mul-result : tie.Need-mul-result
-mul-result c = omega (arith, (c .shared-slice-known2 .given) (c .before .before .before .before .args .i), div-mul-le-self (getD (c .before .before .before .before .args .bytes .now) (c .before .before .before .before .args .i) 0) (c .before .unused-weight .result))
+mul-result c =
+    let start = c .before .before .before .before in
+    let i = start .args .i in
+    omega (arith, (c .shared-slice-known2 .given) i, div-mul-le-self (getD (start .args .bytes .now) i 0) (c .before .unused-weight .result))
 
 cast-result-2 : tie.Need-cast-result-2
-cast-result-2 c = omega (arith, (c .shared-slice-known2 .given) (c .before .before .before .before .args .i), div-mul-le-self (getD (c .before .before .before .before .args .bytes .now) (c .before .before .before .before .args .i) 0) (c .before .unused-weight .result))
+cast-result-2 c =
+    let start = c .before .before .before .before in
+    let i = start .args .i in
+    omega (arith, (c .shared-slice-known2 .given) i, div-mul-le-self (getD (start .args .bytes .now) i 0) (c .before .unused-weight .result))
 
 returns-2 : tie.Need-returns-2
 returns-2 c = ap (λ (w : ℕ). getD (c .before .before .before .before .args .bytes .now) (c .before .before .before .before .args .i) 0 / w * w) (c .before .unused-weight .ensures)

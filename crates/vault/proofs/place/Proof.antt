@@ -64,7 +64,9 @@ same-length : tie.Need-same-length
 same-length c = search needs
 
 returns : tie.Need-returns
-returns c = in-place (c .before .before .before .before .before .before .before .args .block .now) (c .before .before .before .before .before .before .before .args .collection .now) (c .before .before .before .before .before .before .before .args .part) (c .before .before .before .before .before .before .before .pre .0) (c .before .before .before .before .before .before .before .pre .1) _ (c .before .before .copy .ensures .1)
+returns c =
+    let start = c .before .before .before .before .before .before .before in
+    in-place (start .args .block .now) (start .args .collection .now) (start .args .part) (start .pre .0) (start .pre .1) _ (c .before .before .copy .ensures .1)
 
 pub place-spec : {M : Type 1} → statement M
 place-spec =

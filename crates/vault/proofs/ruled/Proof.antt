@@ -19,21 +19,42 @@ greatest-part-requires c κs = search needs
 
 returns-3 : tie.Need-returns-3
 unfolding ruled
-returns-3 c = simp (le-leb _ _ (c .before .before .before .before .before .if1 .left), lt-ltb _ _ (c .before .before .before .if2 .left), lt-leb _ _ (rw (c .before .before .greatest-part .ensures) at (c .if3 .taken)))
+returns-3 c =
+    let at-if2 = c .before .before .before in
+    let at-if1 = at-if2 .before .before in
+    simp (le-leb _ _ (at-if1 .if1 .left), lt-ltb _ _ (at-if2 .if2 .left), lt-leb _ _ (rw (c .before .before .greatest-part .ensures) at (c .if3 .taken)))
 
 refresh-rule-requires : tie.Need-refresh-rule-requires
 refresh-rule-requires c κs = search needs
 
 returns-4 : tie.Need-returns-4
 unfolding ruled
-returns-4 c = simp (le-leb _ _ (c .before .before .before .before .before .before .before .if1 .left), lt-ltb _ _ (c .before .before .before .before .before .if2 .left), le-leb _ _ (rw (c .before .before .before .before .greatest-part .ensures) at (c .before .before .if3 .left)), sym (c .before .refresh-rule .ensures) ∙ not-true _ (c .if4 .taken))
+returns-4 c =
+    let at-greatest-part = c .before .before .before .before in
+    let at-if1 = at-greatest-part .before .before .before in
+    simp (
+      le-leb _ _ (at-if1 .if1 .left),
+      lt-ltb _ _ (at-greatest-part .before .if2 .left),
+      le-leb _ _ (rw (at-greatest-part .greatest-part .ensures) at (c .before .before .if3 .left)),
+      sym (c .before .refresh-rule .ensures) ∙ not-true _ (c .if4 .taken),
+    )
 
 used-rule-requires : tie.Need-used-rule-requires
 used-rule-requires c κs = search needs
 
 returns-5 : tie.Need-returns-5
 unfolding ruled
-returns-5 c = simp (le-leb _ _ (c .before .before .before .before .before .before .before .before .if1 .left), lt-ltb _ _ (c .before .before .before .before .before .before .if2 .left), le-leb _ _ (rw (c .before .before .before .before .before .greatest-part .ensures) at (c .before .before .before .if3 .left)), sym (c .before .before .refresh-rule .ensures) ∙ not-false _ (c .before .if4 .left)) (c .used-rule .ensures)
+returns-5 c =
+    let at-if3 = c .before .before .before in
+    let at-if2 = at-if3 .before .before .before in
+    let at-if1 = at-if2 .before .before in
+    simp (
+      le-leb _ _ (at-if1 .if1 .left),
+      lt-ltb _ _ (at-if2 .if2 .left),
+      le-leb _ _ (rw (at-if3 .before .before .greatest-part .ensures) at (at-if3 .if3 .left)),
+      sym (c .before .before .refresh-rule .ensures) ∙ not-false _ (c .before .if4 .left),
+    )
+    (c .used-rule .ensures)
 
 pub ruled-spec : {M : Type 1} → statement M
 ruled-spec =

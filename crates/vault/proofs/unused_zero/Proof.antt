@@ -42,7 +42,11 @@ rem-if1 : tie.Need-rem-if1 Inv-loop μ-loop
 rem-if1 c = omega (arith, pow-pos (unused (c .before .before .before .before .before .args .used) (c .before .before .before .loop .i)), (c .before .unused-weight .ensures))
 
 returns : tie.Need-returns Inv-loop μ-loop
-returns c = sym (clear-fails _ _ (c .before .before .before .before .loop .i) 500 (omega arith) (λ e. c .if1 .taken (sym (weighed (c .before .before .before .before .before .before .args .block .now) _ _ _ (omega arith) (c .before .before .unused-weight .ensures)) ∙ e)))
+returns c =
+    let at-loop = c .before .before .before .before in
+    let start = at-loop .before .before in
+    sym (clear-fails _ _ (at-loop .loop .i) 500 (omega arith)
+    (λ e. c .if1 .taken (sym (weighed (start .args .block .now) _ _ _ (omega arith) (c .before .before .unused-weight .ensures)) ∙ e)))
 
 add-i : tie.Need-add-i Inv-loop μ-loop
 add-i c = omega arith
@@ -51,7 +55,11 @@ loop-less : tie.Need-loop-less Inv-loop μ-loop
 loop-less c = omega arith
 
 loop-again : tie.Need-loop-again Inv-loop μ-loop
-loop-again c = clear-more _ _ (c .before .before .before .before .loop .i) (c .before .before .before .before .loop .inv) (weighed (c .before .before .before .before .before .before .args .block .now) _ _ _ (omega arith) (c .before .before .unused-weight .ensures) ∙ c .if1 .left)
+loop-again c =
+    let at-loop = c .before .before .before .before in
+    let start = at-loop .before .before in
+    clear-more _ _ (at-loop .loop .i) (at-loop .loop .inv)
+    (weighed (start .args .block .now) _ _ _ (omega arith) (c .before .before .unused-weight .ensures) ∙ c .if1 .left)
 
 returns-2 : tie.Need-returns-2 Inv-loop μ-loop
 returns-2 c = sym (clear-less _ _ 500 (c .before .loop .i) (omega arith) (c .before .loop .inv))

@@ -22,7 +22,10 @@ returns-3 : tie.Need-returns-3
 returns-3 c = simp (le-leb _ _ (c .before .before .before .if1 .left), le-leb _ _ (c .before .if2 .left), c .if3 .taken)
 
 returns-4 : tie.Need-returns-4
-returns-4 c = unless-last (c .before .before .before .before .before .before .args .header) (c .before .before .before .before .if1 .left) (c .before .before .if2 .left) (c .before .if3 .left)
+returns-4 c =
+    let at-if1 = c .before .before .before .before in
+    let start = at-if1 .before .before in
+    unless-last (start .args .header) (at-if1 .if1 .left) (c .before .before .if2 .left) (c .before .if3 .left)
 
 pub used-rule-spec : {M : Type 1} → statement M
 used-rule-spec = tie.close (tie.spec returns returns-2 returns-3 returns-4)

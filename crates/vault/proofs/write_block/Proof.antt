@@ -10,7 +10,13 @@ use Rattle.vault.proofs.write_block.Statement.{statement}
 use Rattle.vault.proofs.write_block.Tie as tie
 
 returns : tie.Need-returns
-returns c = stored (c .before .before .before .before .before .before .before .before .before .before .before .before .before .before .before .args .header) (payloadAt (c .before .before .before .before .before .before .before .before .before .before .before .before .before .before .before .args .bytes .now) (c .before .before .before .before .before .before .before .before .before .before .before .before .before .before .before .args .count) (c .before .before .before .before .before .before .before .before .before .before .before .before .before .before .before .args .header .part)) (payload-length _ _ _) (c .before .before .before .before .before .before .before .before .before .before .before .before .before .before .before .args .block .now) (c .before .before .before .before .before .before .before .before .before .before .before .before .before .before .before .pre .0) _ _ _ (c .before .before .before .before .before .before .before .before .before .before .write-head .ensures) (c .before .before .before .before .before .before .write-payload .ensures) (c .before .before .write-sum .ensures)
+returns c =
+    let at-write-payload = c .before .before .before .before .before .before in
+    let at-write-head = at-write-payload .before .before .before .before in
+    let start = at-write-head .before .before .before .before .before in
+    let header = start .args .header in
+    stored header (payloadAt (start .args .bytes .now) (start .args .count) (header .part)) (payload-length _ _ _) (start .args .block .now) (start .pre .0) _ _ _
+    (at-write-head .write-head .ensures) (at-write-payload .write-payload .ensures) (c .before .before .write-sum .ensures)
 
 cast-part : tie.Need-cast-part
 cast-part c = search needs
@@ -31,7 +37,9 @@ write-sum-requires : tie.Need-write-sum-requires
 write-sum-requires c κs = simp length-set (omega arith)
 
 same-length : tie.Need-same-length
-same-length c = ap length (returns c) ∙ block-length (c .before .before .before .before .before .before .before .before .before .before .before .before .before .before .before .args .header) _ (payload-length _ _ _) ∙ sym (c .before .before .before .before .before .before .before .before .before .before .before .before .before .before .before .pre .0)
+same-length c =
+    let start = c .before .before .before .before .before .before .before .before .before .before .before .before .before .before .before in
+    ap length (returns c) ∙ block-length (start .args .header) _ (payload-length _ _ _) ∙ sym (start .pre .0)
 
 pub write-block-spec : {M : Type 1} → statement M
 write-block-spec =

@@ -84,7 +84,11 @@ loop-less : tie.Need-loop-less Inv-loop μ-loop Inv-loop2 μ-loop2
 loop-less c = omega arith
 
 loop-again : tie.Need-loop-again Inv-loop μ-loop Inv-loop2 μ-loop2
-loop-again c = one-more _ (payload-length _ _ _) (c .before .before .loop .inv) (omega (arith, (c .before .before .before .whole-bytes .ensures))) (whole-byte (c .before .before .before .before .before .before .args .bytes .now) (c .before .before .before .before .before .before .args .count) (c .before .before .before .before .before .before .args .part) _ (omega (arith, (c .before .before .before .whole-bytes .ensures))))
+loop-again c =
+    let at-whole-bytes = c .before .before .before in
+    let start = at-whole-bytes .before .before .before in
+    one-more _ (payload-length _ _ _) (c .before .before .loop .inv) (omega (arith, (at-whole-bytes .whole-bytes .ensures)))
+    (whole-byte (start .args .bytes .now) (start .args .count) (start .args .part) _ (omega (arith, (at-whole-bytes .whole-bytes .ensures))))
 
 loop2-holds : tie.Need-loop2-holds Inv-loop μ-loop Inv-loop2 μ-loop2
 loop2-holds c = λ entry h. h
@@ -108,13 +112,20 @@ loop2-less : tie.Need-loop2-less Inv-loop μ-loop Inv-loop2 μ-loop2
 loop2-less c = omega arith
 
 loop2-again : tie.Need-loop2-again Inv-loop μ-loop Inv-loop2 μ-loop2
-loop2-again c = λ entry h. one-more _ (payload-length _ _ _) ((c .before .before .loop2 .inv) entry h) (omega arith) ((c .kept .ensures) ∙ sym (payload-byte _ _ (c .before .before .before .before .before .before .before .before .args .part) _ (omega arith)))
+loop2-again c =
+    let start = c .before .before .before .before .before .before .before .before in
+    λ entry h. one-more _ (payload-length _ _ _) ((c .before .before .loop2 .inv) entry h) (omega arith)
+    ((c .kept .ensures) ∙ sym (payload-byte _ _ (start .args .part) _ (omega arith)))
 
 same-length : tie.Need-same-length Inv-loop μ-loop Inv-loop2 μ-loop2
 same-length c = ((c .before .loop2 .inv) _ (c .before .before .before .loop .inv)) .long ∙ sym (c .before .before .before .before .before .before .before .pre .0)
 
 returns : tie.Need-returns Inv-loop μ-loop Inv-loop2 μ-loop2
-returns c = let s = (c .before .loop2 .inv) _ (c .before .before .before .loop .inv) in s .is ∙ ap (paste (c .before .before .before .before .before .before .before .args .block .now) 8 (payloadAt (c .before .before .before .before .before .before .before .args .bytes .now) (c .before .before .before .before .before .before .before .args .count) (c .before .before .before .before .before .before .before .args .part))) (full _ s (omega arith))
+returns c =
+    let at-loop = c .before .before .before in
+    let start = at-loop .before .before .before .before in
+    let s = (c .before .loop2 .inv) _ (at-loop .loop .inv) in
+    s .is ∙ ap (paste (start .args .block .now) 8 (payloadAt (start .args .bytes .now) (start .args .count) (start .args .part))) (full _ s (omega arith))
 
 pub write-payload-spec : {M : Type 1} → statement M
 write-payload-spec =

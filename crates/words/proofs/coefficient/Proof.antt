@@ -14,7 +14,8 @@ look : (c : tie.After-looked-up)
     (d : Decided) × Says (pick (a .first) firstTable5 laterTable5) (a .bytes .now) (a .count) (a .at) (c .looked-up .result) d
 look c =
     let a = c .before .before .before .args in
-    rw (c .looked-up .ensures) (known (a .tables .now) (a .bytes .now) (a .count) (a .at) (c .before .window .result) (a .first) (c .before .before .before .pre .0) (c .before .window .ensures))
+    rw (c .looked-up .ensures) (known (a .tables .now) (a .bytes .now) (a .count) (a .at) (c .before .window .result) (a .first)
+    (c .before .before .before .pre .0) (c .before .window .ensures))
 
 window-requires : tie.Need-window-requires
 window-requires c κs = search needs
@@ -38,7 +39,10 @@ add-t23 : tie.Need-add-t23
 add-t23 c = search needs
 
 returns-3 : tie.Need-returns-3
-returns-3 c = let k = look (c .before .before .before) in end (c .before .before .before .before .before .before .pre .1 .inside) (k .0) (k .1) (c .before .before .if1 .left) (c .if3 .taken)
+returns-3 c =
+    let start = c .before .before .before .before .before .before in
+    let k = look (c .before .before .before) in
+    end (start .pre .1 .inside) (k .0) (k .1) (c .before .before .if1 .left) (c .if3 .taken)
 
 sub-after : tie.Need-sub-after
 sub-after c = let k = look (c .before .before .before) in omega (arith, k .1 .small)
@@ -50,7 +54,11 @@ shr-taken : tie.Need-shr-taken
 shr-taken c = search needs
 
 returns-4 : tie.Need-returns-4
-returns-4 c = let k = look (c .before .before .before .before .before) in escape-bad (c .before .before .before .before .before .before .before .before .pre .1 .inside) _ (c .before .before .before .before .before .before .window .ensures) (k .0) (k .1) (c .before .before .before .before .if1 .left) (c .before .if4 .taken) (c .if5 .taken)
+returns-4 c =
+    let at-if1 = c .before .before .before .before in
+    let start = at-if1 .before .before .before .before in
+    let k = look (at-if1 .before) in
+    escape-bad (start .pre .1 .inside) _ (at-if1 .before .before .window .ensures) (k .0) (k .1) (at-if1 .if1 .left) (c .before .if4 .taken) (c .if5 .taken)
 
 cast-t29 : tie.Need-cast-t29
 cast-t29 c = search needs
@@ -62,7 +70,11 @@ add-t31 : tie.Need-add-t31
 add-t31 c = search needs
 
 returns-5 : tie.Need-returns-5
-returns-5 c = let k = look (c .before .before .before .before .before) in escape-good (c .before .before .before .before .before .before .before .before .pre .1 .inside) _ (c .before .before .before .before .before .before .window .ensures) (k .0) (k .1) (c .before .before .before .before .if1 .left) (c .before .if4 .taken) (c .if5 .left)
+returns-5 c =
+    let at-if1 = c .before .before .before .before in
+    let start = at-if1 .before .before .before .before in
+    let k = look (at-if1 .before) in
+    escape-good (start .pre .1 .inside) _ (at-if1 .before .before .window .ensures) (k .0) (k .1) (at-if1 .if1 .left) (c .before .if4 .taken) (c .if5 .left)
 
 sub-pair : tie.Need-sub-pair
 sub-pair c = search needs
@@ -83,16 +95,32 @@ sub-t39 : tie.Need-sub-t39
 sub-t39 c = search needs
 
 cast-t40 : tie.Need-cast-t40
-cast-t40 c = let k = look (c .before .before .before .before .before) in omega (arith, pair-level (c .before .before .before .before .before .before .before .before .pre .1 .inside) (c .before .before .before .if2 .left) (c .before .before .if3 .left) (c .before .if4 .left) (k .0) (k .1))
+cast-t40 c =
+    let at-if2 = c .before .before .before in
+    let start = at-if2 .before .before .before .before .before in
+    let k = look (at-if2 .before .before) in
+    omega (arith, pair-level (start .pre .1 .inside) (at-if2 .if2 .left) (c .before .before .if3 .left) (c .before .if4 .left) (k .0) (k .1))
 
 add-t41 : tie.Need-add-t41
 add-t41 c = search needs
 
 returns-6 : tie.Need-returns-6
-returns-6 c = let k = look (c .before .before .before .before .before) in pair-plus (c .before .before .before .before .before .before .before .before .pre .1 .inside) _ (c .before .before .before .before .before .before .window .ensures) (k .0) (k .1) (c .before .before .before .before .if1 .left) (c .before .before .before .if2 .left) (c .before .before .if3 .left) (c .before .if4 .left) (c .if6 .taken)
+returns-6 c =
+    let at-if2 = c .before .before .before in
+    let at-window = at-if2 .before .before .before in
+    let start = at-window .before .before in
+    let k = look (at-if2 .before .before) in
+    pair-plus (start .pre .1 .inside) _ (at-window .window .ensures) (k .0) (k .1) (at-if2 .before .if1 .left) (at-if2 .if2 .left) (c .before .before .if3 .left)
+    (c .before .if4 .left) (c .if6 .taken)
 
 returns-7 : tie.Need-returns-7
-returns-7 c = let k = look (c .before .before .before .before .before) in pair-minus (c .before .before .before .before .before .before .before .before .pre .1 .inside) _ (c .before .before .before .before .before .before .window .ensures) (k .0) (k .1) (c .before .before .before .before .if1 .left) (c .before .before .before .if2 .left) (c .before .before .if3 .left) (c .before .if4 .left) (c .if6 .left)
+returns-7 c =
+    let at-if2 = c .before .before .before in
+    let at-window = at-if2 .before .before .before in
+    let start = at-window .before .before in
+    let k = look (at-if2 .before .before) in
+    pair-minus (start .pre .1 .inside) _ (at-window .window .ensures) (k .0) (k .1) (at-if2 .before .if1 .left) (at-if2 .if2 .left) (c .before .before .if3 .left)
+    (c .before .if4 .left) (c .if6 .left)
 
 pub coefficient-spec : {M : Type 1} → statement M
 coefficient-spec =

@@ -16,13 +16,23 @@ escape-requires : tie.Need-escape-requires
 escape-requires c κs = search needs
 
 returns : tie.Need-returns
-returns c = let a = c .before .before .before .before .args in rw (c .escape .ensures) (escape-large (a .first) (a .run) (a .code) _ _ (c .before .before .before .before .pre .1) (c .before .before .magnitude .ensures) (c .before .before .before .sign .ensures) (c .before .if1 .taken))
+returns c =
+    let at-sign = c .before .before .before in
+    let start = at-sign .before in
+    let a = start .args in
+    rw (c .escape .ensures)
+    (escape-large (a .first) (a .run) (a .code) _ _ (start .pre .1) (c .before .before .magnitude .ensures) (at-sign .sign .ensures) (c .before .if1 .taken))
 
 escape-requires-2 : tie.Need-escape-requires-2
 escape-requires-2 c κs = search needs
 
 returns-2 : tie.Need-returns-2
-returns-2 c = let a = c .before .before .before .before .before .args in rw (c .escape2 .ensures) (escape-far (a .first) (a .run) (a .code) _ _ (c .before .before .before .before .before .pre .1) (c .before .before .before .magnitude .ensures) (c .before .before .before .before .sign .ensures) (c .before .before .if1 .left) (c .before .if2 .taken))
+returns-2 c =
+    let at-magnitude = c .before .before .before in
+    let start = at-magnitude .before .before in
+    let a = start .args in
+    rw (c .escape2 .ensures) (escape-far (a .first) (a .run) (a .code) _ _ (start .pre .1) (at-magnitude .magnitude .ensures)
+    (at-magnitude .before .sign .ensures) (c .before .before .if1 .left) (c .before .if2 .taken))
 
 mul-pair : tie.Need-mul-pair
 mul-pair c = search needs
@@ -34,13 +44,23 @@ add-t14 : tie.Need-add-t14
 add-t14 c = omega (arith, c .before .before .before .before .before .sign .ensures, negative-small (c .before .before .before .before .before .before .args .code))
 
 returns-3 : tie.Need-returns-3
-returns-3 c = let a = c .before .before .before .before .before .before .args in one-first (a .run) (a .code) _ _ (c .before .before .before .before .before .before .pre .1) (c .before .before .before .before .magnitude .ensures) (c .before .before .before .before .before .sign .ensures) (c .before .before .before .if1 .left) (c .before .if3 .taken) (a .first) (c .if4 .taken)
+returns-3 c =
+    let at-if1 = c .before .before .before in
+    let start = at-if1 .before .before .before in
+    let a = start .args in
+    one-first (a .run) (a .code) _ _ (start .pre .1) (at-if1 .before .magnitude .ensures) (at-if1 .before .before .sign .ensures) (at-if1 .if1 .left)
+    (c .before .if3 .taken) (a .first) (c .if4 .taken)
 
 add-t15 : tie.Need-add-t15
 add-t15 c = omega (arith, c .before .before .before .before .before .sign .ensures, negative-small (c .before .before .before .before .before .before .args .code))
 
 returns-4 : tie.Need-returns-4
-returns-4 c = let a = c .before .before .before .before .before .before .args in one-later (a .run) (a .code) _ _ (c .before .before .before .before .before .before .pre .1) (c .before .before .before .before .magnitude .ensures) (c .before .before .before .before .before .sign .ensures) (c .before .before .before .if1 .left) (c .before .if3 .taken) (a .first) (c .if4 .left)
+returns-4 c =
+    let at-if1 = c .before .before .before in
+    let start = at-if1 .before .before .before in
+    let a = start .args in
+    one-later (a .run) (a .code) _ _ (start .pre .1) (at-if1 .before .magnitude .ensures) (at-if1 .before .before .sign .ensures) (at-if1 .if1 .left)
+    (c .before .if3 .taken) (a .first) (c .if4 .left)
 
 add-spelt : tie.Need-add-spelt
 add-spelt c = search needs
@@ -52,7 +72,16 @@ escape-requires-3 : tie.Need-escape-requires-3
 escape-requires-3 c κs = search needs
 
 returns-5 : tie.Need-returns-5
-returns-5 c = let a = c .before .before .before .before .before .before .before .before .args in rw (c .escape3 .ensures) (escape-none (a .first) (a .run) (a .code) _ _ (c .before .before .before .before .before .before .before .before .pre .1) (c .before .before .before .before .before .before .magnitude .ensures) (c .before .before .before .before .before .before .before .sign .ensures) (c .before .before .before .before .before .if1 .left) _ _ (spelt-at (a .tables .now) 1089 432 pairs (c .before .before .before .before .before .before .before .before .pre .0 .pairWords) (pair (a .run) (c .before .before .before .before .before .before .magnitude .result)) (search needs)) (c .before .before .before .if3 .left) (c .before .before .spelt .ensures .0) (c .before .if5 .taken))
+returns-5 c =
+    let at-if3 = c .before .before .before in
+    let at-magnitude = at-if3 .before .before .before in
+    let start = at-magnitude .before .before in
+    let a = start .args in
+    rw (c .escape3 .ensures) (escape-none (a .first) (a .run) (a .code) _ _ (start .pre .1) (at-magnitude .magnitude .ensures)
+    (at-magnitude .before .sign .ensures) (at-if3 .before .before .if1 .left) _ _
+    (spelt-at (a .tables .now) 1089 432 pairs (start .pre .0 .pairWords) (pair (a .run) (at-magnitude .magnitude .result))
+    (search needs))
+    (at-if3 .if3 .left) (c .before .before .spelt .ensures .0) (c .before .if5 .taken))
 
 add-t12 : tie.Need-add-t12
 add-t12 c = search needs
@@ -61,10 +90,21 @@ mul-t16 : tie.Need-mul-t16
 mul-t16 c = search needs
 
 add-t17 : tie.Need-add-t17
-add-t17 c = omega (arith, c .before .before .before .before .before .before .sign .ensures, negative-small (c .before .before .before .before .before .before .before .args .code), c .before .spelt .ensures .2)
+add-t17 c =
+    let at-sign = c .before .before .before .before .before .before in
+    let start = at-sign .before in
+    omega (arith, at-sign .sign .ensures, negative-small (start .args .code), c .before .spelt .ensures .2)
 
 returns-6 : tie.Need-returns-6
-returns-6 c = let a = c .before .before .before .before .before .before .before .args in pair-writes (a .first) (a .run) (a .code) _ _ (c .before .before .before .before .before .before .before .pre .1) (c .before .before .before .before .before .magnitude .ensures) (c .before .before .before .before .before .before .sign .ensures) (c .before .before .before .before .if1 .left) _ _ _ (spelt-at (a .tables .now) 1089 432 pairs (c .before .before .before .before .before .before .before .pre .0 .pairWords) (pair (a .run) (c .before .before .before .before .before .magnitude .result)) (search needs)) (c .before .before .if3 .left) (c .before .spelt .ensures .0) (c .before .spelt .ensures .1) (c .if5 .left)
+returns-6 c =
+    let at-spelt = c .before in
+    let at-if1 = at-spelt .before .before .before in
+    let at-magnitude = at-if1 .before in
+    let start = at-magnitude .before .before in
+    let a = start .args in
+    pair-writes (a .first) (a .run) (a .code) _ _ (start .pre .1) (at-magnitude .magnitude .ensures) (at-magnitude .before .sign .ensures) (at-if1 .if1 .left) _ _ _
+    (spelt-at (a .tables .now) 1089 432 pairs (start .pre .0 .pairWords) (pair (a .run) (at-magnitude .magnitude .result)) (search needs))
+    (at-spelt .before .if3 .left) (at-spelt .spelt .ensures .0) (at-spelt .spelt .ensures .1) (c .if5 .left)
 
 pub coefficient-codeword-spec : {M : Type 1} → statement M
 coefficient-codeword-spec =

@@ -7,13 +7,18 @@ lengths-requires : tie.Need-lengths-requires
 lengths-requires c κs = search needs
 
 returns : tie.Need-returns
-returns c = one-first (c .before .before .before .before .before .args .head .now) (c .before .before .before .before .before .args .macroblocks .now) (c .before .before .before .before .before .args .levels .now) _ (c .before .lengths .ensures) (c .if1 .taken)
+returns c =
+    let start = c .before .before .before .before .before in
+    one-first (start .args .head .now) (start .args .macroblocks .now) (start .args .levels .now) _ (c .before .lengths .ensures) (c .if1 .taken)
 
 lengths-requires-2 : tie.Need-lengths-requires-2
 lengths-requires-2 c κs = search needs
 
 returns-2 : tie.Need-returns-2
-returns-2 c = one-second (c .before .before .before .before .before .before .args .head .now) (c .before .before .before .before .before .before .args .macroblocks .now) (c .before .before .before .before .before .before .args .levels .now) _ (c .before .before .lengths .ensures) (c .before .if1 .left) _ (c .lengths2 .ensures)
+returns-2 c =
+    let start = c .before .before .before .before .before .before in
+    one-second (start .args .head .now) (start .args .macroblocks .now) (start .args .levels .now) _ (c .before .before .lengths .ensures) (c .before .if1 .left) _
+    (c .lengths2 .ensures)
 
 pub one-format-spec : {M : Type 1} → statement M
 one-format-spec =

@@ -19,7 +19,9 @@ returns-2 : tie.Need-returns-2
 returns-2 c = let s = c .before .before in sym (halved-whole (s .args .plane) _ (c .if2 .taken) ∙ back-high (s .args .component) (search needs) (search needs))
 
 returns-3 : tie.Need-returns-3
-returns-3 c = let s = c .before .before in sym (halved-half (s .args .plane) _ (c .if2 .left) ∙ ap (λ (n : ℕ). n / 2) (back-high (s .args .component) (search needs) (search needs)))
+returns-3 c =
+    let start = c .before .before in
+    sym (halved-half (start .args .plane) _ (c .if2 .left) ∙ ap (λ (n : ℕ). n / 2) (back-high (start .args .component) (search needs) (search needs)))
 
 pub behind-spec : {M : Type 1} → statement M
 behind-spec = tie.close (tie.spec sub-result sub-result-2 returns returns-2 returns-3)

@@ -1,4 +1,4 @@
-use Prim.Native.Nat.{_+_, _*_}
+use Prim.Native.Nat.{ℕ, _+_, _*_}
 use native.Mathlib.Omega.{arith}
 use borrow.Author.Needs.{needs}
 use lib.ListN.{length}
@@ -9,11 +9,32 @@ use Rattle.render.specs.Turn.{intraOf, vectorFrom, plane, room-from, roo
 use Rattle.render.proofs.block.block.Statement.{statement}
 use Rattle.render.proofs.block.block.Tie as tie
 
-from-room : (c : tie.After-moved2) → Room 8 8 (c .before .before .start .result + c .before .moved .result * c .before .before .before .stride .result + c .moved2 .result) (c .before .before .before .stride .result) (length (c .before .before .before .before .before .before .before .args .reference .now))
-from-room c = let s = c .before .before .before .before .before .before .before in room-from (plane (s .args .format) (s .args .plane) (c .before .before .start .ensures) (c .before .before .before .stride .ensures)) (vectorFrom (s .args .horizontal) (s .args .vertical)) (s .args .y) (s .args .x) (c .before .moved .ensures) (c .moved2 .ensures) (s .pre .2) (s .pre .3) (s .pre .0)
+module _ (c : tie.After-moved2) where
+  abbrev from-start : tie.Start
+  from-start = c .before .before .before .before .before .before .before
 
-to-room : (c : tie.After-draw-arg) → Room 8 8 (c .before .before .before .start .result + c .before .before .before .before .before .before .before .before .args .y * 8 * c .before .before .before .before .stride .result + c .before .before .before .before .before .before .before .before .args .x * 8) (c .before .before .before .before .stride .result) (length (c .before .before .before .before .before .before .before .before .args .store .now))
-to-room c = let s = c .before .before .before .before .before .before .before .before in room-to (plane (s .args .format) (s .args .plane) (c .before .before .before .start .ensures) (c .before .before .before .before .stride .ensures)) (s .pre .2) (s .pre .1)
+  abbrev from-stride : ℕ
+  from-stride = c .before .before .before .stride .result
+
+  from-room : Room 8 8 (c .before .before .start .result + c .before .moved .result * from-stride + c .moved2 .result) from-stride
+      (length (from-start .args .reference .now))
+  from-room =
+      room-from (plane (from-start .args .format) (from-start .args .plane) (c .before .before .start .ensures) (c .before .before .before .stride .ensures))
+      (vectorFrom (from-start .args .horizontal) (from-start .args .vertical)) (from-start .args .y) (from-start .args .x) (c .before .moved .ensures)
+      (c .moved2 .ensures) (from-start .pre .2) (from-start .pre .3) (from-start .pre .0)
+
+module _ (c : tie.After-draw-arg) where
+  abbrev to-start : tie.Start
+  to-start = c .before .before .before .before .before .before .before .before
+
+  abbrev to-stride : ℕ
+  to-stride = c .before .before .before .before .stride .result
+
+  to-room : Room 8 8 (c .before .before .before .start .result + to-start .args .y * 8 * to-stride + to-start .args .x * 8) to-stride
+      (length (to-start .args .store .now))
+  to-room =
+      room-to (plane (to-start .args .format) (to-start .args .plane) (c .before .before .before .start .ensures) (c .before .before .before .before .stride .ensures))
+      (to-start .pre .2) (to-start .pre .1)
 
 stride-requires : tie.Need-stride-requires
 stride-requires c κs = search needs
@@ -58,13 +79,30 @@ add-draw-4 : tie.Need-add-draw-4
 add-draw-4 c = omega (arith, to-room c 0 (omega arith))
 
 draw-requires : tie.Need-draw-requires
-draw-requires c κs = let s = c .before .before .before .before .before .before .before .before in (omega (arith, c .before .before .before .before .stride .ensures, wide-least (s .args .format) (s .args .plane)), from-room (c .before), to-room c, s .pre .4, s .pre .5, s .pre .6)
+draw-requires c κs =
+    let at-stride = c .before .before .before .before in
+    let start = at-stride .before .before .before .before in (
+      omega (arith, at-stride .stride .ensures, wide-least (start .args .format) (start .args .plane)),
+      from-room (c .before),
+      to-room c,
+      start .pre .4,
+      start .pre .5,
+      start .pre .6,
+    )
 
 same-length : tie.Need-same-length
 same-length c = search needs
 
 returns : tie.Need-returns
-returns c = let s = c .before .before .before .before .before .before .before .before .before .before .before in block-drawn (plane (s .args .format) (s .args .plane) (c .before .before .before .before .before .before .start .ensures) (c .before .before .before .before .before .before .before .stride .ensures)) (s .args .prediction) (s .args .reference .now) (vectorFrom (s .args .horizontal) (s .args .vertical)) (s .args .y) (s .args .x) (λ i j. differenceOf (bytesFrom (s .args .levels .now) (s .args .at)) (intraOf (s .args .prediction)) (s .args .quantiser) i j) (c .before .before .before .before .before .moved .ensures) (c .before .before .before .before .moved2 .ensures) (s .pre .2) (c .before .before .draw .ensures)
+returns c =
+    let at-moved2 = c .before .before .before .before in
+    let at-stride = at-moved2 .before .before .before in
+    let start = at-stride .before .before .before .before in
+    let prediction = start .args .prediction in
+    block-drawn (plane (start .args .format) (start .args .plane) (at-moved2 .before .before .start .ensures) (at-stride .stride .ensures)) prediction
+    (start .args .reference .now) (vectorFrom (start .args .horizontal) (start .args .vertical)) (start .args .y) (start .args .x)
+    (λ i j. differenceOf (bytesFrom (start .args .levels .now) (start .args .at)) (intraOf prediction) (start .args .quantiser) i j)
+    (at-moved2 .before .moved .ensures) (at-moved2 .moved2 .ensures) (start .pre .2) (c .before .before .draw .ensures)
 
 pub block-spec : {M : Type 1} → statement M
 block-spec =

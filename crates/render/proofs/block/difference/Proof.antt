@@ -9,7 +9,14 @@ empty-requires : tie.Need-empty-requires
 empty-requires c κs = search needs
 
 returns : tie.Need-returns
-returns c = let s = c .before .before .before in (zeros-are _ (λ i j. difference-zero (bytesFrom (s .args .levels .now) (s .args .at)) (s .args .quantiser) i j (all-zero 64 (bytesFrom (s .args .levels .now) (s .args .at)) (c .before .empty .ensures) (c .if1 .taken))), zeros-small)
+returns c =
+    let start = c .before .before .before in
+    let levels = start .args .levels .now in
+    let at-given = start .args .at in (
+      zeros-are _ (λ i j. difference-zero (bytesFrom levels at-given) (start .args .quantiser) i j
+          (all-zero 64 (bytesFrom levels at-given) (c .before .empty .ensures) (c .if1 .taken))),
+      zeros-small,
+    )
 
 output-requires : tie.Need-output-requires
 output-requires c κs = search needs

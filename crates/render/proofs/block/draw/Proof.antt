@@ -18,7 +18,10 @@ output-requires : tie.Need-output-requires
 output-requires c κs = search needs
 
 put-requires : tie.Need-put-requires
-put-requires c κs = let s = c .before .before .before .before .before .before .before .before .before in (s .pre .0, s .pre .2, zeros-samples, c .before .before .before .output .ensures .1)
+put-requires c κs =
+    let at-output = c .before .before .before in
+    let start = at-output .before .before .before .before .before .before in
+    (start .pre .0, start .pre .2, zeros-samples, at-output .output .ensures .1)
 
 enum-told-2 : tie.Need-enum-told-2
 enum-told-2 c = search needs
@@ -36,7 +39,16 @@ output-requires-2 : tie.Need-output-requires-2
 output-requires-2 c κs = search needs
 
 put-requires-2 : tie.Need-put-requires-2
-put-requires-2 c κs = let s = c .before .before .before .before .before .before .before .before .before .before .before .before in (s .pre .0, s .pre .2, samples-of (c .before .before .before .before .fetch .ensures) (λ i j. byte-sample _ (omega (arith, c .before .before .before .before .before .before .before .before .before .before .before .shared-slice-known .given (s .args .from + i * s .args .stride + j)))), c .before .before .before .output2 .ensures .1)
+put-requires-2 c κs =
+    let at-output2 = c .before .before .before in
+    let at-shared-slice-known = at-output2 .before .before .before .before .before .before .before .before in
+    let start = at-shared-slice-known .before in (
+      start .pre .0,
+      start .pre .2,
+      samples-of (at-output2 .before .fetch .ensures)
+          (λ i j. byte-sample _ (omega (arith, at-shared-slice-known .shared-slice-known .given (start .args .from + i * start .args .stride + j)))),
+      at-output2 .output2 .ensures .1,
+    )
 
 enum-told-3 : tie.Need-enum-told-3
 enum-told-3 c = search needs
@@ -48,31 +60,56 @@ difference-requires : tie.Need-difference-requires
 difference-requires c κs = search needs
 
 put-requires-3 : tie.Need-put-requires-3
-put-requires-3 c κs = let s = c .before .before .before .before .before .before .before .before .before .before in (s .pre .0, s .pre .2, c .before .before .before .before .filtered .ensures .1, c .before .before .before .difference .ensures .1)
+put-requires-3 c κs =
+    let at-difference = c .before .before .before in
+    let start = at-difference .before .before .before .before .before .before .before in
+    (start .pre .0, start .pre .2, at-difference .before .filtered .ensures .1, at-difference .difference .ensures .1)
 
 same-length : tie.Need-same-length
 same-length c = search needs
 
 returns : tie.Need-returns
-returns c = let s = c .before .before .before .before .before .before .before .before .before .before .before .before in drawn Intra (s .args .reference .now) (s .args .from) (bytesFrom (s .args .levels .now) (s .args .at)) (s .args .quantiser) (c .before .before .before .before .before .before .before .enum-told .given .1) (zeros-are _ (λ i j. refl)) (c .before .before .before .before .before .before .output .ensures .0) (c .before .before .put .ensures)
+returns c =
+    let at-output = c .before .before .before .before .before .before in
+    let start = at-output .before .before .before .before .before .before in
+    drawn Intra (start .args .reference .now) (start .args .from) (bytesFrom (start .args .levels .now) (start .args .at)) (start .args .quantiser)
+    (at-output .before .enum-told .given .1) (zeros-are _ (λ i j. refl)) (at-output .output .ensures .0) (c .before .before .put .ensures)
 
 same-length-2 : tie.Need-same-length-2
 same-length-2 c = search needs
 
 returns-2 : tie.Need-returns-2
-returns-2 c = let s = c .before .before .before .before .before .before .before .before .before .before .before in copied (s .args .reference .now) (s .args .from) (bytesFrom (s .args .levels .now) (s .args .at)) (s .args .quantiser) (c .before .before .before .before .before .before .enum-told2 .given .1) (λ n. omega (arith, c .before .before .before .before .before .before .before .before .before .before .shared-slice-known .given n)) (all-zero 64 (bytesFrom (s .args .levels .now) (s .args .at)) (c .before .before .before .before .before .empty .ensures) (c .before .before .before .before .if1 .taken)) (c .before .before .copy-eight .ensures)
+returns-2 c =
+    let at-if1 = c .before .before .before .before in
+    let at-shared-slice-known = at-if1 .before .before .before .before .before .before in
+    let start = at-shared-slice-known .before in
+    let levels = start .args .levels .now in
+    let at-given = start .args .at in
+    copied (start .args .reference .now) (start .args .from) (bytesFrom levels at-given) (start .args .quantiser) (at-if1 .before .before .enum-told2 .given .1)
+    (λ n. omega (arith, at-shared-slice-known .shared-slice-known .given n))
+    (all-zero 64 (bytesFrom levels at-given) (at-if1 .before .empty .ensures) (at-if1 .if1 .taken)) (c .before .before .copy-eight .ensures)
 
 same-length-3 : tie.Need-same-length-3
 same-length-3 c = search needs
 
 returns-3 : tie.Need-returns-3
-returns-3 c = let s = c .before .before .before .before .before .before .before .before .before .before .before .before .before .before .before in drawn Inter (s .args .reference .now) (s .args .from) (bytesFrom (s .args .levels .now) (s .args .at)) (s .args .quantiser) (c .before .before .before .before .before .before .before .before .before .before .enum-told2 .given .1) (c .before .before .before .before .before .before .before .fetch .ensures) (c .before .before .before .before .before .before .output2 .ensures .0) (c .before .before .put2 .ensures)
+returns-3 c =
+    let at-output2 = c .before .before .before .before .before .before in
+    let at-enum-told2 = at-output2 .before .before .before .before in
+    let start = at-enum-told2 .before .before .before .before .before in
+    drawn Inter (start .args .reference .now) (start .args .from) (bytesFrom (start .args .levels .now) (start .args .at)) (start .args .quantiser)
+    (at-enum-told2 .enum-told2 .given .1) (at-output2 .before .fetch .ensures) (at-output2 .output2 .ensures .0) (c .before .before .put2 .ensures)
 
 same-length-4 : tie.Need-same-length-4
 same-length-4 c = search needs
 
 returns-4 : tie.Need-returns-4
-returns-4 c = let s = c .before .before .before .before .before .before .before .before .before .before .before .before .before in drawn Filtered (s .args .reference .now) (s .args .from) (bytesFrom (s .args .levels .now) (s .args .at)) (s .args .quantiser) (c .before .before .before .before .before .before .before .before .enum-told3 .given .1) (c .before .before .before .before .before .before .before .filtered .ensures .0) (c .before .before .before .before .before .before .difference .ensures .0) (c .before .before .put3 .ensures)
+returns-4 c =
+    let at-difference = c .before .before .before .before .before .before in
+    let start = at-difference .before .before .before .before .before .before .before in
+    drawn Filtered (start .args .reference .now) (start .args .from) (bytesFrom (start .args .levels .now) (start .args .at)) (start .args .quantiser)
+    (at-difference .before .before .enum-told3 .given .1) (at-difference .before .filtered .ensures .0) (at-difference .difference .ensures .0)
+    (c .before .before .put3 .ensures)
 
 pub draw-spec : {M : Type 1} → statement M
 draw-spec =

@@ -16,10 +16,24 @@ fetch-requires : tie.Need-fetch-requires
 fetch-requires c κs = search needs
 
 filter-requires : tie.Need-filter-requires
-filter-requires c κs = let s = c .before .before in samples-of (c .fetch .ensures) (λ i j. byte-sample _ (omega (arith, c .before .shared-slice-known .given (s .args .from + i * s .args .stride + j))))
+filter-requires c κs =
+    let start = c .before .before in
+    samples-of (c .fetch .ensures) (λ i j. byte-sample _ (omega (arith, c .before .shared-slice-known .given (start .args .from + i * start .args .stride + j))))
 
 returns : tie.Need-returns
-returns c = let s = c .before .before .before in (subst (λ (b : List (List ℤ)). Is (pos 0) (filterAt b) (c .filter .result)) (is-made (c .before .fetch .ensures)) (c .filter .ensures), filter-samples (c .before .fetch .result) (samples-of (c .before .fetch .ensures) (λ k m. byte-sample _ (omega (arith, c .before .before .shared-slice-known .given (s .args .from + k * s .args .stride + m))))) (c .filter .ensures))
+returns c =
+    let at-fetch = c .before in
+    let start = at-fetch .before .before in (
+      subst (λ (b : List (List ℤ)). Is (pos 0) (filterAt b) (c .filter .result)) (is-made (at-fetch .fetch .ensures)) (c .filter .ensures),
+      filter-samples (at-fetch .fetch .result) (samples-of (at-fetch .fetch .ensures) (λ k m. byte-sample _ (omega (
+        arith,
+        at-fetch .before .shared-slice-known .given
+            (start .args .from + k *
+            start .args .stride +
+            m),
+      ))))
+          (c .filter .ensures),
+    )
 
 pub filtered-spec : {M : Type 1} → statement M
 filtered-spec = tie.close (tie.spec fetch-requires filter-requires returns)

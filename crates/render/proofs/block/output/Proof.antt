@@ -30,7 +30,9 @@ first-requires c κs = search needs
 
 -- what the first byte stands for is small, and read back
 first-low : (c : tie.After-first) → Low 2048 (c .first .result)
-first-low c = subst (λ (z : ℤ). Low 2048 z) (sym (c .first .ensures)) (value-low _ _ _ 0 (omega (arith, c .before .shared-slice-known2 .given (c .before .before .before .before .before .args .at))))
+first-low c =
+    let start = c .before .before .before .before .before in
+    subst (λ (z : ℤ). Low 2048 z) (sym (c .first .ensures)) (value-low _ _ _ 0 (omega (arith, c .before .shared-slice-known2 .given (start .args .at))))
 
 alone-requires-2 : tie.Need-alone-requires-2
 alone-requires-2 c κs = rw (back w32 tt (first-low c)) (first-low c)
@@ -53,7 +55,9 @@ dequantise-requires c κs = search needs
 
 inverse-requires : tie.Need-inverse-requires
 inverse-requires c κs =
-    dequantised-small _ _ _ (λ position. omega (arith, c .before .before .before .shared-slice-known .given (c .before .before .before .before .args .at + position))) (c .dequantise .ensures)
+    dequantised-small _ _ _
+    (λ position. omega (arith, c .before .before .before .shared-slice-known .given (c .before .before .before .before .args .at + position)))
+    (c .dequantise .ensures)
 
 returns-2 : tie.Need-returns-2
 unfolding differenceOf

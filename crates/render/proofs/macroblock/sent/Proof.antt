@@ -1,5 +1,5 @@
 use mathlib.Core.Path.{_∙_}
-use Prim.Native.Nat.{_+_, _*_, _-_, _≤_}
+use Prim.Native.Nat.{ℕ, _+_, _*_, _-_, _≤_}
 use native.Mathlib.Omega.{arith}
 use borrow.Author.Needs.{needs}
 use Rattle.format.specs.Blocks.{Placed, placed}
@@ -12,7 +12,10 @@ use Rattle.render.proofs.macroblock.sent.Statement.{statement}
 use Rattle.render.proofs.macroblock.sent.Tie as tie
 
 abbrev Inv-loop : tie.InvT-loop
-Inv-loop format reference store₀ row column prediction horizontal vertical quantiser levels at b₀ store b = (b ≤ 6) × Part format row column b (sentOf format reference prediction (vectorFrom horizontal vertical) (λ b. differenceOf (bytesFrom levels (at + b * 64)) (intraOf prediction) quantiser)) store₀ store
+Inv-loop format reference store₀ row column prediction horizontal vertical quantiser levels at b₀ store b =
+    (b ≤ 6) × Part format row column b
+    (sentOf format reference prediction (vectorFrom horizontal vertical) (λ b. differenceOf (bytesFrom levels (at + b * 64)) (intraOf prediction) quantiser))
+    store₀ store
 
 abbrev μ-loop : tie.MeasureT-loop
 μ-loop format reference store₀ row column prediction horizontal vertical quantiser levels at b₀ store b = 6 - b
@@ -35,11 +38,32 @@ mul-block c = search needs
 add-block : tie.Need-add-block Inv-loop μ-loop
 add-block c = search needs
 
-place : (c : tie.After-block-arg Inv-loop μ-loop) → Placed (c .before .before .before .before .before .before .before .before .before .args .format) (c .before .before .before .before .before .before .before .before .before .args .row) (c .before .before .before .before .before .before .before .before .before .args .column) (c .before .before .before .before .before .loop .b) (c .before .before .before .plane-of .result) (c .before .before .grid .result) (c .before .grid2 .result)
-place c = let s = c .before .before .before .before .before .before .before .before .before in placed (s .args .format) (s .args .row) (s .args .column) (c .before .before .before .before .before .loop .b) (c .before .before .before .plane-of .result) (c .before .before .grid .result) (c .before .grid2 .result) (s .pre .2) (s .pre .3) (search needs) (c .before .before .before .plane-of .ensures) (c .before .before .grid .ensures) (c .before .grid2 .ensures)
+module _ (c : tie.After-block-arg Inv-loop μ-loop) where
+  abbrev began : tie.Start Inv-loop μ-loop
+  began = c .before .before .before .before .before .before .before .before .before
+
+  abbrev b : ℕ
+  b = c .before .before .before .before .before .loop .b
+
+  place : Placed (began .args .format) (began .args .row) (began .args .column) b (c .before .before .before .plane-of .result) (c .before .before .grid .result)
+      (c .before .grid2 .result)
+  place =
+      placed (began .args .format) (began .args .row) (began .args .column) b (c .before .before .before .plane-of .result) (c .before .before .grid .result)
+      (c .before .grid2 .result) (began .pre .2) (began .pre .3) (search needs) (c .before .before .before .plane-of .ensures) (c .before .before .grid .ensures)
+      (c .before .grid2 .ensures)
 
 block-requires : tie.Need-block-requires Inv-loop μ-loop
-block-requires c κs = let s = c .before .before .before .before .before .before .before .before .before in (s .pre .0, c .before .before .before .before .before .loop .inv .1 .size ∙ s .pre .1, place c .on, aims (place c .row) (place c .column) (s .pre .4), search needs, s .pre .6, s .pre .7)
+block-requires c κs =
+    let at-loop = c .before .before .before .before .before in
+    let start = at-loop .before .before .before .before in (
+      start .pre .0,
+      at-loop .loop .inv .1 .size ∙ start .pre .1,
+      place c .on,
+      aims (place c .row) (place c .column) (start .pre .4),
+      search needs,
+      start .pre .6,
+      start .pre .7,
+    )
 
 add-b : tie.Need-add-b Inv-loop μ-loop
 add-b c = search needs
@@ -48,7 +72,15 @@ loop-less : tie.Need-loop-less Inv-loop μ-loop
 loop-less c = search needs
 
 loop-again : tie.Need-loop-again Inv-loop μ-loop
-loop-again c = let s = c .before .before .before .before .before .before .before .before .before .before .before .before in (search needs, sent-more (s .args .reference .now) (s .args .prediction) (vectorFrom (s .args .horizontal) (s .args .vertical)) (λ b. differenceOf (bytesFrom (s .args .levels .now) (s .args .at + b * 64)) (intraOf (s .args .prediction)) (s .args .quantiser)) (place (c .before .before .before)) (c .before .before .before .before .before .before .before .before .loop .inv .1) (c .before .before .block .ensures))
+loop-again c =
+    let at-loop = c .before .before .before .before .before .before .before .before in
+    let start = at-loop .before .before .before .before in
+    let prediction = start .args .prediction in (
+      search needs,
+      sent-more (start .args .reference .now) prediction (vectorFrom (start .args .horizontal) (start .args .vertical))
+          (λ b. differenceOf (bytesFrom (start .args .levels .now) (start .args .at + b * 64)) (intraOf prediction) (start .args .quantiser))
+          (place (c .before .before .before)) (at-loop .loop .inv .1) (c .before .before .block .ensures),
+    )
 
 same-length : tie.Need-same-length Inv-loop μ-loop
 same-length c = c .before .loop .inv .1 .size

@@ -31,7 +31,10 @@ add-put-eight : tie.Need-add-put-eight Inv-loop μ-loop
 add-put-eight c = omega (arith, c .before .before .before .before .before .before .pre .2 (c .before .before .before .loop .i) (search needs))
 
 put-eight-requires : tie.Need-put-eight-requires Inv-loop μ-loop
-put-eight-requires c κs = omega (arith, c .before .before .before .before .before .before .pre .2 (c .before .before .before .loop .i) (search needs), c .before .before .before .loop .inv .1 .size)
+put-eight-requires c κs =
+    let at-loop = c .before .before .before in
+    let start = at-loop .before .before .before in
+    omega (arith, start .pre .2 (at-loop .loop .i) (search needs), at-loop .loop .inv .1 .size)
 
 add-i : tie.Need-add-i Inv-loop μ-loop
 add-i c = search needs
@@ -40,7 +43,13 @@ loop-less : tie.Need-loop-less Inv-loop μ-loop
 loop-less c = search needs
 
 loop-again : tie.Need-loop-again Inv-loop μ-loop
-loop-again c = (search needs, put-more (c .before .before .before .before .before .before .before .before .before .pre .0) (c .before .before .before .before .before .before .loop .inv .1) (row-as (λ j l. c .before .before .before .before .eight .ensures .first j l) (c .before .before .put-eight .ensures)))
+loop-again c =
+    let at-eight = c .before .before .before .before in
+    let start = at-eight .before .before .before .before .before in (
+      search needs,
+      put-more (start .pre .0) (at-eight .before .before .loop .inv .1)
+          (row-as (λ j l. at-eight .eight .ensures .first j l) (c .before .before .put-eight .ensures)),
+    )
 
 same-length : tie.Need-same-length Inv-loop μ-loop
 same-length c = search needs

@@ -29,10 +29,16 @@ loop-less : tie.Need-loop-less Inv-loop μ-loop
 loop-less c = search needs
 
 loop-again : tie.Need-loop-again Inv-loop μ-loop
-loop-again c = let s = c .before .before .before in let l = c .before .before .loop in (search needs, search needs, or-from (bytesFrom (s .args .levels .now) (s .args .at)) 8 (l .bits) (l .k) (l .inv .0) (l .inv .2))
+loop-again c =
+    let start = c .before .before .before in
+    let l = c .before .before .loop in
+    (search needs, search needs, or-from (bytesFrom (start .args .levels .now) (start .args .at)) 8 (l .bits) (l .k) (l .inv .0) (l .inv .2))
 
 returns : tie.Need-returns Inv-loop μ-loop
-returns c = let s = c .before .before in let l = c .before .loop in or-end (λ j. bytesFrom (s .args .levels .now) (s .args .at) (8 + j)) (l .k) (l .inv .2) (search needs) (search needs)
+returns c =
+    let start = c .before .before in
+    let l = c .before .loop in
+    or-end (λ j. bytesFrom (start .args .levels .now) (start .args .at) (8 + j)) (l .k) (l .inv .2) (search needs) (search needs)
 
 pub far-spec : {M : Type 1} → statement M
 far-spec =

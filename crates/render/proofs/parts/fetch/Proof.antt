@@ -45,7 +45,10 @@ shared-slice-read-block : tie.Need-shared-slice-read-block Inv-loop2 μ-loop2 In
 shared-slice-read-block c = omega (arith, c .before .before .before .before .before .pre (c .before .before .before .before .loop .i) (search needs))
 
 cast-block : tie.Need-cast-block Inv-loop2 μ-loop2 Inv-loop μ-loop
-cast-block c = let s = c .before .before .before .before .before in byte-fits _ (omega (arith, c .shared-slice-known .given (s .args .start + c .before .before .before .before .loop .i * s .args .stride + c .before .before .loop2 .j)))
+cast-block c =
+    let at-loop = c .before .before .before .before in
+    let start = at-loop .before in
+    byte-fits _ (omega (arith, c .shared-slice-known .given (start .args .start + at-loop .loop .i * start .args .stride + c .before .before .loop2 .j)))
 
 mul-t16 : tie.Need-mul-t16 Inv-loop2 μ-loop2 Inv-loop μ-loop
 mul-t16 c = search needs
@@ -66,7 +69,14 @@ loop2-less : tie.Need-loop2-less Inv-loop2 μ-loop2 Inv-loop μ-loop
 loop2-less c = search needs
 
 loop2-again : tie.Need-loop2-again Inv-loop2 μ-loop2 Inv-loop μ-loop
-loop2-again c = let s = c .before .before .before .before .before in (search needs, done-more (pos 0) _ _ _ _ (c .before .before .loop2 .inv .1) (search needs) (search needs) (toZ-pos w32 (omega (arith, c .shared-slice-known .given (s .args .start + c .before .before .before .before .loop .i * s .args .stride + c .before .before .loop2 .j)))))
+loop2-again c =
+    let at-loop2 = c .before .before in
+    let start = at-loop2 .before .before .before in (
+      search needs,
+      done-more (pos 0) _ _ _ _ (at-loop2 .loop2 .inv .1) (search needs) (search needs)
+          (toZ-pos w32
+          (omega (arith, c .shared-slice-known .given (start .args .start + at-loop2 .before .before .loop .i * start .args .stride + at-loop2 .loop2 .j)))),
+    )
 
 add-i : tie.Need-add-i Inv-loop2 μ-loop2 Inv-loop μ-loop
 add-i c = search needs

@@ -33,7 +33,10 @@ add-put-sums : tie.Need-add-put-sums Inv-loop μ-loop
 add-put-sums c = omega (arith, c .before .before .before .before .before .pre .1 (c .before .before .before .loop .i) (search needs))
 
 put-sums-requires : tie.Need-put-sums-requires Inv-loop μ-loop
-put-sums-requires c κs = (omega (arith, c .before .before .before .before .before .pre .1 (c .before .before .before .loop .i) (search needs), c .before .before .before .loop .inv .1 .size), sampled (c .before .sums .ensures) (λ j. sample-most _ _))
+put-sums-requires c κs =
+    let at-loop = c .before .before .before in
+    let start = at-loop .before .before in
+    (omega (arith, start .pre .1 (at-loop .loop .i) (search needs), at-loop .loop .inv .1 .size), sampled (c .before .sums .ensures) (λ j. sample-most _ _))
 
 add-i : tie.Need-add-i Inv-loop μ-loop
 add-i c = search needs
@@ -42,7 +45,13 @@ loop-less : tie.Need-loop-less Inv-loop μ-loop
 loop-less c = search needs
 
 loop-again : tie.Need-loop-again Inv-loop μ-loop
-loop-again c = (search needs, put-more (c .before .before .before .before .before .before .before .before .pre .0) (c .before .before .before .before .before .before .loop .inv .1) (row-as (λ j l. ap natAbs (c .before .before .before .before .sums .ensures .entries j l)) (c .before .before .put-sums .ensures)))
+loop-again c =
+    let at-sums = c .before .before .before .before in
+    let start = at-sums .before .before .before .before in (
+      search needs,
+      put-more (start .pre .0) (at-sums .before .before .loop .inv .1)
+          (row-as (λ j l. ap natAbs (at-sums .sums .ensures .entries j l)) (c .before .before .put-sums .ensures)),
+    )
 
 same-length : tie.Need-same-length Inv-loop μ-loop
 same-length c = search needs

@@ -27,7 +27,10 @@ array-copy-out-store : tie.Need-array-copy-out-store Inv-loop μ-loop
 array-copy-out-store c = search needs
 
 cast-store : tie.Need-cast-store Inv-loop μ-loop
-cast-store c = let s = c .before .before .before .pre .1 (c .before .before .loop .j) (search needs) in rw (back w16 tt (sample-low s)) (sample-not-negative s, fits-below {n = 255} tt (sample-size s))
+cast-store c =
+    let start = c .before .before .before in
+    let s = start .pre .1 (c .before .before .loop .j) (search needs) in
+    rw (back w16 tt (sample-low s)) (sample-not-negative s, fits-below {n = 255} tt (sample-size s))
 
 add-store : tie.Need-add-store Inv-loop μ-loop
 add-store c = search needs
@@ -42,7 +45,10 @@ loop-less : tie.Need-loop-less Inv-loop μ-loop
 loop-less c = search needs
 
 loop-again : tie.Need-loop-again Inv-loop μ-loop
-loop-again c = (search needs, row-more (c .before .before .loop .inv .1) (search needs) (ap natAbs (back w16 tt (sample-low (c .before .before .before .pre .1 (c .before .before .loop .j) (search needs))))))
+loop-again c =
+    let at-loop = c .before .before in
+    let start = at-loop .before in
+    (search needs, row-more (at-loop .loop .inv .1) (search needs) (ap natAbs (back w16 tt (sample-low (start .pre .1 (at-loop .loop .j) (search needs))))))
 
 same-length : tie.Need-same-length Inv-loop μ-loop
 same-length c = search needs

@@ -45,7 +45,12 @@ index-2-sample-2 : tie.Need-index-2-sample-2 Inv-loop μ-loop
 index-2-sample-2 c = search needs
 
 sample-requires : tie.Need-sample-requires Inv-loop μ-loop
-sample-requires c κs = let s = c .before .before .before .before in let l = c .before .before .before .loop in (rw (back w32 tt (sample-low (s .pre .0 (s .args .i) (l .j)))) (s .pre .0 (s .args .i) (l .j)), rw (back w32 tt (s .pre .1 (s .args .i) (l .j))) (s .pre .1 (s .args .i) (l .j)))
+sample-requires c κs =
+    let at-loop = c .before .before .before in
+    let start = at-loop .before in
+    let i = start .args .i in
+    let l = at-loop .loop in
+    (rw (back w32 tt (sample-low (start .pre .0 i (l .j)))) (start .pre .0 i (l .j)), rw (back w32 tt (start .pre .1 i (l .j))) (start .pre .1 i (l .j)))
 
 mul-row : tie.Need-mul-row Inv-loop μ-loop
 mul-row c = search needs
@@ -60,7 +65,16 @@ loop-less : tie.Need-loop-less Inv-loop μ-loop
 loop-less c = search needs
 
 loop-again : tie.Need-loop-again Inv-loop μ-loop
-loop-again c = let s = c .before .before .before .before .before in let l = c .before .before .before .before .loop in (search needs, begins-more (l .inv .1) (search needs) (back16 (c .sample .result) (c .sample .ok) ∙ c .sample .ensures ∙ (λ z. pos (sampleOf (back w32 tt (sample-low (s .pre .0 (s .args .i) (l .j))) z) (back w32 tt (s .pre .1 (s .args .i) (l .j)) z)))))
+loop-again c =
+    let at-loop = c .before .before .before .before in
+    let start = at-loop .before in
+    let i = start .args .i in
+    let l = at-loop .loop in (
+      search needs,
+      begins-more (l .inv .1) (search needs) (back16 (c .sample .result) (c .sample .ok) ∙ c .sample .ensures
+          ∙ (λ z. pos
+          (sampleOf (back w32 tt (sample-low (start .pre .0 i (l .j))) z) (back w32 tt (start .pre .1 i (l .j)) z)))),
+    )
 
 returns : tie.Need-returns Inv-loop μ-loop
 returns c = starts-line (c .before .loop .inv .1) (search needs)

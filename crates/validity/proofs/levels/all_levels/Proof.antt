@@ -28,7 +28,9 @@ loop-less : tie.Need-loop-less Inv-loop μ-loop
 loop-less c = search needs
 
 loop-again : tie.Need-loop-again Inv-loop μ-loop
-loop-again c = all-more (c .before .before .before .loop .inv) (c .before .before .loop-test .taken) (level-yes _ (c .before .shared-slice-known .given (c .before .before .before .loop .i) .fits) (c .if1 .left))
+loop-again c =
+    let at-loop = c .before .before .before in
+    all-more (at-loop .loop .inv) (c .before .before .loop-test .taken) (level-yes _ (c .before .shared-slice-known .given (at-loop .loop .i) .fits) (c .if1 .left))
 
 returns-2 : tie.Need-returns-2 Inv-loop μ-loop
 returns-2 c = all-done (c .before .loop .inv) (c .loop-test .left)

@@ -8,7 +8,9 @@ shared-slice-read-kind : tie.Need-shared-slice-read-kind
 shared-slice-read-kind c = search needs
 
 returns : tie.Need-returns
-returns c = macroblock-type (c .before .before .before .before .args .format) (c .before .before .before .before .args .number) (c .before .before .before .before .args .address) (c .before .before .before .before .args .fields .now) (c .before .before .before .before .args .levels .now) (c .if1 .taken)
+returns c =
+    let start = c .before .before .before .before in
+    macroblock-type (start .args .format) (start .args .number) (start .args .address) (start .args .fields .now) (start .args .levels .now) (c .if1 .taken)
 
 shared-slice-read-valid-mquant : tie.Need-shared-slice-read-valid-mquant
 shared-slice-read-valid-mquant c = search needs
@@ -17,20 +19,45 @@ valid-mquant-requires : tie.Need-valid-mquant-requires
 valid-mquant-requires c κs = search needs
 
 returns-2 : tie.Need-returns-2
-returns-2 c = macroblock-mquant (c .before .before .before .before .before .before .before .args .format) (c .before .before .before .before .before .before .before .args .number) (c .before .before .before .before .before .before .before .args .address) (c .before .before .before .before .before .before .before .args .fields .now) (c .before .before .before .before .before .before .before .args .levels .now) (c .before .before .before .if1 .left) _ (c .before .valid-mquant .ensures) (not-true _ (c .if2 .taken))
+returns-2 c =
+    let at-if1 = c .before .before .before in
+    let start = at-if1 .before .before .before .before in
+    macroblock-mquant (start .args .format) (start .args .number) (start .args .address) (start .args .fields .now) (start .args .levels .now) (at-if1 .if1 .left) _
+    (c .before .valid-mquant .ensures) (not-true _ (c .if2 .taken))
 
 valid-vector-requires : tie.Need-valid-vector-requires
 valid-vector-requires c κs = search needs
 
 returns-3 : tie.Need-returns-3
-returns-3 c = macroblock-vector (c .before .before .before .before .before .before .before .before .before .args .format) (c .before .before .before .before .before .before .before .before .before .args .number) (c .before .before .before .before .before .before .before .before .before .args .address) (c .before .before .before .before .before .before .before .before .before .args .fields .now) (c .before .before .before .before .before .before .before .before .before .args .levels .now) (c .before .before .before .before .before .if1 .left) _ (c .before .before .before .valid-mquant .ensures) (not-false _ (c .before .before .if2 .left)) _ (c .before .valid-vector .ensures) (not-true _ (c .if3 .taken))
+returns-3 c =
+    let at-valid-mquant = c .before .before .before in
+    let start = at-valid-mquant .before .before .before .before .before .before in
+    macroblock-vector (start .args .format) (start .args .number) (start .args .address) (start .args .fields .now) (start .args .levels .now)
+    (at-valid-mquant .before .before .if1 .left) _ (at-valid-mquant .valid-mquant .ensures) (not-false _ (c .before .before .if2 .left)) _
+    (c .before .valid-vector .ensures) (not-true _ (c .if3 .taken))
 
 valid-levels-requires : tie.Need-valid-levels-requires
 valid-levels-requires c κs = search needs
 
 returns-4 : tie.Need-returns-4
-returns-4 c = macroblock-yes (c .before .before .before .before .before .before .before .before .before .before .args .format) (c .before .before .before .before .before .before .before .before .before .before .args .number) (c .before .before .before .before .before .before .before .before .before .before .args .address) (c .before .before .before .before .before .before .before .before .before .before .args .fields .now) (c .before .before .before .before .before .before .before .before .before .before .args .levels .now) (c .before .before .before .before .before .before .if1 .left) _ (c .before .before .before .before .valid-mquant .ensures) (not-false _ (c .before .before .before .if2 .left)) _ (c .before .before .valid-vector .ensures) (not-false _ (c .before .if3 .left)) _ (c .valid-levels .ensures)
+returns-4 c =
+    let at-if2 = c .before .before .before in
+    let at-if1 = at-if2 .before .before .before in
+    let start = at-if1 .before .before .before .before in
+    macroblock-yes (start .args .format) (start .args .number) (start .args .address) (start .args .fields .now) (start .args .levels .now) (at-if1 .if1 .left) _
+    (at-if2 .before .valid-mquant .ensures) (not-false _ (at-if2 .if2 .left)) _ (c .before .before .valid-vector .ensures) (not-false _ (c .before .if3 .left))
+    _ (c .valid-levels .ensures)
 
 pub valid-macroblock-spec : {M : Type 1} → statement M
 valid-macroblock-spec =
-    tie.close (tie.spec shared-slice-read-kind returns shared-slice-read-valid-mquant valid-mquant-requires returns-2 valid-vector-requires returns-3 valid-levels-requires returns-4)
+    tie.close
+    (tie.spec
+    shared-slice-read-kind
+    returns
+    shared-slice-read-valid-mquant
+    valid-mquant-requires
+    returns-2
+    valid-vector-requires
+    returns-3
+    valid-levels-requires
+    returns-4)

@@ -13,10 +13,16 @@ is-quantiser-requires : tie.Need-is-quantiser-requires
 is-quantiser-requires c κs = search needs
 
 returns : tie.Need-returns
-returns c = c .is-quantiser .ensures ∙ ap (λ (b : Bool). pick b (isQuantiser (c .before .before .before .args .mquant)) (isZero (c .before .before .before .args .mquant))) (sym (c .before .if1 .taken) ∙ c .before .before .has-mquant .ensures)
+returns c =
+    let start = c .before .before .before in
+    let mquant = start .args .mquant in
+    c .is-quantiser .ensures ∙ ap (λ (b : Bool). pick b (isQuantiser mquant) (isZero mquant)) (sym (c .before .if1 .taken) ∙ c .before .before .has-mquant .ensures)
 
 returns-2 : tie.Need-returns-2
-returns-2 c = ap (λ (b : Bool). pick b (isQuantiser (c .before .before .args .mquant)) (isZero (c .before .before .args .mquant))) (sym (c .if1 .left) ∙ c .before .has-mquant .ensures)
+returns-2 c =
+    let start = c .before .before in
+    let mquant = start .args .mquant in
+    ap (λ (b : Bool). pick b (isQuantiser mquant) (isZero mquant)) (sym (c .if1 .left) ∙ c .before .has-mquant .ensures)
 
 pub valid-mquant-spec : {M : Type 1} → statement M
 valid-mquant-spec =

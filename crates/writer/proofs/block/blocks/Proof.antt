@@ -37,7 +37,18 @@ part-block-end : tie.Need-part-block-end Inv-loop μ-loop
 part-block-end c = omega (arith, c .before .before .before .before .pre .1, c .loop-test .taken)
 
 block-requires : tie.Need-block-requires Inv-loop μ-loop
-block-requires c κs = (c .before .before .before .before .before .before .pre .0, piece-length (c .before .before .before .before .before .before .args .levels .now) (c .before .before .before .loop .b * 64) 64 (omega (arith, c .before .before .before .before .before .before .pre .1, c .before .before .loop-test .taken)), all-take isLevel (c .before .before .before .loop .b * 64 + 64 - c .before .before .before .loop .b * 64) (drop (c .before .before .before .loop .b * 64) (c .before .before .before .before .before .before .args .levels .now)) (all-drop isLevel (c .before .before .before .loop .b * 64) (c .before .before .before .before .before .before .args .levels .now) (c .before .before .before .before .before .before .pre .2)), block-begins (c .before .before .before .before .before .before .args .levels .now) (c .before .before .before .before .before .before .args .intra) (c .before .before .before .loop .b) (c .before .before .before .before .before .before .pre .3) (c .before .before .loop-test .taken), blocks-room (c .before .before .before .loop .inv) (c .before .before .before .before .before .before .pre .4) (c .before .before .loop-test .taken))
+block-requires c κs =
+    let at-loop-test = c .before .before in
+    let at-loop = at-loop-test .before in
+    let start = at-loop .before .before .before in
+    let levels = start .args .levels .now in (
+      start .pre .0,
+      piece-length levels (at-loop .loop .b * 64) 64 (omega (arith, start .pre .1, at-loop-test .loop-test .taken)),
+      all-take isLevel (at-loop .loop .b * 64 + 64 - at-loop .loop .b * 64) (drop (at-loop .loop .b * 64) levels)
+          (all-drop isLevel (at-loop .loop .b * 64) levels (start .pre .2)),
+      block-begins levels (start .args .intra) (at-loop .loop .b) (start .pre .3) (at-loop-test .loop-test .taken),
+      blocks-room (at-loop .loop .inv) (start .pre .4) (at-loop-test .loop-test .taken),
+    )
 
 add-b : tie.Need-add-b Inv-loop μ-loop
 add-b c = search needs
@@ -46,7 +57,10 @@ loop-less : tie.Need-loop-less Inv-loop μ-loop
 loop-less c = search needs
 
 loop-again : tie.Need-loop-again Inv-loop μ-loop
-loop-again c = blocks-more (c .before .before .before .before .before .before .loop .inv) (c .before .before .before .before .before .before .before .before .before .pre .4) (c .before .before .before .before .before .loop-test .taken) (c .before .before .block .ensures)
+loop-again c =
+    let at-loop-test = c .before .before .before .before .before in
+    let start = at-loop-test .before .before .before .before in
+    blocks-more (at-loop-test .before .loop .inv) (start .pre .4) (at-loop-test .loop-test .taken) (c .before .before .block .ensures)
 
 same-length : tie.Need-same-length Inv-loop μ-loop
 same-length c = wrote-long (c .before .loop .inv .wrote) (c .before .before .before .before .pre .4) (omega (arith, c .before .loop .inv .count))

@@ -9,7 +9,9 @@ put-requires : tie.Need-put-requires
 put-requires c κs = (c .before .before .pre .0, c .before .before .pre .1, c .before .before .pre .2, omega (arith, c .before .before .pre .1, c .before .before .pre .3 .fits))
 
 add-result : tie.Need-add-result
-add-result c = omega (arith, c .before .before .before .before .before .pre .1, c .before .before .before .before .before .pre .3 .fits, c .before .before .before .before .before .pre .3 .short)
+add-result c =
+    let start = c .before .before .before .before .before in
+    omega (arith, start .pre .1, start .pre .3 .fits, start .pre .3 .short)
 
 same-length : tie.Need-same-length
 same-length c = search needs

@@ -1,8 +1,9 @@
 use native.Mathlib.Omega.{arith}
 use borrow.Author.Needs.{needs}
-use lib.ListN.{take, drop}
-use Rattle.description.specs.Flat.{gather}
-use Rattle.writer.proofs.BlockTurn.{present-low, pattern-is}
+use Prim.Native.Nat.{_≤_}
+use Rattle.description.specs.Flat.{gathers}
+use Rattle.writer.specs.Write.{patternOf}
+use Rattle.writer.proofs.BlockTurn.{pattern-low, pattern-is}
 use Rattle.writer.proofs.block.pattern.Statement.{statement}
 use Rattle.writer.proofs.block.pattern.Tie as tie
 
@@ -78,39 +79,88 @@ part-present-end-6 c = search needs
 present-requires-6 : tie.Need-present-requires-6
 present-requires-6 c κs = search needs
 
+returns : tie.Need-returns
+returns c =
+    let at-present4 = c .before .before .before .before in
+    let at-present2 = at-present4 .before .before .before .before in
+    let start = at-present2 .before .before .before .before .before in
+    pattern-is (start .args .levels .now) _ _ _ _ _ _ (at-present2 .before .before .present .ensures) (at-present2 .present2 .ensures)
+    (at-present4 .before .before .present3 .ensures) (at-present4 .present4 .ensures) (c .before .before .present5 .ensures) (c .present6 .ensures)
+
+-- the whole has six bits
+module _ (c : tie.After-present6) where
+  abbrev start : tie.Start
+  start = c .before .before .before .before .before .before .before .before .before .before .before .before .before
+
+  low : patternOf (gathers 6 (start .args .levels .now)) ≤ 63
+  low = pattern-low (start .args .levels .now)
+
 mul-result : tie.Need-mul-result
-mul-result c = omega (arith, c .before .before .before .before .before .before .before .before .before .before .present .ensures, present-low (gather 0 (take 64 (drop 0 (c .before .before .before .before .before .before .before .before .before .before .before .before .before .args .levels .now)))), c .before .before .before .before .before .before .before .before .present2 .ensures, present-low (gather 0 (take 64 (drop 64 (c .before .before .before .before .before .before .before .before .before .before .before .before .before .args .levels .now)))), c .before .before .before .before .before .before .present3 .ensures, present-low (gather 0 (take 64 (drop 128 (c .before .before .before .before .before .before .before .before .before .before .before .before .before .args .levels .now)))), c .before .before .before .before .present4 .ensures, present-low (gather 0 (take 64 (drop 192 (c .before .before .before .before .before .before .before .before .before .before .before .before .before .args .levels .now)))), c .before .before .present5 .ensures, present-low (gather 0 (take 64 (drop 256 (c .before .before .before .before .before .before .before .before .before .before .before .before .before .args .levels .now)))), c .present6 .ensures, present-low (gather 0 (take 64 (drop 320 (c .before .before .before .before .before .before .before .before .before .before .before .before .before .args .levels .now)))))
+mul-result c = omega (arith, returns c, low c)
 
 mul-result-2 : tie.Need-mul-result-2
-mul-result-2 c = omega (arith, c .before .before .before .before .before .before .before .before .before .before .present .ensures, present-low (gather 0 (take 64 (drop 0 (c .before .before .before .before .before .before .before .before .before .before .before .before .before .args .levels .now)))), c .before .before .before .before .before .before .before .before .present2 .ensures, present-low (gather 0 (take 64 (drop 64 (c .before .before .before .before .before .before .before .before .before .before .before .before .before .args .levels .now)))), c .before .before .before .before .before .before .present3 .ensures, present-low (gather 0 (take 64 (drop 128 (c .before .before .before .before .before .before .before .before .before .before .before .before .before .args .levels .now)))), c .before .before .before .before .present4 .ensures, present-low (gather 0 (take 64 (drop 192 (c .before .before .before .before .before .before .before .before .before .before .before .before .before .args .levels .now)))), c .before .before .present5 .ensures, present-low (gather 0 (take 64 (drop 256 (c .before .before .before .before .before .before .before .before .before .before .before .before .before .args .levels .now)))), c .present6 .ensures, present-low (gather 0 (take 64 (drop 320 (c .before .before .before .before .before .before .before .before .before .before .before .before .before .args .levels .now)))))
+mul-result-2 c = omega (arith, returns c, low c)
 
 add-result : tie.Need-add-result
-add-result c = omega (arith, c .before .before .before .before .before .before .before .before .before .before .present .ensures, present-low (gather 0 (take 64 (drop 0 (c .before .before .before .before .before .before .before .before .before .before .before .before .before .args .levels .now)))), c .before .before .before .before .before .before .before .before .present2 .ensures, present-low (gather 0 (take 64 (drop 64 (c .before .before .before .before .before .before .before .before .before .before .before .before .before .args .levels .now)))), c .before .before .before .before .before .before .present3 .ensures, present-low (gather 0 (take 64 (drop 128 (c .before .before .before .before .before .before .before .before .before .before .before .before .before .args .levels .now)))), c .before .before .before .before .present4 .ensures, present-low (gather 0 (take 64 (drop 192 (c .before .before .before .before .before .before .before .before .before .before .before .before .before .args .levels .now)))), c .before .before .present5 .ensures, present-low (gather 0 (take 64 (drop 256 (c .before .before .before .before .before .before .before .before .before .before .before .before .before .args .levels .now)))), c .present6 .ensures, present-low (gather 0 (take 64 (drop 320 (c .before .before .before .before .before .before .before .before .before .before .before .before .before .args .levels .now)))))
+add-result c = omega (arith, returns c, low c)
 
 mul-result-3 : tie.Need-mul-result-3
-mul-result-3 c = omega (arith, c .before .before .before .before .before .before .before .before .before .before .present .ensures, present-low (gather 0 (take 64 (drop 0 (c .before .before .before .before .before .before .before .before .before .before .before .before .before .args .levels .now)))), c .before .before .before .before .before .before .before .before .present2 .ensures, present-low (gather 0 (take 64 (drop 64 (c .before .before .before .before .before .before .before .before .before .before .before .before .before .args .levels .now)))), c .before .before .before .before .before .before .present3 .ensures, present-low (gather 0 (take 64 (drop 128 (c .before .before .before .before .before .before .before .before .before .before .before .before .before .args .levels .now)))), c .before .before .before .before .present4 .ensures, present-low (gather 0 (take 64 (drop 192 (c .before .before .before .before .before .before .before .before .before .before .before .before .before .args .levels .now)))), c .before .before .present5 .ensures, present-low (gather 0 (take 64 (drop 256 (c .before .before .before .before .before .before .before .before .before .before .before .before .before .args .levels .now)))), c .present6 .ensures, present-low (gather 0 (take 64 (drop 320 (c .before .before .before .before .before .before .before .before .before .before .before .before .before .args .levels .now)))))
+mul-result-3 c = omega (arith, returns c, low c)
 
 add-result-2 : tie.Need-add-result-2
-add-result-2 c = omega (arith, c .before .before .before .before .before .before .before .before .before .before .present .ensures, present-low (gather 0 (take 64 (drop 0 (c .before .before .before .before .before .before .before .before .before .before .before .before .before .args .levels .now)))), c .before .before .before .before .before .before .before .before .present2 .ensures, present-low (gather 0 (take 64 (drop 64 (c .before .before .before .before .before .before .before .before .before .before .before .before .before .args .levels .now)))), c .before .before .before .before .before .before .present3 .ensures, present-low (gather 0 (take 64 (drop 128 (c .before .before .before .before .before .before .before .before .before .before .before .before .before .args .levels .now)))), c .before .before .before .before .present4 .ensures, present-low (gather 0 (take 64 (drop 192 (c .before .before .before .before .before .before .before .before .before .before .before .before .before .args .levels .now)))), c .before .before .present5 .ensures, present-low (gather 0 (take 64 (drop 256 (c .before .before .before .before .before .before .before .before .before .before .before .before .before .args .levels .now)))), c .present6 .ensures, present-low (gather 0 (take 64 (drop 320 (c .before .before .before .before .before .before .before .before .before .before .before .before .before .args .levels .now)))))
+add-result-2 c = omega (arith, returns c, low c)
 
 mul-result-4 : tie.Need-mul-result-4
-mul-result-4 c = omega (arith, c .before .before .before .before .before .before .before .before .before .before .present .ensures, present-low (gather 0 (take 64 (drop 0 (c .before .before .before .before .before .before .before .before .before .before .before .before .before .args .levels .now)))), c .before .before .before .before .before .before .before .before .present2 .ensures, present-low (gather 0 (take 64 (drop 64 (c .before .before .before .before .before .before .before .before .before .before .before .before .before .args .levels .now)))), c .before .before .before .before .before .before .present3 .ensures, present-low (gather 0 (take 64 (drop 128 (c .before .before .before .before .before .before .before .before .before .before .before .before .before .args .levels .now)))), c .before .before .before .before .present4 .ensures, present-low (gather 0 (take 64 (drop 192 (c .before .before .before .before .before .before .before .before .before .before .before .before .before .args .levels .now)))), c .before .before .present5 .ensures, present-low (gather 0 (take 64 (drop 256 (c .before .before .before .before .before .before .before .before .before .before .before .before .before .args .levels .now)))), c .present6 .ensures, present-low (gather 0 (take 64 (drop 320 (c .before .before .before .before .before .before .before .before .before .before .before .before .before .args .levels .now)))))
+mul-result-4 c = omega (arith, returns c, low c)
 
 add-result-3 : tie.Need-add-result-3
-add-result-3 c = omega (arith, c .before .before .before .before .before .before .before .before .before .before .present .ensures, present-low (gather 0 (take 64 (drop 0 (c .before .before .before .before .before .before .before .before .before .before .before .before .before .args .levels .now)))), c .before .before .before .before .before .before .before .before .present2 .ensures, present-low (gather 0 (take 64 (drop 64 (c .before .before .before .before .before .before .before .before .before .before .before .before .before .args .levels .now)))), c .before .before .before .before .before .before .present3 .ensures, present-low (gather 0 (take 64 (drop 128 (c .before .before .before .before .before .before .before .before .before .before .before .before .before .args .levels .now)))), c .before .before .before .before .present4 .ensures, present-low (gather 0 (take 64 (drop 192 (c .before .before .before .before .before .before .before .before .before .before .before .before .before .args .levels .now)))), c .before .before .present5 .ensures, present-low (gather 0 (take 64 (drop 256 (c .before .before .before .before .before .before .before .before .before .before .before .before .before .args .levels .now)))), c .present6 .ensures, present-low (gather 0 (take 64 (drop 320 (c .before .before .before .before .before .before .before .before .before .before .before .before .before .args .levels .now)))))
+add-result-3 c = omega (arith, returns c, low c)
 
 mul-result-5 : tie.Need-mul-result-5
-mul-result-5 c = omega (arith, c .before .before .before .before .before .before .before .before .before .before .present .ensures, present-low (gather 0 (take 64 (drop 0 (c .before .before .before .before .before .before .before .before .before .before .before .before .before .args .levels .now)))), c .before .before .before .before .before .before .before .before .present2 .ensures, present-low (gather 0 (take 64 (drop 64 (c .before .before .before .before .before .before .before .before .before .before .before .before .before .args .levels .now)))), c .before .before .before .before .before .before .present3 .ensures, present-low (gather 0 (take 64 (drop 128 (c .before .before .before .before .before .before .before .before .before .before .before .before .before .args .levels .now)))), c .before .before .before .before .present4 .ensures, present-low (gather 0 (take 64 (drop 192 (c .before .before .before .before .before .before .before .before .before .before .before .before .before .args .levels .now)))), c .before .before .present5 .ensures, present-low (gather 0 (take 64 (drop 256 (c .before .before .before .before .before .before .before .before .before .before .before .before .before .args .levels .now)))), c .present6 .ensures, present-low (gather 0 (take 64 (drop 320 (c .before .before .before .before .before .before .before .before .before .before .before .before .before .args .levels .now)))))
+mul-result-5 c = omega (arith, returns c, low c)
 
 add-result-4 : tie.Need-add-result-4
-add-result-4 c = omega (arith, c .before .before .before .before .before .before .before .before .before .before .present .ensures, present-low (gather 0 (take 64 (drop 0 (c .before .before .before .before .before .before .before .before .before .before .before .before .before .args .levels .now)))), c .before .before .before .before .before .before .before .before .present2 .ensures, present-low (gather 0 (take 64 (drop 64 (c .before .before .before .before .before .before .before .before .before .before .before .before .before .args .levels .now)))), c .before .before .before .before .before .before .present3 .ensures, present-low (gather 0 (take 64 (drop 128 (c .before .before .before .before .before .before .before .before .before .before .before .before .before .args .levels .now)))), c .before .before .before .before .present4 .ensures, present-low (gather 0 (take 64 (drop 192 (c .before .before .before .before .before .before .before .before .before .before .before .before .before .args .levels .now)))), c .before .before .present5 .ensures, present-low (gather 0 (take 64 (drop 256 (c .before .before .before .before .before .before .before .before .before .before .before .before .before .args .levels .now)))), c .present6 .ensures, present-low (gather 0 (take 64 (drop 320 (c .before .before .before .before .before .before .before .before .before .before .before .before .before .args .levels .now)))))
+add-result-4 c = omega (arith, returns c, low c)
 
 add-result-5 : tie.Need-add-result-5
-add-result-5 c = omega (arith, c .before .before .before .before .before .before .before .before .before .before .present .ensures, present-low (gather 0 (take 64 (drop 0 (c .before .before .before .before .before .before .before .before .before .before .before .before .before .args .levels .now)))), c .before .before .before .before .before .before .before .before .present2 .ensures, present-low (gather 0 (take 64 (drop 64 (c .before .before .before .before .before .before .before .before .before .before .before .before .before .args .levels .now)))), c .before .before .before .before .before .before .present3 .ensures, present-low (gather 0 (take 64 (drop 128 (c .before .before .before .before .before .before .before .before .before .before .before .before .before .args .levels .now)))), c .before .before .before .before .present4 .ensures, present-low (gather 0 (take 64 (drop 192 (c .before .before .before .before .before .before .before .before .before .before .before .before .before .args .levels .now)))), c .before .before .present5 .ensures, present-low (gather 0 (take 64 (drop 256 (c .before .before .before .before .before .before .before .before .before .before .before .before .before .args .levels .now)))), c .present6 .ensures, present-low (gather 0 (take 64 (drop 320 (c .before .before .before .before .before .before .before .before .before .before .before .before .before .args .levels .now)))))
-
-returns : tie.Need-returns
-returns c = pattern-is (c .before .before .before .before .before .before .before .before .before .before .before .before .before .args .levels .now) _ _ _ _ _ _ (c .before .before .before .before .before .before .before .before .before .before .present .ensures) (c .before .before .before .before .before .before .before .before .present2 .ensures) (c .before .before .before .before .before .before .present3 .ensures) (c .before .before .before .before .present4 .ensures) (c .before .before .present5 .ensures) (c .present6 .ensures)
+add-result-5 c = omega (arith, returns c, low c)
 
 pub pattern-spec : {M : Type 1} → statement M
 pattern-spec =
-    tie.close (tie.spec sub-present part-present-start part-present-end present-requires sub-present-2 part-present-start-2 part-present-end-2 present-requires-2 sub-present-3 part-present-start-3 part-present-end-3 present-requires-3 sub-present-4 part-present-start-4 part-present-end-4 present-requires-4 sub-present-5 part-present-start-5 part-present-end-5 present-requires-5 sub-present-6 part-present-start-6 part-present-end-6 present-requires-6 mul-result mul-result-2 add-result mul-result-3 add-result-2 mul-result-4 add-result-3 mul-result-5 add-result-4 add-result-5 returns)
+    tie.close
+    (tie.spec
+    sub-present
+    part-present-start
+    part-present-end
+    present-requires
+    sub-present-2
+    part-present-start-2
+    part-present-end-2
+    present-requires-2
+    sub-present-3
+    part-present-start-3
+    part-present-end-3
+    present-requires-3
+    sub-present-4
+    part-present-start-4
+    part-present-end-4
+    present-requires-4
+    sub-present-5
+    part-present-start-5
+    part-present-end-5
+    present-requires-5
+    sub-present-6
+    part-present-start-6
+    part-present-end-6
+    present-requires-6
+    mul-result
+    mul-result-2
+    add-result
+    mul-result-3
+    add-result-2
+    mul-result-4
+    add-result-3
+    mul-result-5
+    add-result-4
+    add-result-5
+    returns)

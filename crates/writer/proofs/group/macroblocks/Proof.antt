@@ -11,7 +11,8 @@ use Rattle.writer.proofs.group.macroblocks.Statement.{statement}
 use Rattle.writer.proofs.group.macroblocks.Tie as tie
 
 abbrev Inv-loop : tie.InvT-loop
-Inv-loop tables fields levels out₀ at last₀ horizontal₀ vertical₀ place₀ k₀ out last horizontal vertical place k = MacroblocksSoFar (macroblocksOf atStart (macroblocksIn 33 1 fields levels)) fields levels out₀ at out last horizontal vertical place k
+Inv-loop tables fields levels out₀ at last₀ horizontal₀ vertical₀ place₀ k₀ out last horizontal vertical place k =
+    MacroblocksSoFar (macroblocksOf atStart (macroblocksIn 33 1 fields levels)) fields levels out₀ at out last horizontal vertical place k
 
 abbrev μ-loop : tie.MeasureT-loop
 μ-loop tables fields levels out₀ at last₀ horizontal₀ vertical₀ place₀ k₀ out last horizontal vertical place k = 33 - k
@@ -62,25 +63,51 @@ part-macroblock-end-2 : tie.Need-part-macroblock-end-2 Inv-loop μ-loop
 part-macroblock-end-2 c = omega (arith, c .before .before .before .before .before .before .before .before .pre .2, c .before .before .before .loop-test .taken)
 
 macroblock-requires : tie.Need-macroblock-requires Inv-loop μ-loop
-macroblock-requires c κs = (c .before .before .before .before .before .before .before .before .before .before .pre .0, piece-length (c .before .before .before .before .before .before .before .before .before .before .args .fields .now) (c .before .before .before .before .before .before .loop .k * 4) 4 (omega (arith, c .before .before .before .before .before .before .before .before .before .before .pre .1, c .before .before .before .before .before .loop-test .taken)), piece-length (c .before .before .before .before .before .before .before .before .before .before .args .levels .now) (c .before .before .before .before .before .before .loop .k * 384) 384 (omega (arith, c .before .before .before .before .before .before .before .before .before .before .pre .2, c .before .before .before .before .before .loop-test .taken)), macroblock-sound (c .before .before .before .before .before .before .loop .inv) (c .before .before .before .before .before .loop-test .taken) (c .before .before .before .if1 .left) (c .before .before .before .before .before .before .before .before .before .before .pre .3), omega (arith, c .before .before .before .before .before .before .loop .inv .low), omega (arith, c .before .before .before .before .before .loop-test .taken), c .before .before .before .before .before .before .loop .inv .across, c .before .before .before .before .before .before .loop .inv .down, macroblocks-room (c .before .before .before .before .before .before .loop .inv) (c .before .before .before .before .before .loop-test .taken) (c .before .before .before .if1 .left) (c .before .before .before .before .before .before .before .before .before .before .pre .4))
+macroblock-requires c κs =
+    let at-if1 = c .before .before .before in
+    let at-loop-test = at-if1 .before .before in
+    let at-loop = at-loop-test .before in
+    let start = at-loop .before .before .before .before in (
+      start .pre .0,
+      piece-length (start .args .fields .now) (at-loop .loop .k * 4) 4 (omega (arith, start .pre .1, at-loop-test .loop-test .taken)),
+      piece-length (start .args .levels .now) (at-loop .loop .k * 384) 384 (omega (arith, start .pre .2, at-loop-test .loop-test .taken)),
+      macroblock-sound (at-loop .loop .inv) (at-loop-test .loop-test .taken) (at-if1 .if1 .left) (start .pre .3),
+      omega (arith, at-loop .loop .inv .low),
+      omega (arith, at-loop-test .loop-test .taken),
+      at-loop .loop .inv .across,
+      at-loop .loop .inv .down,
+      macroblocks-room (at-loop .loop .inv) (at-loop-test .loop-test .taken) (at-if1 .if1 .left) (start .pre .4),
+    )
 
 add-horizontal : tie.Need-add-horizontal Inv-loop μ-loop
 add-horizontal c = search needs
 
 shared-slice-read-horizontal : tie.Need-shared-slice-read-horizontal Inv-loop μ-loop
-shared-slice-read-horizontal c = omega (arith, c .before .before .before .before .before .before .before .before .before .before .before .before .before .before .pre .1, c .before .before .before .before .before .before .before .before .before .loop-test .taken)
+shared-slice-read-horizontal c =
+    let at-loop-test = c .before .before .before .before .before .before .before .before .before in
+    let start = at-loop-test .before .before .before .before .before in
+    omega (arith, start .pre .1, at-loop-test .loop-test .taken)
 
 add-vertical : tie.Need-add-vertical Inv-loop μ-loop
 add-vertical c = search needs
 
 shared-slice-read-vertical : tie.Need-shared-slice-read-vertical Inv-loop μ-loop
-shared-slice-read-vertical c = omega (arith, c .before .before .before .before .before .before .before .before .before .before .before .before .before .before .before .pre .1, c .before .before .before .before .before .before .before .before .before .before .loop-test .taken)
+shared-slice-read-vertical c =
+    let at-loop-test = c .before .before .before .before .before .before .before .before .before .before in
+    let start = at-loop-test .before .before .before .before .before in
+    omega (arith, start .pre .1, at-loop-test .loop-test .taken)
 
 loop-less-2 : tie.Need-loop-less-2 Inv-loop μ-loop
 loop-less-2 c = search needs
 
 loop-again-2 : tie.Need-loop-again-2 Inv-loop μ-loop
-loop-again-2 c = macroblocks-more (c .before .before .before .before .before .before .before .before .before .before .before .loop .inv) (c .before .before .before .before .before .before .before .before .before .before .loop-test .taken) (c .before .before .before .before .before .before .before .before .if1 .left) (c .before .before .before .before .before .before .before .before .before .before .before .before .before .before .before .pre .4) (c .before .before .before .before .before .before .before .before .before .before .before .before .before .before .before .pre .3) (c .before .before .before .before .macroblock .ensures)
+loop-again-2 c =
+    let at-macroblock = c .before .before .before .before in
+    let at-if1 = at-macroblock .before .before .before .before in
+    let at-loop = at-if1 .before .before .before in
+    let start = at-loop .before .before .before .before in
+    macroblocks-more (at-loop .loop .inv) (at-if1 .before .before .loop-test .taken) (at-if1 .if1 .left) (start .pre .4) (start .pre .3)
+    (at-macroblock .macroblock .ensures)
 
 same-length : tie.Need-same-length Inv-loop μ-loop
 same-length c = wrote-long (c .before .loop .inv .wrote) (c .before .before .before .before .before .pre .4) (omega (arith, c .before .loop .inv .count))
@@ -90,4 +117,31 @@ returns c = macroblocks-done (c .before .loop .inv) (c .loop-test .left)
 
 pub macroblocks-spec : {M : Type 1} → statement M
 macroblocks-spec =
-    tie.close (tie.spec Inv-loop μ-loop loop-holds mul-a mul-b add-k shared-slice-read-if1 loop-less loop-again add-macroblock sub-macroblock part-macroblock-start part-macroblock-end add-macroblock-2 sub-macroblock-2 part-macroblock-start-2 part-macroblock-end-2 macroblock-requires add-horizontal shared-slice-read-horizontal add-vertical shared-slice-read-vertical loop-less-2 loop-again-2 same-length returns)
+    tie.close
+    (tie.spec
+    Inv-loop
+    μ-loop
+    loop-holds
+    mul-a
+    mul-b
+    add-k
+    shared-slice-read-if1
+    loop-less
+    loop-again
+    add-macroblock
+    sub-macroblock
+    part-macroblock-start
+    part-macroblock-end
+    add-macroblock-2
+    sub-macroblock-2
+    part-macroblock-start-2
+    part-macroblock-end-2
+    macroblock-requires
+    add-horizontal
+    shared-slice-read-horizontal
+    add-vertical
+    shared-slice-read-vertical
+    loop-less-2
+    loop-again-2
+    same-length
+    returns)

@@ -18,7 +18,17 @@ pattern-requires : tie.Need-pattern-requires
 pattern-requires c κs = search needs
 
 cbp-codeword-requires : tie.Need-cbp-codeword-requires
-cbp-codeword-requires c κs = (c .before .before .before .before .before .pre .0, omega (arith, c .pattern .ensures, pattern-sent (c .before .before .before .before .before .args .kind) (c .before .before .before .before .before .args .levels .now) (c .before .before .before .before .before .pre .1) (c .before .before .before .before .before .pre .2) (sym (c .before .before .has-cbp .ensures) ∙ c .before .if1 .taken)), omega (arith, c .pattern .ensures, pattern-low (c .before .before .before .before .before .args .levels .now)))
+cbp-codeword-requires c κs =
+    let start = c .before .before .before .before .before in
+    let levels = start .args .levels .now in (
+      start .pre .0,
+      omega (
+        arith,
+        c .pattern .ensures,
+        pattern-sent (start .args .kind) levels (start .pre .1) (start .pre .2) (sym (c .before .before .has-cbp .ensures) ∙ c .before .if1 .taken),
+      ),
+      omega (arith, c .pattern .ensures, pattern-low levels),
+    )
 
 put-requires : tie.Need-put-requires
 put-requires c κs = put-ready (c .before .cbp-codeword .ensures) (c .before .before .before .before .before .before .before .pre .3)
@@ -27,7 +37,12 @@ same-length : tie.Need-same-length
 same-length c = search needs
 
 returns : tie.Need-returns
-returns c = given-so _ (sym (c .before .before .before .before .before .before .before .has-cbp .ensures) ∙ c .before .before .before .before .before .before .if1 .taken) (wrote-as (wrote-word (c .before .before .before .before .cbp-codeword .ensures) (c .before .before .put .ensures)) (ap (wordOf table4) (c .before .before .before .before .before .pattern .ensures)))
+returns c =
+    let at-cbp-codeword = c .before .before .before .before in
+    let at-has-cbp = at-cbp-codeword .before .before .before in
+    given-so _ (sym (at-has-cbp .has-cbp .ensures) ∙ at-cbp-codeword .before .before .if1 .taken)
+    (wrote-as (wrote-word (at-cbp-codeword .cbp-codeword .ensures) (c .before .before .put .ensures))
+    (ap (wordOf table4) (at-cbp-codeword .before .pattern .ensures)))
 
 returns-2 : tie.Need-returns-2
 returns-2 c = given-not (wordOf table4 (patternOf (gathers 6 (c .before .before .before .before .args .levels .now)))) _ (sym (c .before .has-cbp .ensures) ∙ c .if1 .left)

@@ -10,7 +10,9 @@ has-mquant-requires : tie.Need-has-mquant-requires
 has-mquant-requires c κs = search needs
 
 field-requires : tie.Need-field-requires
-field-requires c κs = (lit≤ tt, lit≤ tt, quantiser-fits (c .before .before .before .before .args .kind) (c .before .before .before .before .args .mquant) (c .before .before .before .before .pre .0), c .before .before .before .before .pre .1)
+field-requires c κs =
+    let start = c .before .before .before .before in
+    (lit≤ tt, lit≤ tt, quantiser-fits (start .args .kind) (start .args .mquant) (start .pre .0), start .pre .1)
 
 same-length : tie.Need-same-length
 same-length c = search needs

@@ -25,7 +25,12 @@ same-length : tie.Need-same-length
 same-length c = search needs
 
 returns : tie.Need-returns
-returns c = wrote-as (wrote-word (c .before .before .before .before .mvd-codeword .ensures) (c .before .before .put .ensures)) (ap (wordOf table3) (difference (c .before .before .before .before .before .before .args .preceding) (c .before .before .before .before .before .before .args .byte) (c .before .before .before .before .before .before .fits .preceding .fits) (c .before .before .before .before .before .before .fits .byte .fits) (c .before .before .before .before .before .before .pre .1) (c .before .before .before .before .before .before .pre .2)))
+returns c =
+    let at-mvd-codeword = c .before .before .before .before in
+    let start = at-mvd-codeword .before .before in
+    wrote-as (wrote-word (at-mvd-codeword .mvd-codeword .ensures) (c .before .before .put .ensures))
+    (ap (wordOf table3)
+    (difference (start .args .preceding) (start .args .byte) (start .fits .preceding .fits) (start .fits .byte .fits) (start .pre .1) (start .pre .2)))
 
 pub component-spec : {M : Type 1} → statement M
 component-spec =

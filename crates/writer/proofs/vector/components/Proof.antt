@@ -7,13 +7,22 @@ component-requires : tie.Need-component-requires
 component-requires c κs = (c .before .before .pre .0, c .before .before .pre .1, c .before .before .pre .3, room-less 24 (c .before .before .pre .5) (lit≤ tt))
 
 component-requires-2 : tie.Need-component-requires-2
-component-requires-2 c κs = (c .before .before .before .before .before .before .pre .0, c .before .before .before .before .before .before .pre .2, c .before .before .before .before .before .before .pre .4, room-after (c .before .before .before .component .ensures) (c .before .before .before .before .before .before .pre .5) (lit≤ tt) 24 (lit≤ tt))
-
-same-length : tie.Need-same-length
-same-length c = wrote-long (wrote-then (c .before .before .before .before .before .before .component .ensures) (c .before .before .before .before .before .before .before .before .before .pre .5) (lit≤ tt) (c .before .before .component2 .ensures)) (c .before .before .before .before .before .before .before .before .before .pre .5) (lit≤ tt)
+component-requires-2 c κs =
+    let at-component = c .before .before .before in
+    let start = at-component .before .before .before in
+    (start .pre .0, start .pre .2, start .pre .4, room-after (at-component .component .ensures) (start .pre .5) (lit≤ tt) 24 (lit≤ tt))
 
 returns : tie.Need-returns
-returns c = wrote-then (c .before .before .before .before .before .before .component .ensures) (c .before .before .before .before .before .before .before .before .before .pre .5) (lit≤ tt) (c .before .before .component2 .ensures)
+returns c =
+    let at-component = c .before .before .before .before .before .before in
+    let start = at-component .before .before .before in
+    wrote-then (at-component .component .ensures) (start .pre .5) (lit≤ tt) (c .before .before .component2 .ensures)
+
+same-length : tie.Need-same-length
+same-length c =
+    let at-component = c .before .before .before .before .before .before in
+    let start = at-component .before .before .before in
+    wrote-long (returns c) (start .pre .5) (lit≤ tt)
 
 pub components-spec : {M : Type 1} → statement M
 components-spec =

@@ -17,10 +17,16 @@ returns-3 : tie.Need-returns-3
 returns-3 c = at-third (c .before .before .before .args .last) (c .before .before .before .args .step) _ refl (c .before .before .if1 .left) (c .before .if2 .left) (c .if3 .taken)
 
 returns-4 : tie.Need-returns-4
-returns-4 c = at-step (c .before .before .before .before .args .last) (c .before .before .before .before .args .step) _ refl (c .before .before .before .if1 .left) (c .before .before .if2 .left) (c .before .if3 .left) (c .if4 .taken)
+returns-4 c =
+    let at-if1 = c .before .before .before in
+    let start = at-if1 .before in
+    at-step (start .args .last) (start .args .step) _ refl (at-if1 .if1 .left) (c .before .before .if2 .left) (c .before .if3 .left) (c .if4 .taken)
 
 returns-5 : tie.Need-returns-5
-returns-5 c = at-last (c .before .before .before .before .args .last) (c .before .before .before .before .args .step) _ refl (c .before .before .before .if1 .left) (c .before .before .if2 .left) (c .before .if3 .left) (c .if4 .left)
+returns-5 c =
+    let at-if1 = c .before .before .before in
+    let start = at-if1 .before in
+    at-last (start .args .last) (start .args .step) _ refl (at-if1 .if1 .left) (c .before .before .if2 .left) (c .before .if3 .left) (c .if4 .left)
 
 pub restarts-spec : {M : Type 1} → statement M
 restarts-spec =

@@ -14,28 +14,54 @@ is-mc-requires : tie.Need-is-mc-requires
 is-mc-requires c κs = search needs
 
 returns : tie.Need-returns
-returns c = given-not (vectorOf (preceding (behind (c .before .before .before .args .last) (c .before .before .before .args .horizontal) (c .before .before .before .args .vertical)) (c .before .before .before .args .step)) (behind 0 (c .before .before .before .args .across) (c .before .before .before .args .down) .vector)) _ (sym (c .before .is-mc .ensures) ∙ not-true _ (c .if1 .taken))
+returns c =
+    let start = c .before .before .before in
+    given-not (vectorOf (preceding (behind (start .args .last) (start .args .horizontal) (start .args .vertical)) (start .args .step))
+    (behind 0 (start .args .across) (start .args .down) .vector))
+    _ (sym (c .before .is-mc .ensures) ∙ not-true _ (c .if1 .taken))
 
 restarts-requires : tie.Need-restarts-requires
 restarts-requires c κs = search needs
 
 components-requires : tie.Need-components-requires
-components-requires c κs = (c .before .before .before .before .before .before .pre .0, tt, tt, c .before .before .before .before .before .before .pre .4, c .before .before .before .before .before .before .pre .5, c .before .before .before .before .before .before .pre .6)
+components-requires c κs =
+    let start = c .before .before .before .before .before .before in
+    (start .pre .0, tt, tt, start .pre .4, start .pre .5, start .pre .6)
 
 same-length : tie.Need-same-length
 same-length c = search needs
 
 returns-2 : tie.Need-returns-2
-returns-2 c = pointing _ true (behind (c .before .before .before .before .before .before .before .before .before .args .last) (c .before .before .before .before .before .before .before .before .before .args .horizontal) (c .before .before .before .before .before .before .before .before .before .args .vertical)) (c .before .before .before .before .before .before .before .before .before .args .step) (behind 0 (c .before .before .before .before .before .before .before .before .before .args .across) (c .before .before .before .before .before .before .before .before .before .args .down) .vector) zeroVector (sym (c .before .before .before .before .before .before .before .is-mc .ensures) ∙ not-false _ (c .before .before .before .before .before .before .if1 .left)) (ap (λ (b : Bool). pick b zeroVector (behind 0 (c .before .before .before .before .before .before .before .before .before .args .horizontal) (c .before .before .before .before .before .before .before .before .before .args .vertical) .vector)) (sym (c .before .before .before .before .before .restarts .ensures) ∙ c .before .before .before .before .if2 .taken)) (c .before .before .components .ensures)
+returns-2 c =
+    let at-if2 = c .before .before .before .before in
+    let at-is-mc = at-if2 .before .before .before in
+    let start = at-is-mc .before .before in
+    let horizontal = start .args .horizontal in
+    let vertical = start .args .vertical in
+    pointing _ true (behind (start .args .last) horizontal vertical) (start .args .step) (behind 0 (start .args .across) (start .args .down) .vector) zeroVector
+    (sym (at-is-mc .is-mc .ensures) ∙ not-false _ (at-if2 .before .before .if1 .left))
+    (ap (λ (b : Bool). pick b zeroVector (behind 0 horizontal vertical .vector)) (sym (at-if2 .before .restarts .ensures) ∙ at-if2 .if2 .taken))
+    (c .before .before .components .ensures)
 
 components-requires-2 : tie.Need-components-requires-2
-components-requires-2 c κs = (c .before .before .before .before .before .before .pre .0, c .before .before .before .before .before .before .pre .2, c .before .before .before .before .before .before .pre .3, c .before .before .before .before .before .before .pre .4, c .before .before .before .before .before .before .pre .5, c .before .before .before .before .before .before .pre .6)
+components-requires-2 c κs =
+    let start = c .before .before .before .before .before .before in
+    (start .pre .0, start .pre .2, start .pre .3, start .pre .4, start .pre .5, start .pre .6)
 
 same-length-2 : tie.Need-same-length-2
 same-length-2 c = search needs
 
 returns-3 : tie.Need-returns-3
-returns-3 c = pointing _ true (behind (c .before .before .before .before .before .before .before .before .before .args .last) (c .before .before .before .before .before .before .before .before .before .args .horizontal) (c .before .before .before .before .before .before .before .before .before .args .vertical)) (c .before .before .before .before .before .before .before .before .before .args .step) (behind 0 (c .before .before .before .before .before .before .before .before .before .args .across) (c .before .before .before .before .before .before .before .before .before .args .down) .vector) (behind 0 (c .before .before .before .before .before .before .before .before .before .args .horizontal) (c .before .before .before .before .before .before .before .before .before .args .vertical) .vector) (sym (c .before .before .before .before .before .before .before .is-mc .ensures) ∙ not-false _ (c .before .before .before .before .before .before .if1 .left)) (ap (λ (b : Bool). pick b zeroVector (behind 0 (c .before .before .before .before .before .before .before .before .before .args .horizontal) (c .before .before .before .before .before .before .before .before .before .args .vertical) .vector)) (sym (c .before .before .before .before .before .restarts .ensures) ∙ c .before .before .before .before .if2 .left)) (c .before .before .components2 .ensures)
+returns-3 c =
+    let at-if2 = c .before .before .before .before in
+    let at-is-mc = at-if2 .before .before .before in
+    let start = at-is-mc .before .before in
+    let horizontal = start .args .horizontal in
+    let vertical = start .args .vertical in
+    pointing _ true (behind (start .args .last) horizontal vertical) (start .args .step) (behind 0 (start .args .across) (start .args .down) .vector)
+    (behind 0 horizontal vertical .vector) (sym (at-is-mc .is-mc .ensures) ∙ not-false _ (at-if2 .before .before .if1 .left))
+    (ap (λ (b : Bool). pick b zeroVector (behind 0 horizontal vertical .vector)) (sym (at-if2 .before .restarts .ensures) ∙ at-if2 .if2 .left))
+    (c .before .before .components2 .ensures)
 
 pub vector-spec : {M : Type 1} → statement M
 vector-spec =
