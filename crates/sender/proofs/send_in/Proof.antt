@@ -33,7 +33,8 @@ slice-aggregate-put c =
     let at-write = c .before .before .before .before .before .before in
     let start = at-write .before .before .before .before .before .before .before .before .before in
     let wrote = at-write .write in
-    bytes-long (start .pre .0) (start .args .scratch .now) (start .pre .1) (wrote .kept .1 .1 .1 .1 .0) (wrote .ensures .0) (wrote .ensures .1) (c .before .before .written .given .1)
+    bytes-long (start .pre .0) (start .args .scratch .now) (start .pre .1) (wrote .kept .1 .1 .1 .1 .0) (wrote .ensures .0) (wrote .ensures .1)
+    (c .before .before .written .given .1)
 
 put-requires : tie.Need-put-requires
 put-requires c κs =
@@ -65,7 +66,8 @@ returns c =
     let at-write = at-written .before .before .before .before in
     let start = at-write .before .before .before .before .before .before .before .before .before in
     let wrote = at-write .write in
-    sent-comes (start .pre .0) (start .args .scratch .now) (start .pre .1) (wrote .kept .1 .1 .1 .1 .0) (wrote .ensures .0) (wrote .ensures .1) (at-written .written .given .1) (at-put .put .ensures)
+    sent-comes (start .pre .0) (start .args .scratch .now) (start .pre .1) (wrote .kept .1 .1 .1 .1 .0) (wrote .ensures .0) (wrote .ensures .1)
+    (at-written .written .given .1) (at-put .put .ensures)
 
 same-length-5 : tie.Need-same-length-5
 same-length-5 c = search needs
