@@ -91,7 +91,7 @@ output-most Qcif = omega arith
 output-most Cif = omega arith
 
 -- ---- a call that passed its first judgements
-module _ {refreshed : Bool} (s : Sender) (head macroblocks levels out first second : List ℕ)
+module _ {refreshed : Bool} {s : Sender} {head macroblocks levels out first second : List ℕ}
     (p : Passed h261 s refreshed (flat head macroblocks levels) (buffers out first second)) (scratch : List ℕ) {after : List ℕ} {w : Written}
     (l : length scratch ≡ outputLength (s .format)) (k : length after ≡ length scratch)
     (a : w ≡ writeOf (s .format) (flat head macroblocks levels) (length scratch)) (o : after ≡ outputOf (s .format) (flat head macroblocks levels) scratch) where

@@ -223,7 +223,7 @@ present-some run [] e = absurd (true-false e)
 present-some run (zero ∷ xs) e = present-some (suc run) xs e
 present-some run (suc x ∷ xs) e = refl
 
-pub present-low : (b : Block) → present b ≤ 1
+present-low : (b : Block) → present b ≤ 1
 present-low [] = lit≤ tt
 present-low (c ∷ cs) = lit≤ tt
 

@@ -15,37 +15,34 @@ add-bytes : tie.Need-add-bytes
 add-bytes c =
     let at-write = c .before .before .before .before .before in
     let start = at-write .before .before .before .before .before .before .before .before .before in
+    let wrote = at-write .write in
     omega (
       arith,
-      count-fits (start .args .sender) (start .args .head .now) (start .args .macroblocks .now) (start .args .levels .now) (start .args .out .now)
-          (start .args .first .now) (start .args .second .now) (start .pre .0) (start .args .scratch .now) (start .pre .1)
-          (at-write .write .kept .1 .1 .1 .1 .0) (at-write .write .ensures .0) (at-write .write .ensures .1) (c .before .written .given .1),
+      count-fits (start .pre .0) (start .args .scratch .now) (start .pre .1) (wrote .kept .1 .1 .1 .1 .0) (wrote .ensures .0) (wrote .ensures .1) (c .before .written .given .1),
     )
 
 slice-reshare-prefix-put : tie.Need-slice-reshare-prefix-put
 slice-reshare-prefix-put c =
     let at-write = c .before .before .before .before .before in
     let start = at-write .before .before .before .before .before .before .before .before .before in
-    bytes-fit (start .args .sender) (start .args .head .now) (start .args .macroblocks .now) (start .args .levels .now) (start .args .out .now)
-    (start .args .first .now) (start .args .second .now) (start .pre .0) (start .args .scratch .now) (start .pre .1) (at-write .write .kept .1 .1 .1 .1 .0)
-    (at-write .write .ensures .0) (at-write .write .ensures .1) (c .before .written .given .1)
+    let wrote = at-write .write in
+    bytes-fit (start .pre .0) (start .args .scratch .now) (start .pre .1) (wrote .kept .1 .1 .1 .1 .0) (wrote .ensures .0) (wrote .ensures .1) (c .before .written .given .1)
 
 slice-aggregate-put : tie.Need-slice-aggregate-put
 slice-aggregate-put c =
     let at-write = c .before .before .before .before .before .before in
     let start = at-write .before .before .before .before .before .before .before .before .before in
-    bytes-long (start .args .sender) (start .args .head .now) (start .args .macroblocks .now) (start .args .levels .now) (start .args .out .now)
-    (start .args .first .now) (start .args .second .now) (start .pre .0) (start .args .scratch .now) (start .pre .1) (at-write .write .kept .1 .1 .1 .1 .0)
-    (at-write .write .ensures .0) (at-write .write .ensures .1) (c .before .before .written .given .1)
+    let wrote = at-write .write in
+    bytes-long (start .pre .0) (start .args .scratch .now) (start .pre .1) (wrote .kept .1 .1 .1 .1 .0) (wrote .ensures .0) (wrote .ensures .1)
+    (c .before .before .written .given .1)
 
 put-requires : tie.Need-put-requires
 put-requires c κs =
     let at-written = c .before .before .before .before .before in
     let at-write = at-written .before .before .before .before in
     let start = at-write .before .before .before .before .before .before .before .before .before in
-    is-encoded (start .args .sender) (start .args .head .now) (start .args .macroblocks .now) (start .args .levels .now) (start .args .out .now)
-    (start .args .first .now) (start .args .second .now) (start .pre .0) (start .args .scratch .now) (start .pre .1) (at-write .write .kept .1 .1 .1 .1 .0)
-    (at-write .write .ensures .0) (at-write .write .ensures .1) (at-written .written .given .1)
+    let wrote = at-write .write in
+    is-encoded (start .pre .0) (start .args .scratch .now) (start .pre .1) (wrote .kept .1 .1 .1 .1 .0) (wrote .ensures .0) (wrote .ensures .1) (at-written .written .given .1)
 
 enum-known-written-2 : tie.Need-enum-known-written-2
 enum-known-written-2 c = search needs
@@ -68,9 +65,9 @@ returns c =
     let at-written = at-put .before .before .before .before .before .before in
     let at-write = at-written .before .before .before .before in
     let start = at-write .before .before .before .before .before .before .before .before .before in
-    sent-comes (start .args .sender) (start .args .head .now) (start .args .macroblocks .now) (start .args .levels .now) (start .args .out .now)
-    (start .args .first .now) (start .args .second .now) (start .pre .0) (start .args .scratch .now) (start .pre .1) (at-write .write .kept .1 .1 .1 .1 .0)
-    (at-write .write .ensures .0) (at-write .write .ensures .1) (at-written .written .given .1) (at-put .put .ensures)
+    let wrote = at-write .write in
+    sent-comes (start .pre .0) (start .args .scratch .now) (start .pre .1) (wrote .kept .1 .1 .1 .1 .0) (wrote .ensures .0) (wrote .ensures .1)
+    (at-written .written .given .1) (at-put .put .ensures)
 
 same-length-5 : tie.Need-same-length-5
 same-length-5 c = search needs
@@ -79,9 +76,8 @@ returns-2 : tie.Need-returns-2
 returns-2 c =
     let at-write = c .before .before .before .before .before in
     let start = at-write .before .before .before .before .before .before .before .before .before in
-    refused-comes (start .args .sender) (start .args .head .now) (start .args .macroblocks .now) (start .args .levels .now) (start .args .out .now)
-    (start .args .first .now) (start .args .second .now) (start .pre .0) (start .args .scratch .now) (start .pre .1) (at-write .write .kept .1 .1 .1 .1 .0)
-    (at-write .write .ensures .0) (at-write .write .ensures .1) (c .before .written2 .given .1)
+    let wrote = at-write .write in
+    refused-comes (start .pre .0) (start .args .scratch .now) (start .pre .1) (wrote .kept .1 .1 .1 .1 .0) (wrote .ensures .0) (wrote .ensures .1) (c .before .written2 .given .1)
 
 pub send-in-spec : {M : Type 1} → statement M
 send-in-spec =
