@@ -1,8 +1,12 @@
-// What the test programs share: numbers in records, the check by which a long output is compared in a line, filled and compared buffers.
+// What the test programs share: numbers and formats in records, the check by which a long output is compared in a line, lent, filled and compared buffers.
+use format::Format;
 ghost use mathlib.Core.Path.{_≡_};
-ghost use Prim.Native.Nat.{_+_, _*_, _<_, _≤_};
+ghost use Prim.Native.Nat.{_+_, _-_, _*_, _<_, _≤_};
+ghost use lib.Dec.{eqb};
 ghost use lib.ListN.{length, replicate};
+ghost use Rattle.laws.specs.Choice.{pick};
 ghost use Rattle.laws.specs.Lists.{alike};
+ghost use Rattle.format.specs.declared.Format.the-variants.{Qcif, Cif};
 ghost use Rattle.checks.specs.Check.{checkFrom};
 
 fn wide(x: u8) -> u64
@@ -29,6 +33,28 @@ pub fn four(a: u8, b: u8, c: u8, d: u8) -> usize
     ensures { λ r. ⌜ r ≡ 16777216 * a + 65536 * b + 256 * c + d ⌝ }
 {
     16777216 * size(a) + 65536 * size(b) + 256 * size(c) + size(d)
+}
+
+// The format that a record names: 0 QCIF, else CIF.
+pub fn format_of(byte: u8) -> Format
+    ensures { λ r. ⌜ r ≡ pick (eqb byte 0) Qcif Cif ⌝ }
+{
+    if byte == 0 {
+        return Format::Qcif;
+    }
+    Format::Cif
+}
+
+// How much of a buffer is lent: without its last byte where it is the one that is too short.
+pub fn lent(length: usize, short: bool) -> usize
+    ensures { λ r. ⌜ (r ≡ pick short (length - 1) length) × (r ≤ length) ⌝ }
+{
+    if short {
+        if 0 < length {
+            return length - 1;
+        }
+    }
+    length
 }
 
 // The check h after these bytes too.

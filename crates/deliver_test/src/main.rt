@@ -4,7 +4,6 @@
 // 1 collection, 2 first store, 3 second store), the block's length in two bytes, the block. Before it every byte of the collection buffer is 51, of the first store 17,
 // of the second 34. Lines: "opened" or "refused 22"; "ANSWER, STAND, SHOWN" for each call, the answer as the lister writes it, and after a last part was read also
 // ", COLLECTION FIRST SECOND", the checks of the three buffers; "end COLLECTION FIRST SECOND". Stops at the end of the input and at a record that has no such form.
-use format::Format;
 use libc::STDIN_FILENO;
 use libc::STDOUT_FILENO;
 use receiver::Answer;
@@ -14,7 +13,6 @@ use receiver::Receiver;
 use receiver::Standing;
 use refusals::Refusal;
 use stores::Holder;
-ghost use Prim.Native.Nat.{_≤_};
 
 // ---- lines
 
@@ -168,16 +166,6 @@ fn receive(
     received
 }
 
-// All of a buffer, or all but its last byte.
-fn lent(length: usize, less: bool) -> usize
-    ensures { λ r. ⌜ r ≤ length ⌝ }
-{
-    if less && 0 < length {
-        return length - 1;
-    }
-    length
-}
-
 fn call(
     receiver: Receiver,
     without: u8,
@@ -186,9 +174,9 @@ fn call(
     first: &mut [u8],
     second: &mut [u8],
 ) -> Receiver {
-    let collected = lent(collection.len(), without == 1);
-    let firsts = lent(first.len(), without == 2);
-    let seconds = lent(second.len(), without == 3);
+    let collected = checks::lent(collection.len(), without == 1);
+    let firsts = checks::lent(first.len(), without == 2);
+    let seconds = checks::lent(second.len(), without == 3);
     let received = receive(
         receiver,
         block,
@@ -319,13 +307,6 @@ fn with_buffers(opened: Receiver, calls: usize) -> bool {
     )
 }
 
-fn format_of(bit: u8) -> Format {
-    match bit {
-        0 => Format::Qcif,
-        _ => Format::Cif,
-    }
-}
-
 fn clip_of(high: u8, low: u8) -> u16 {
     256 * (high as u16) + low as u16
 }
@@ -335,7 +316,7 @@ fn started(start: &[u8; 7]) -> bool {
         return false;
     }
     let calls = checks::four(start[3], start[4], start[5], start[6]);
-    let opened = receiver::open(clip_of(start[1], start[2]), format_of(start[0]));
+    let opened = receiver::open(clip_of(start[1], start[2]), checks::format_of(start[0]));
     match opened {
         Opened::Open(receiver) => with_buffers(receiver, calls),
         Opened::Refused(why) => {

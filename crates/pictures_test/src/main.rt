@@ -148,13 +148,6 @@ fn with_slice(format: Format, bytes: &mut [u8], count: usize, pattern: &[u8; 152
     true
 }
 
-fn format_of(bit: u8) -> Format {
-    match bit {
-        0 => Format::Qcif,
-        _ => Format::Cif,
-    }
-}
-
 fn record(start: &[u8; 9], pattern: &[u8; 152064]) -> bool {
     if 1 < start[0] {
         return false;
@@ -165,7 +158,7 @@ fn record(start: &[u8; 9], pattern: &[u8; 152064]) -> bool {
     }
     let mut bytes = [0u8; 131072];
     with_slice(
-        format_of(start[0]),
+        checks::format_of(start[0]),
         &mut bytes[..length],
         checks::four(start[1], start[2], start[3], start[4]),
         pattern,

@@ -68,18 +68,6 @@ fn repeat(
     last.next
 }
 
-// How much of a buffer is lent: without its last byte where it is the one that is too short.
-fn lent(length: usize, short: bool) -> usize
-    ensures { λ r. ⌜ r ≤ length ⌝ }
-{
-    if short {
-        if 0 < length {
-            return length - 1;
-        }
-    }
-    length
-}
-
 fn lend(
     sender: Sender,
     times: usize,
@@ -91,9 +79,9 @@ fn lend(
     first: &mut [u8],
     second: &mut [u8],
 ) -> Sender {
-    let firsts = lent(first.len(), short == 1);
-    let seconds = lent(second.len(), short == 2);
-    let outs = lent(out.len(), short == 3);
+    let firsts = checks::lent(first.len(), short == 1);
+    let seconds = checks::lent(second.len(), short == 2);
+    let outs = checks::lent(out.len(), short == 3);
     repeat(
         sender,
         times,
@@ -248,13 +236,6 @@ fn session(format: Format, sender: Sender, count: usize) -> bool {
     )
 }
 
-fn format_of(bit: u8) -> Format {
-    match bit {
-        0 => Format::Qcif,
-        _ => Format::Cif,
-    }
-}
-
 fn wide(x: u8) -> u16
     ensures { λ r. ⌜ (r ≡ x) × (r ≤ 255) ⌝ }
 {
@@ -270,7 +251,7 @@ fn open(start: &[u8; 7]) -> bool {
     if 1 < start[0] {
         return false;
     }
-    let format = format_of(start[0]);
+    let format = checks::format_of(start[0]);
     let clip = clip_of(start[1], start[2]);
     let count = checks::four(start[3], start[4], start[5], start[6]);
     let opened = sender::open(clip, format);

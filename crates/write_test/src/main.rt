@@ -125,13 +125,6 @@ fn slices(
     true
 }
 
-fn format_of(bit: u8) -> Format {
-    match bit {
-        0 => Format::Qcif,
-        _ => Format::Cif,
-    }
-}
-
 fn lent(format: Format, heads: usize, fields: usize, coefficients: usize, outs: usize) -> bool {
     if 64 < heads || 2048 < fields || 153600 < coefficients || 33792 < outs {
         return false;
@@ -154,7 +147,7 @@ fn record(start: &[u8; 17]) -> bool {
         return false;
     }
     lent(
-        format_of(start[0]),
+        checks::format_of(start[0]),
         checks::four(start[5], start[6], start[7], start[8]),
         checks::four(start[9], start[10], start[11], start[12]),
         checks::four(start[13], start[14], start[15], start[16]),
