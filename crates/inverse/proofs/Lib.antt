@@ -1,4 +1,3 @@
 mod Halves
 mod Bounds
-mod Short
 mod Split

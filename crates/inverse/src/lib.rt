@@ -7,13 +7,14 @@ use transform::cut::cut16;
 use transform::cut::short;
 ghost use mathlib.Core.Path.{_≡_};
 ghost use Prim.Native.Nat.{_<_};
-ghost use lib.IntN.{pos, _+ℤ_, _-ℤ_, _*ℤ_};
+ghost use lib.IntN.{pos, negsuc, _+ℤ_, _-ℤ_, _*ℤ_};
 ghost use Rattle.laws.specs.Integer.{Low};
 ghost use Rattle.laws.specs.Floor.{floorDivided};
 ghost use Rattle.laws.specs.Block.{Is, cell};
 ghost use Rattle.laws.specs.Linear.{eval, plus, less};
 ghost use Rattle.inverse.specs.Inverse.{inverseAt};
 ghost use Rattle.inverse.specs.Alone.{flatAt};
+ghost use Rattle.transform.specs.Cut.{cut};
 ghost use Rattle.transform.specs.Lines.{Small, SmallRow, Line, entry};
 ghost use Rattle.inverse.specs.Passes.{along, evenPart, oddPart, downAt, rowsAt, columnsAt, finished};
 
@@ -208,11 +209,18 @@ fn lows(g: [i32; 8]) -> [i16; 8]
     ]
 }
 
+// "cut to -256..255", by way of 16 bits, where the compiler cuts eight at once.
+fn cut_output(z: i32) -> i32
+    ensures { λ r. ⌜ r ≡ cut (negsuc 255) (pos 255) z ⌝ }
+{
+    cut16(-256, 255, short(z)) as i32
+}
+
 fn finish(h: i32, l: i32) -> i32
     requires { ⌜ (Low 372375552 h) × (Low 372375552 l) ⌝ }
     ensures { λ r. ⌜ r ≡ finished h l ⌝ }
 {
-    cut16(-256, 255, short((h + (l >> 13)) >> 12)) as i32
+    cut_output((h + (l >> 13)) >> 12)
 }
 
 fn columns(t: [[i32; 8]; 8]) -> [[i32; 8]; 8]
@@ -244,7 +252,7 @@ pub fn alone(z: i32) -> [[i32; 8]; 8]
     requires { ⌜ Low 2048 z ⌝ }
     ensures { λ r. ⌜ Is (pos 0) (λ y x. flatAt z) r ⌝ }
 {
-    let number = cut16(-256, 255, short((z + 4) >> 3)) as i32;
+    let number = cut_output((z + 4) >> 3);
     let line = [number; 8];
     [line; 8]
 }

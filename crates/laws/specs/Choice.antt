@@ -51,10 +51,6 @@ pub both-true : (a : Bool) → both a true ≡ a
 both-true true = refl
 both-true false = refl
 
-pub both-false : (a : Bool) → both a false ≡ false
-both-false true = refl
-both-false false = refl
-
 -- a test that holds is true, and what is true holds
 pub T-true : (b : Bool) → T b → b ≡ true
 T-true true t = refl

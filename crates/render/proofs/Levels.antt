@@ -11,7 +11,7 @@ use borrow.Author.Tests.{eq-eqb, ne-eqb}
 use lib.Bits.{bitOr, or-add-and, and-le-l, and-le-r}
 use lib.Dec.{eqb}
 use lib.ListN.{getD}
-use Rattle.laws.specs.Choice.{both, both-true, both-false}
+use Rattle.laws.specs.Choice.{both, both-true, second-no}
 use Rattle.laws.specs.Table.{allB, all-split}
 use Rattle.transform.specs.Level.{bytesFrom}
 
@@ -66,7 +66,7 @@ after g = all-split 7 56 (λ k. eqb (g (1 + k)) 0) ∙ (λ i. both (allB 56 (λ 
     eight k = omega arith
 
 pub none-near : (g : ℕ → ℕ) {near : ℕ} → eqb near 0 ≡ zeros 7 (λ k. g (1 + k)) → near ≢ 0 → false ≡ zeros 63 (λ k. g (1 + k))
-none-near g {near} e h = sym (after g ∙ ap (both (zeros 56 (λ k. g (8 + k)))) (sym e ∙ ne-eqb near 0 h) ∙ both-false (zeros 56 (λ k. g (8 + k))))
+none-near g {near} e h = sym (after g ∙ second-no (zeros 56 (λ k. g (8 + k))) _ (sym e ∙ ne-eqb near 0 h))
 
 pub none-far : (g : ℕ → ℕ) {near : ℕ} {far : Bool} → eqb near 0 ≡ zeros 7 (λ k. g (1 + k)) → near ≡ 0 → far ≡ zeros 56 (λ k. g (8 + k)) → far ≡ zeros 63 (λ k. g (1 + k))
 none-far g {near} e h f = f ∙ sym (after g ∙ ap (both (zeros 56 (λ k. g (8 + k)))) (sym e ∙ eq-eqb near 0 h) ∙ both-true (zeros 56 (λ k. g (8 + k))))
@@ -83,7 +83,7 @@ module _ (levels : List ℕ) (at : ℕ) where
       ∙ ap (both later) (both-true (eqb (bytesFrom levels at 0) 0) ∙ ap (λ (n : ℕ). eqb (getD levels n 0) 0) (add-zero at))
 
   pub first-not : getD levels at 0 ≢ 0 → false ≡ zeros 64 (bytesFrom levels at)
-  first-not h = sym (whole ∙ ap (both later) (ne-eqb (getD levels at 0) 0 h) ∙ both-false later)
+  first-not h = sym (whole ∙ second-no later _ (ne-eqb (getD levels at 0) 0 h))
 
   pub first-none : {b : Bool} → getD levels at 0 ≡ 0 → b ≡ zeros 63 (λ k. bytesFrom levels at (1 + k)) → b ≡ zeros 64 (bytesFrom levels at)
   unfolding later

@@ -4,9 +4,7 @@ use mathlib.Core.List.{List, []}
 use Prim.Native.Nat.{ℕ, zero-le}
 use lib.IntN.{ℤ, pos}
 use lib.ListN.{getD, replicate, getD-replicate}
-use Rattle.laws.specs.Integer.{Low}
 use Rattle.laws.specs.Block.{Is, shape-fill, is-each}
-use Rattle.transform.specs.Lines.{Small}
 use Rattle.transform.specs.Filter.{Samples}
 use Rattle.transform.specs.Sample.{Sample, byte-sample}
 
@@ -26,6 +24,3 @@ none = zeros-are (λ i j. pos 0) (λ i j. refl)
 
 pub zeros-samples : Samples (replicate 8 (replicate 8 (pos 0)))
 zeros-samples = samples-of none (λ i j. byte-sample 0 zero-le)
-
-pub zeros-small : Small 256 (replicate 8 (replicate 8 (pos 0)))
-zeros-small = is-each (Low 256) none (record { low = zero-le }) (λ i j. record { low = zero-le })

@@ -9,7 +9,7 @@ use borrow.Author.Tests.{ne-eqb}
 use lib.Dec.{ltb, ltb→lt, eqb, eqb→eq}
 use lib.IntN.{ℤ, pos}
 use lib.ListN.{getD}
-use Rattle.laws.specs.Choice.{both, either, both-false, either-right, true-T}
+use Rattle.laws.specs.Choice.{both, either, second-no, either-right, true-T}
 use Rattle.laws.specs.Table.{allB, all-at}
 use Rattle.laws.specs.Block.{cell, Is}
 use Rattle.laws.specs.Tabulate.{line, made, line-at}
@@ -70,7 +70,7 @@ module _ (bytes : ℕ → ℕ) (intra : Bool) (q : ℕ) where
 
       later : (k : ℕ) → 0 < k → k < 64 → valueAt bytes intra q k ≡ pos 0
       later k p l =
-          value-none bytes intra q k (ap (both intra) (ne-eqb k 0 (some p)) ∙ both-false intra)
+          value-none bytes intra q k (second-no intra (eqb k 0) (ne-eqb k 0 (some p)))
           (subst (λ (n : ℕ). bytes n ≡ 0) (back p) (h (k - 1) (inside p l)))
 
   pub first-value : {byte : ℕ} → byte ≡ bytes 0 → cell (pos 0) (made (coefficientAt bytes intra q)) 0 0 ≡ valueAt (λ _. byte) intra q 0

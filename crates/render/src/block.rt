@@ -80,19 +80,6 @@ fn output(levels: &[u8], at: usize, intra: bool, quantiser: u8) -> [[i32; 8]; 8]
     inverse::inverse(transform::dequantise::dequantise(levels, at, intra, quantiser))
 }
 
-// The same where there may be no level but zeros.
-fn difference(levels: &[u8], at: usize, quantiser: u8) -> [[i32; 8]; 8]
-    requires { ⌜ (at + 64 ≤ length (now levels)) × (1 ≤ quantiser) × (quantiser ≤ 31) ⌝ }
-    ensures is { λ r. ⌜ Is (pos 0) (differenceOf (bytesFrom (now (levels .entry)) at) false quantiser) r ⌝ }
-    ensures small { λ r. ⌜ Small 256 r ⌝ }
-{
-    if parts::empty(levels, at) {
-        let zeros = [0i32; 8];
-        return [zeros; 8];
-    }
-    output(levels, at, false, quantiser)
-}
-
 // The block at one place of the store, predicted from another of the reference. Where nothing is added and nothing filtered, it is copied.
 fn draw(
     reference: &[u8],
@@ -126,7 +113,7 @@ fn draw(
         }
         Prediction::Filtered => {
             let block = filtered(reference, from, stride);
-            let added = difference(levels, at, quantiser);
+            let added = output(levels, at, false, quantiser);
             parts::put(store, to, stride, &block, &added);
         }
     }

@@ -1,23 +1,22 @@
 use mathlib.Core.Path.{_≡_, sym, ap, _∙_}
 use Prim.Native.Nat.{_+_}
 use lib.Dec.{lit≤}
-use lib.IntN.{ℤ, _+ℤ_}
+use lib.IntN.{ℤ, pos, negsuc, _+ℤ_}
 use lib.Signed.{shrZ}
 use mir.Syntax.{w32}
-use mir.Val.{SFits}
+use mir.Val.{SFits, toZ, ofZ}
 use mir.Facts.{toZ-ofZ}
 use borrow.Author.Needs.{needs}
 use Rattle.laws.specs.Integer.{Low, low-fits, low-shr, low-add}
 use Rattle.laws.specs.Floor.{floorDivided, floor-shift}
-use Rattle.transform.specs.Cut.{short}
+use Rattle.transform.specs.Cut.{cut}
 use Rattle.inverse.specs.Passes.{finished}
-use Rattle.inverse.proofs.Short.{cut-fits, cut-wide}
+use Rattle.transform.specs.Lines.{back32}
 use Rattle.inverse.proofs.finish.Statement.{statement}
 use Rattle.inverse.proofs.finish.Tie as tie
 use Rattle.inverse.proofs.finish.Reads as reads
 use Rattle.inverse.proofs.finish.Lts as lts
-use Rattle.transform.proofs.cut.cut16.Reads as cut16-reads
-use Rattle.transform.proofs.cut.short.Reads as short-reads
+use Rattle.inverse.proofs.cut_output.Reads as cut-output-reads
 
 module _ (c : tie.Start) where
   abbrev down : ℤ
@@ -38,35 +37,24 @@ module _ (c : tie.Start) where
   fits-number : SFits w32 (shrZ (c .args .h +ℤ down) 4096)
   fits-number = low-fits tt (low-shr 4096 90924 low-sum (lit≤ tt))
 
-  abbrev number : ℤ
-  number = floorDivided (c .args .h +ℤ floorDivided (c .args .l) 8192) 4096
-
-  number-is : shrZ (c .args .h +ℤ down) 4096 ≡ number
+  number-is : shrZ (c .args .h +ℤ down) 4096 ≡ floorDivided (c .args .h +ℤ floorDivided (c .args .l) 8192) 4096
   number-is =
       sym (floor-shift (c .args .h +ℤ down) 4096)
       ∙ ap (λ (z : ℤ). floorDivided (c .args .h +ℤ z) 4096) (sym (floor-shift (c .args .l) 8192))
 
-add-short : tie.Need-add-short
-add-short c = simp (toZ-ofZ (c .fits .l), toZ-ofZ (fits-down c), toZ-ofZ (c .fits .h)) (fits-sum c)
+add-cut-output : tie.Need-add-cut-output
+add-cut-output c = simp (toZ-ofZ (c .fits .l), toZ-ofZ (fits-down c), toZ-ofZ (c .fits .h)) (fits-sum c)
 
-short-requires : tie.Need-short-requires
-short-requires c κs = search needs
-
-short-is : (c : tie.After-short) → c .short .result ≡ short (number (c .before))
-short-is c =
-    let s = c .before in
-    c .short .ensures
-    ∙ simp (toZ-ofZ (s .fits .l), toZ-ofZ (fits-down s), toZ-ofZ (s .fits .h), toZ-ofZ (fits-sum s), toZ-ofZ (fits-number s)) (ap short (number-is s))
-
-cut16-requires : tie.Need-cut16-requires
-cut16-requires c κs = search needs
-
-cast-result : tie.Need-cast-result
-cast-result c = cut-fits (number (c .before .before)) (c .before .short .ok) (short-is (c .before)) (c .cut16 .ok) (c .cut16 .ensures)
+cut-output-requires : tie.Need-cut-output-requires
+cut-output-requires c κs = search needs
 
 returns : tie.Need-returns
 unfolding finished
-returns c = cut-wide (number (c .before .before)) (c .before .short .ok) (short-is (c .before)) (c .cut16 .ok) (c .cut16 .ensures)
+returns c =
+    let s = c .before in
+    back32 (c .cut-output .result) (c .cut-output .ok) ∙ c .cut-output .ensures
+    ∙ simp (toZ-ofZ (s .fits .l), toZ-ofZ (fits-down s), toZ-ofZ (s .fits .h), toZ-ofZ (fits-sum s), toZ-ofZ (fits-number s))
+    (ap (λ (z : ℤ). cut (negsuc 255) (pos 255) z) (number-is s))
 
 pub finish-spec : {M : Type 1} → statement M
-finish-spec = tie.close (tie.spec add-short short-requires cut16-requires cast-result returns)
+finish-spec = tie.close (tie.spec add-cut-output cut-output-requires returns)

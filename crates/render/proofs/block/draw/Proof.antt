@@ -56,14 +56,14 @@ enum-told-3 c = search needs
 filtered-requires : tie.Need-filtered-requires
 filtered-requires c κs = search needs
 
-difference-requires : tie.Need-difference-requires
-difference-requires c κs = search needs
+output-requires-3 : tie.Need-output-requires-3
+output-requires-3 c κs = search needs
 
 put-requires-3 : tie.Need-put-requires-3
 put-requires-3 c κs =
-    let at-difference = c .before .before .before in
-    let start = at-difference .before .before .before .before .before .before .before in
-    (start .pre .0, start .pre .2, at-difference .before .filtered .ensures .1, at-difference .difference .ensures .1)
+    let at-output3 = c .before .before .before in
+    let start = at-output3 .before .before .before .before .before .before .before in
+    (start .pre .0, start .pre .2, at-output3 .before .filtered .ensures .1, at-output3 .output3 .ensures .1)
 
 same-length : tie.Need-same-length
 same-length c = search needs
@@ -105,10 +105,10 @@ same-length-4 c = search needs
 
 returns-4 : tie.Need-returns-4
 returns-4 c =
-    let at-difference = c .before .before .before .before .before .before in
-    let start = at-difference .before .before .before .before .before .before .before in
+    let at-output3 = c .before .before .before .before .before .before in
+    let start = at-output3 .before .before .before .before .before .before .before in
     drawn Filtered (start .args .reference .now) (start .args .from) (bytesFrom (start .args .levels .now) (start .args .at)) (start .args .quantiser)
-    (at-difference .before .before .enum-told3 .given .1) (at-difference .before .filtered .ensures .0) (at-difference .difference .ensures .0)
+    (at-output3 .before .before .enum-told3 .given .1) (at-output3 .before .filtered .ensures .0) (at-output3 .output3 .ensures .0)
     (c .before .before .put3 .ensures)
 
 pub draw-spec : {M : Type 1} → statement M
@@ -126,7 +126,7 @@ draw-spec =
     put-requires-2
     enum-told-3
     filtered-requires
-    difference-requires
+    output-requires-3
     put-requires-3
     same-length
     returns
