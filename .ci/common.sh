@@ -14,9 +14,9 @@ same() {
     fi
 }
 
-# run NAME SEED COUNT PROGRAM: what the program writes for the reference's NAME.input is NAME.expected
+# run NAME SEED COUNT PROGRAM: what the program's case NAME writes for the reference's NAME.input is NAME.expected
 run() {
     "$reference" "$1" "$2" "$3" "$room"
-    ./pagesorrel "$4" <"$room/$1.input" >"$room/$1.written"
+    ./pagesorrel "$4" "$1" <"$room/$1.input" >"$room/$1.written"
     same "$1, seed $2, $3 of them" "$room/$1.expected" "$room/$1.written"
 }

@@ -1,32 +1,21 @@
--- What is left of a word after some of its characters. Assumes nothing.
+-- What a word names, by what is left of it after some of its characters. Assumes nothing.
 use Prim.Native.Nat.{ℕ, zero, suc, _+_, _≤_, _<_}
 use native.Mathlib.Omega.{arith}
-use borrow.Author.Tests.{eq-eqb, ne-eqb, le-leb, lt-leb, leb-true}
+use borrow.Author.Tests.{le-leb, lt-leb, leb-true}
 use mathlib.Core.Path.{_≡_, refl, sym, ap, _∙_}
 use mathlib.Core.Bool.{Bool, true, false, false≢true}
 use mathlib.Core.List.{List, [], _∷_}
-use lib.Dec.{eqb, leb}
+use lib.Dec.{leb}
 use lib.ListN.{length, drop, getD, drop-of-length-le}
-use lib.Seq.{drop-cons}
 use Rattle.laws.specs.Choice.{pick, both}
-use Rattle.laws.specs.Lists.{drop-on, alike, alike-on, alike-past}
-use Rattle.format.specs.declared.Format.the-variants.{Qcif, Cif}
+use Rattle.laws.proofs.Lists.{drop-on}
+use Rattle.laws.specs.Lists.{alike}
+use Rattle.h261_groups.specs.declared.Format.the-variants.{Qcif, Cif}
 use Rattle.arguments.specs.declared.FormatWord.{FormatWord}
 use Rattle.arguments.specs.declared.FormatWord.the-variants as F
 use Rattle.arguments.specs.declared.ClipWord.{ClipWord}
 use Rattle.arguments.specs.declared.ClipWord.the-variants as C
 use Rattle.arguments.specs.Words.{qcifWord, cifWord, formatNamed, digit, longer, clipAfter, clipNamed}
-
--- ---- two words
-module _ (xs ys : List ℕ) (i : ℕ) where
-  pub alike-fails : i < length xs → i < length ys → (getD xs i 0 ≡ getD ys i 0 → ⊥) → alike xs ys ≡ alike (drop i xs) (drop i ys) → alike xs ys ≡ false
-  alike-fails h g ne e = e ∙ alike-on xs ys i h g ∙ ap (λ (b : Bool). both b (alike (drop (i + 1) xs) (drop (i + 1) ys))) (ne-eqb (getD xs i 0) (getD ys i 0) ne)
-
-  pub alike-more : i < length xs → i < length ys → getD xs i 0 ≡ getD ys i 0 → alike (drop i xs) (drop i ys) ≡ alike (drop (i + 1) xs) (drop (i + 1) ys)
-  alike-more h g same = alike-on xs ys i h g ∙ ap (λ (b : Bool). both b (alike (drop (i + 1) xs) (drop (i + 1) ys))) (eq-eqb (getD xs i 0) (getD ys i 0) same)
-
-  pub alike-end : length xs ≤ i → length ys ≤ i → alike xs ys ≡ alike (drop i xs) (drop i ys) → alike xs ys ≡ true
-  alike-end h g e = e ∙ alike-past xs ys i h g
 
 -- ---- a format
 abbrev byTests : Bool → Bool → FormatWord

@@ -5,10 +5,10 @@ use mathlib.Core.List.{List, [], _∷_}
 use lib.Dec.{leb}
 use Rattle.laws.specs.Choice.{pick, both}
 use Rattle.laws.specs.Lists.{alike}
-use Rattle.format.specs.declared.Format.the-variants.{Qcif, Cif}
+use Rattle.h261_groups.specs.declared.Format.the-variants.{Qcif, Cif}
 use Rattle.arguments.specs.declared.FormatWord.{FormatWord}
-use Rattle.arguments.specs.declared.FormatWord.the-variants as F
 use Rattle.arguments.specs.declared.ClipWord.{ClipWord}
+use Rattle.arguments.specs.declared.FormatWord.the-variants as F
 use Rattle.arguments.specs.declared.ClipWord.the-variants as C
 
 -- "qcif", "cif"

@@ -1,8 +1,8 @@
 // What the words that a program is started with name.
-use format::Format;
+use h261_groups::Format;
+use text::same;
 ghost use mathlib.Core.Path.{_≡_};
 ghost use Prim.Native.Nat.{_+_, _-_, _*_, _≤_};
-ghost use Rattle.laws.specs.Lists.{alike};
 ghost use Rattle.arguments.specs.Words.{formatNamed, digit, longer, clipNamed};
 
 pub enum FormatWord {
@@ -13,22 +13,6 @@ pub enum FormatWord {
 pub enum ClipWord {
     Names(u16),
     Other,
-}
-
-fn same(word: &[u8], wanted: &[u8]) -> bool
-    ensures { λ r. ⌜ r ≡ alike (now (word .entry)) (now (wanted .entry)) ⌝ }
-{
-    if word.len() != wanted.len() {
-        return false;
-    }
-    let mut i: usize = 0;
-    while i < word.len() {
-        if word[i] != wanted[i] {
-            return false;
-        }
-        i += 1;
-    }
-    true
 }
 
 pub fn format_named(word: &[u8]) -> FormatWord

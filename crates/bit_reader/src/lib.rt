@@ -1,15 +1,12 @@
-// "A bit reader carries the lent bytes together with its place." The functions over it are few and thin: each takes it apart and calls the
+// "A bit reader carries the lent bytes together with its place." The functions over it are few and thin: `field` takes it apart and calls the
 // covered function on the slice and the numbers, and promises the same by the same definition. A read answers the next place, and never the
-// next reader.
+// next reader, so that code above holds a slice and numbers, and reads through a reader that `field_at` makes at the place.
 use bits::FieldRead;
-use bits::WordRead;
 ghost use mathlib.Core.Path.{_≡_};
 ghost use Prim.Native.Nat.{_≤_};
+ghost use Rattle.bits.specs.Bits.{bitsLeft};
 ghost use Rattle.bits.specs.Read.{field as fieldRead};
-ghost use Rattle.bits.specs.Code.{word as wordRead};
-ghost use Rattle.bits.specs.Answer.{asField, asWord};
-ghost use Rattle.words.specs.Tables.{table1};
-ghost use Rattle.words.specs.Lookup.{Tables};
+ghost use Rattle.bits.specs.Answer.{Within, asField};
 ghost use Rattle.bit_reader.specs.Reader.{over, left, Inside};
 
 // The first `count` bits of `bytes`, at a place.
@@ -29,31 +26,7 @@ pub fn new<'a>(bytes: &'a [u8], count: usize, place: usize) -> BitReader<'a>
     }
 }
 
-pub fn place<'a>(reader: BitReader<'a>) -> usize
-    ensures { λ p. ⌜ p ≡ reader .entry .place ⌝ }
-{
-    reader.place
-}
-
-// Hands back the slice.
-pub fn bytes<'a>(reader: BitReader<'a>) -> &'a [u8]
-    ensures { λ s. ⌜ s ≡ reader .entry .bytes ⌝ }
-{
-    reader.bytes
-}
-
-// The same bits at another place, such as a read answers.
-pub fn skip<'a>(reader: BitReader<'a>, to: usize) -> BitReader<'a>
-    ensures { λ r. ⌜ r ≡ over (reader .entry .bytes) (reader .entry .count) to ⌝ }
-{
-    BitReader {
-        bytes: reader.bytes,
-        count: reader.count,
-        place: to,
-    }
-}
-
-// A field of `width` bits.
+// A field of `width` bits at the reader's place.
 pub fn field<'a>(reader: BitReader<'a>, width: usize) -> FieldRead
     requires { ⌜ (Inside reader) × (width ≤ 24) ⌝ }
     ensures { λ r. ⌜ asField (now (reader .entry .bytes)) (reader .entry .count) r ≡ fieldRead width (left (reader .entry)) (reader .entry .place) ⌝ }
@@ -61,10 +34,10 @@ pub fn field<'a>(reader: BitReader<'a>, width: usize) -> FieldRead
     bits::field(reader.bytes, reader.count, reader.place, width)
 }
 
-// MBA, a codeword of Table 1.
-pub fn mba<'t, 'a>(tables: &'t [u16; 1521], reader: BitReader<'a>) -> WordRead
-    requires { ⌜ (Tables (now tables)) × (Inside reader) ⌝ }
-    ensures { λ r. ⌜ asWord (now (reader .entry .bytes)) (reader .entry .count) r ≡ wordRead table1 (left (reader .entry)) (reader .entry .place) ⌝ }
+// A field of `width` bits at a place, such as the last read answered, through a reader that is made there.
+pub fn field_at(bytes: &[u8], count: usize, at: usize, width: usize) -> FieldRead
+    requires { ⌜ (Within (now bytes) count at) × (width ≤ 24) ⌝ }
+    ensures { λ r. ⌜ asField (now (bytes .entry)) count r ≡ fieldRead width (bitsLeft (now (bytes .entry)) count at) at ⌝ }
 {
-    words::mba(tables, reader.bytes, reader.count, reader.place)
+    field(new(bytes, count, at), width)
 }

@@ -11,11 +11,12 @@ use lib.ListN.{length, getD, take, drop, set}
 use lib.Seq.{sets, sets-eq, getD-drop, drop-nil}
 use Rattle.bits.specs.Bits.{Bit, O, I, bitOf, num, bitsOf, value, bitsFrom}
 use Rattle.bits.specs.Read.{Read, got, fieldFrom}
-use Rattle.bits.specs.Value.{byte-part}
-use Rattle.bits.specs.Source.{bits-byte}
-use Rattle.bits.specs.Numbers.{bitsOf-mod, bitsOf-append, bits-value}
-use Rattle.bits.specs.Fields.{length-bitsOf, field-back}
-use Rattle.bits.specs.Write.{byteFrom, bytesOf, started, written, written-is}
+use Rattle.bits.proofs.Value.{byte-part}
+use Rattle.bits.proofs.Source.{bits-byte}
+use Rattle.bits.proofs.Numbers.{bitsOf-mod, bitsOf-append, bits-value}
+use Rattle.bits.proofs.Fields.{length-bitsOf, field-back}
+use Rattle.bits.specs.Write.{byteFrom, bytesOf, started, written}
+use Rattle.bits.proofs.Write.{written-is}
 
 -- the n bytes of a number
 abbrev pub bytesIn : ℕ → ℕ → List ℕ

@@ -11,7 +11,7 @@ use Rattle.refusals.specs.declared.Reason.the-variants.{BitsEnd, NoCodeword}
 use Rattle.bits.specs.Bits.{num, bitNum, value, bitsLeft}
 use Rattle.bits.specs.Read.{Read, got, bad}
 use Rattle.bits.specs.Tree.{walkOf}
-use Rattle.bits.specs.Value.{num-bit, value-one, value-within, left-none, left-more}
+use Rattle.bits.proofs.Value.{num-bit, value-one, value-within, left-none, left-more}
 
 -- bit k of a window
 pub window-bit : (s : List ℕ) (at w k : ℕ) → w ≡ value s at 24 → k < 24 → w / 2 ^ (23 - k) % 2 ≡ bitNum s (at + k)

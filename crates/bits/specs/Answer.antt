@@ -3,6 +3,9 @@
 use Prim.Native.Nat.{ℕ, _*_, _≤_}
 use mathlib.Core.List.{List}
 use lib.ListN.{length}
+use Rattle.refusals.specs.declared.Reason.the-variants.{BitsEnd}
+use Rattle.refusals.specs.declared.Refusal.{Refusal}
+use Rattle.refusals.specs.Number.{refusal}
 use Rattle.bits.specs.Bits.{bitsLeft}
 use Rattle.bits.specs.Read.{Read, got, refused}
 use Rattle.bits.specs.declared.FieldRead.{FieldRead}
@@ -22,3 +25,12 @@ asField s n (Refused r) = refused r
 abbrev pub asWord : List ℕ → ℕ → WordRead → Read ℕ
 asWord s n (Meant m p) = got m (bitsLeft s n p) p
 asWord s n (Not r) = refused r
+
+-- the refusal of a read that was refused; of another it is never asked
+abbrev pub fieldRefusal : FieldRead → Refusal
+fieldRefusal (Got v p) = refusal BitsEnd p
+fieldRefusal (Refused r) = r
+
+abbrev pub wordRefusal : WordRead → Refusal
+wordRefusal (Meant m p) = refusal BitsEnd p
+wordRefusal (Not r) = r

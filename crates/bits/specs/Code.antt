@@ -1,12 +1,12 @@
 -- A table of codewords, and what reading a codeword finds. Assumes nothing.
-use Prim.Native.Nat.{ℕ, zero, suc, _+_}
+use Prim.Native.Nat.{ℕ, _+_}
 use mathlib.Core.List.{List, [], _∷_}
 use mathlib.Core.Bool.{Bool, true, false}
 use lib.Dec.{eqb}
 use lib.ListN.{length, drop}
 use Rattle.laws.specs.Choice.{pick, both, either}
 use Rattle.refusals.specs.declared.Reason.the-variants.{BitsEnd, NoCodeword}
-use Rattle.bits.specs.Bits.{Bit, O, I, same}
+use Rattle.bits.specs.Bits.{Bit, same}
 use Rattle.bits.specs.Read.{Read, got, bad, Reader}
 
 -- a codeword and its meaning

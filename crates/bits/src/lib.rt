@@ -6,7 +6,7 @@ ghost use Prim.Native.Nat.{_+_, _*_, _^_, _≤_, _<_};
 ghost use lib.ListN.{length, getD};
 ghost use Rattle.bits.specs.Bits.{bitsOf, value, bitsLeft};
 ghost use Rattle.bits.specs.Read.{field as fieldRead};
-ghost use Rattle.bits.specs.Answer.{Within, asField, asWord};
+ghost use Rattle.bits.specs.Answer.{Within, asField, asWord, fieldRefusal, wordRefusal};
 ghost use Rattle.bits.specs.Tree.{walkOf};
 ghost use Rattle.bits.specs.Write.{written};
 
@@ -19,6 +19,32 @@ pub enum FieldRead {
 pub enum WordRead {
     Got(u16, usize),
     Refused(Refusal),
+}
+
+// The refusal of a field that was refused.
+pub fn field_refusal(read: FieldRead) -> Refusal
+    ensures { λ r. ⌜ r ≡ fieldRefusal read ⌝ }
+{
+    match read {
+        FieldRead::Got(_, at) => Refusal {
+            reason: Reason::BitsEnd,
+            place: at,
+        },
+        FieldRead::Refused(refusal) => refusal,
+    }
+}
+
+// The refusal of a codeword that was refused.
+pub fn word_refusal(read: WordRead) -> Refusal
+    ensures { λ r. ⌜ r ≡ wordRefusal read ⌝ }
+{
+    match read {
+        WordRead::Got(_, at) => Refusal {
+            reason: Reason::BitsEnd,
+            place: at,
+        },
+        WordRead::Refused(refusal) => refusal,
+    }
 }
 
 fn joined(b0: u8, b1: u8, b2: u8, b3: u8) -> u32

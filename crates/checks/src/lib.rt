@@ -1,13 +1,26 @@
-// What the test programs share: numbers and formats in records, the check by which a long output is compared in a line, lent, filled and compared buffers.
-use format::Format;
+// What the test programs share: numbers, formats and descriptions in records, lent and filled buffers, the check by which a long output is compared in a line, and what they
+// print.
+use h261_groups::Format;
+use libc::STDIN_FILENO;
+use libc::STDOUT_FILENO;
+use refusals::Refusal;
 ghost use mathlib.Core.Path.{_≡_};
-ghost use Prim.Native.Nat.{_+_, _-_, _*_, _<_, _≤_};
+ghost use Prim.Native.Nat.{_+_, _-_, _*_, _<_, _≤_, min};
 ghost use lib.Dec.{eqb};
 ghost use lib.ListN.{length, replicate};
+ghost use Rattle.io.specs.Counts.{Counts};
 ghost use Rattle.laws.specs.Choice.{pick};
 ghost use Rattle.laws.specs.Lists.{alike};
-ghost use Rattle.format.specs.declared.Format.the-variants.{Qcif, Cif};
+ghost use Rattle.h261_groups.specs.declared.Format.the-variants.{Qcif, Cif};
 ghost use Rattle.checks.specs.Check.{checkFrom};
+
+// ---- records
+
+// A description's lengths, head, macroblocks, levels; or the end of the input.
+pub enum Description {
+    Lengths(usize, usize, usize),
+    Ended,
+}
 
 fn wide(x: u8) -> u64
     ensures { λ r. ⌜ (r ≡ x) × (r ≤ 255) ⌝ }
@@ -35,6 +48,13 @@ pub fn four(a: u8, b: u8, c: u8, d: u8) -> usize
     16777216 * size(a) + 65536 * size(b) + 256 * size(c) + size(d)
 }
 
+// A clip in two bytes, high byte first.
+pub fn clip_of(a: u8, b: u8) -> u16
+    ensures { λ r. ⌜ r ≡ 256 * a + b ⌝ }
+{
+    two(a, b) as u16
+}
+
 // The format that a record names: 0 QCIF, else CIF.
 pub fn format_of(byte: u8) -> Format
     ensures { λ r. ⌜ r ≡ pick (eqb byte 0) Qcif Cif ⌝ }
@@ -43,6 +63,51 @@ pub fn format_of(byte: u8) -> Format
         return Format::Qcif;
     }
     Format::Cif
+}
+
+// Whether the input fills a buffer.
+pub fn fills(buffer: &mut [u8]) -> bool {
+    io::read_full(STDIN_FILENO, buffer) == buffer.len()
+}
+
+// A description from the input: its lengths in four bytes each, and its slices. Ended too where a slice is beyond the room for it.
+pub fn next_description(head: &mut [u8], macroblocks: &mut [u8], levels: &mut [u8]) -> Description {
+    let mut start = [0u8; 12];
+    if !fills(&mut start) {
+        return Description::Ended;
+    }
+    let heads = four(start[0], start[1], start[2], start[3]);
+    let fields = four(start[4], start[5], start[6], start[7]);
+    let coefficients = four(start[8], start[9], start[10], start[11]);
+    if !fills_part(heads, head) {
+        return Description::Ended;
+    }
+    if !fills_part(fields, macroblocks) {
+        return Description::Ended;
+    }
+    if !fills_part(coefficients, levels) {
+        return Description::Ended;
+    }
+    Description::Lengths(heads, fields, coefficients)
+}
+
+// ---- buffers
+
+// How much of a buffer that many bytes of it are: no more than there are.
+pub fn part(count: usize, buffer: &[u8]) -> usize
+    ensures { λ r. ⌜ Counts r (now (buffer .entry)) ⌝ }
+    ensures { λ r. ⌜ r ≡ min count (length (now (buffer .entry))) ⌝ }
+{
+    if count < buffer.len() {
+        return count;
+    }
+    buffer.len()
+}
+
+// Whether the input fills that many bytes of a buffer.
+pub fn fills_part(count: usize, buffer: &mut [u8]) -> bool {
+    let all = part(count, buffer);
+    all == count && fills(&mut buffer[..all])
 }
 
 // How much of a buffer is lent: without its last byte where it is the one that is too short.
@@ -56,6 +121,22 @@ pub fn lent(length: usize, short: bool) -> usize
     }
     length
 }
+
+// Whether every byte is the value.
+pub fn is_filled(buffer: &[u8], value: u8) -> bool
+    ensures { λ r. ⌜ r ≡ alike (now (buffer .entry)) (replicate (length (now (buffer .entry))) value) ⌝ }
+{
+    let mut i: usize = 0;
+    while i < buffer.len() {
+        if buffer[i] != value {
+            return false;
+        }
+        i += 1;
+    }
+    true
+}
+
+// ---- the check
 
 // The check h after these bytes too.
 fn check_on(h: u64, bytes: &[u8]) -> u64
@@ -86,43 +167,33 @@ pub fn check_description(head: &[u8], macroblocks: &[u8], levels: &[u8]) -> u64
     check_on(on, levels)
 }
 
-// Whether two slices hold the same bytes.
-pub fn same(a: &[u8], b: &[u8]) -> bool
-    ensures { λ r. ⌜ r ≡ alike (now (a .entry)) (now (b .entry)) ⌝ }
-{
-    if a.len() != b.len() {
-        return false;
-    }
-    let mut i: usize = 0;
-    while i < a.len() {
-        if a[i] != b[i] {
-            return false;
-        }
-        i += 1;
-    }
-    true
+// ---- what is printed
+
+pub fn say(text: &[u8]) {
+    io::write_all(STDOUT_FILENO, text);
 }
 
-pub fn fill(buffer: &mut [u8], value: u8)
-    ensures { λ _. ⌜ now (buffer .exit) ≡ replicate (length (now (buffer .entry))) value ⌝ }
-{
-    let mut i: usize = 0;
-    while i < buffer.len() {
-        buffer[i] = value;
-        i += 1;
+// " 12"
+pub fn say_number(n: u64) {
+    say(b" ");
+    io::print_decimal(STDOUT_FILENO, n);
+}
+
+pub fn say_check(bytes: &[u8]) {
+    say_number(check(bytes));
+}
+
+// The first bytes of a text that begins with a space, without it.
+pub fn say_unspaced(count: usize, text: &[u8]) {
+    let end = part(count, text);
+    if 1 <= end {
+        say(&text[1..end]);
     }
 }
 
-// Whether every byte is still what `fill` made it.
-pub fn is_filled(buffer: &[u8], value: u8) -> bool
-    ensures { λ r. ⌜ r ≡ alike (now (buffer .entry)) (replicate (length (now (buffer .entry))) value) ⌝ }
-{
-    let mut i: usize = 0;
-    while i < buffer.len() {
-        if buffer[i] != value {
-            return false;
-        }
-        i += 1;
-    }
-    true
+// "refused 21", "refused 8 at 311"
+pub fn say_refusal(why: Refusal) {
+    let mut text = [0u8; 64];
+    let count = text::put_refusal(why, 0, &mut text);
+    say_unspaced(count, &text);
 }

@@ -6,33 +6,39 @@ use lib.Dec.{eqb}
 use lib.ListN.{length}
 use Rattle.laws.specs.Choice.{pick, both}
 use Rattle.refusals.specs.declared.Reason.the-variants.{Length}
-use Rattle.bits.specs.Read.{Read, got, refused, endless, bad}
-use Rattle.format.specs.Format.{storeLength}
-use Rattle.format.specs.declared.Format.{Format}
-use Rattle.layers.specs.Answer.{mapRead}
-use Rattle.reader.specs.declared.Verdict.{Verdict}
-use Rattle.reader.specs.Described.{described, verdictOf}
-use Rattle.render.specs.Sample.{rendered}
+use Rattle.bits.specs.Read.{refused}
+use Rattle.size.specs.Size.{storeLength}
+use Rattle.refusals.specs.declared.Verdict.{Verdict}
+use Rattle.refusals.specs.Number.{refusal}
+use Rattle.coding.specs.declared.Kind.{Kind}
+use Rattle.coding.specs.Coding.{Found, accepted, refused, Coding}
+use Rattle.coding.specs.Kind.{kindSize, codingOf}
+use Rattle.coding.specs.Described.{BlankFor, verdictOn, foundOr}
+
+-- what is found, drawn over a reference
+abbrev pub drawnBy : {D : Type 0} → Coding D → List ℕ → Found D → Found (List ℕ)
+drawnBy c reference (accepted d) = accepted (c .render d reference)
+drawnBy c reference (refused why) = refused why
 
 -- the verdict of the rules and, on acceptance, every sample
-unfoldable pub drawn : Format → List ℕ → ℕ → List ℕ → Read (List ℕ)
-drawn f bytes n reference = mapRead (λ d. rendered f d reference) (described f bytes n)
+unfoldable pub drawn : Kind → List ℕ → ℕ → List ℕ → Found (List ℕ)
+drawn k bytes n reference = drawnBy (codingOf k) reference (codingOf k .read bytes n)
 
 -- refusal 1: "a lent buffer hasn't its named length"
-unfoldable pub decoded : Format → List ℕ → ℕ → List ℕ → ℕ → Read (List ℕ)
-decoded f bytes n reference size =
-    pick (both (eqb (length reference) (storeLength f)) (eqb size (storeLength f))) (drawn f bytes n reference) (bad Length 0)
-
--- "no sample store changes by" a refusal
-abbrev pub storeAfter : List ℕ → Read (List ℕ) → List ℕ
-storeAfter old (got store bs at) = store
-storeAfter old (refused r) = old
-storeAfter old endless = old
+unfoldable pub decoded : Kind → List ℕ → ℕ → List ℕ → ℕ → Found (List ℕ)
+decoded k bytes n reference size =
+    pick (both (eqb (length reference) (storeLength (kindSize k))) (eqb size (storeLength (kindSize k)))) (drawn k bytes n reference) (refused (refusal Length 0))
 
 -- ---- what `decode` promises
--- of its answer, and of the store that it leaves
-abbrev pub DecodeSays : Format → List ℕ → ℕ → List ℕ → List ℕ → Verdict → Type 0
-DecodeSays f bytes n reference store verdict = verdict ≡ verdictOf (decoded f bytes n reference (length store))
+-- of its answer, and of the store that it leaves: "no sample store changes by" a refusal
+abbrev pub DecodeSays : Kind → List ℕ → ℕ → List ℕ → List ℕ → Verdict → Type 0
+DecodeSays k bytes n reference store verdict = verdict ≡ verdictOn (decoded k bytes n reference (length store))
 
-abbrev pub DecodeLeaves : Format → List ℕ → ℕ → List ℕ → List ℕ → List ℕ → Type 0
-DecodeLeaves f bytes n reference store left = left ≡ storeAfter store (decoded f bytes n reference (length store))
+abbrev pub DecodeLeaves : Kind → List ℕ → ℕ → List ℕ → List ℕ → List ℕ → Type 0
+DecodeLeaves k bytes n reference store left = left ≡ foundOr store (decoded k bytes n reference (length store))
+
+-- scratch for the description, and two stores of their named length
+pub record Decodable (k : Kind) (head macroblocks levels reference store : List ℕ) : Type 0 where
+  pub blank : BlankFor k head macroblocks levels
+  pub reference-long : length reference ≡ storeLength (kindSize k)
+  pub store-long : length store ≡ storeLength (kindSize k)

@@ -1,8 +1,8 @@
 -- The line that YUV4MPEG2 begins with: the size, 30000:1001 pictures a second, progressive, samples of 12:11 (4:3 over 352 by 288), chroma in the middle of four. Assumes nothing.
 use Prim.Native.Nat.{ℕ}
 use mathlib.Core.List.{List, [], _∷_, _++_}
-use Rattle.format.specs.declared.Format.{Format}
-use Rattle.format.specs.Format.{width, height}
+use Rattle.size.specs.declared.Size.{Size}
+use Rattle.size.specs.Size.{width, height}
 use Rattle.text.specs.Text.{decimal}
 
 -- "YUV4MPEG2 W"
@@ -17,5 +17,5 @@ heightWord = 32 ∷ 72 ∷ []
 abbrev pub restWords : List ℕ
 restWords = 32 ∷ 70 ∷ 51 ∷ 48 ∷ 48 ∷ 48 ∷ 48 ∷ 58 ∷ 49 ∷ 48 ∷ 48 ∷ 49 ∷ 32 ∷ 73 ∷ 112 ∷ 32 ∷ 65 ∷ 49 ∷ 50 ∷ 58 ∷ 49 ∷ 49 ∷ 32 ∷ 67 ∷ 52 ∷ 50 ∷ 48 ∷ 106 ∷ 112 ∷ 101 ∷ 103 ∷ 10 ∷ []
 
-unfoldable pub headerText : Format → List ℕ
-headerText format = widthWord ++ decimal (width format) ++ heightWord ++ decimal (height format) ++ restWords
+unfoldable pub headerText : Size → List ℕ
+headerText size = widthWord ++ decimal (width size) ++ heightWord ++ decimal (height size) ++ restWords

@@ -3,14 +3,16 @@
 // On standard error: the lister's line for a refused or a short block, a line for each stretch of blocks after which the receiver was not in step, and at the end how many
 // pictures there were.
 use arguments::FormatWord;
-use format::Format;
+use coding::Kind;
+use h261_groups::Format;
 use libc::STDERR_FILENO;
 use libc::STDIN_FILENO;
 use libc::STDOUT_FILENO;
 use listing::Clip;
-use receiver::Answer;
-use receiver::Received;
-use receiver::Standing;
+use size::Size;
+use standing::Answer;
+use standing::Received;
+use standing::Standing;
 ghost use mathlib.Core.Path.{_≡_};
 ghost use Prim.Native.Nat.{_+_, _≤_, _<_};
 ghost use lib.ListN.{length};
@@ -35,15 +37,15 @@ struct Turn {
 
 // ---- what is written
 
-fn header(format: Format, out: &mut [u8; 128]) -> usize
+fn header(size: Size, out: &mut [u8; 128]) -> usize
     ensures { λ r. ⌜ Counts r (now (out .exit)) ⌝ }
-    ensures { λ r. ⌜ r ≡ length (headerText format) ⌝ }
-    ensures { λ r. ⌜ now (out .exit) ≡ over (headerText format) (now (out .entry)) ⌝ }
+    ensures { λ r. ⌜ r ≡ length (headerText size) ⌝ }
+    ensures { λ r. ⌜ now (out .exit) ≡ over (headerText size) (now (out .entry)) ⌝ }
 {
     let named = text::put(b"YUV4MPEG2 W", 0, out);
-    let wide = text::put_number(format::width(format) as u64, named, out);
+    let wide = text::put_number(size::width(size) as u64, named, out);
     let parted = text::put(b" H", wide, out);
-    let high = text::put_number(format::height(format) as u64, parted, out);
+    let high = text::put_number(size::height(size) as u64, parted, out);
     text::put(b" F30000:1001 Ip A12:11 C420jpeg\n", high, out)
 }
 
@@ -56,9 +58,10 @@ fn put_out(bytes: &[u8]) -> bool {
     false
 }
 
-fn begin(format: Format) -> bool {
+fn begin(kind: Kind) -> bool {
     let mut text = [0u8; 128];
-    let count = header(format, &mut text);
+    let size = coding::size_of(kind);
+    let count = header(size, &mut text);
     put_out(&text[..count])
 }
 
@@ -72,7 +75,7 @@ fn show<'a>(answer: Answer, clip: Clip, first: &'a [u8], second: &'a [u8]) -> bo
                 next: receiver,
             };
             if put_out(b"FRAME\n") {
-                return put_out(receiver::show(received, first, second));
+                return put_out(standing::show(received, first, second));
             }
             false
         }
@@ -96,14 +99,14 @@ fn say_short(n: u64) {
 fn say_stretch(stretch: Stretch) {
     if stretch.any {
         let mut text = [0u8; 128];
-        let count = remarks::stretch(stretch.from, stretch.to, &mut text);
+        let count = text::remarks::stretch(stretch.from, stretch.to, &mut text);
         io::write_all(STDERR_FILENO, &text[..count]);
     }
 }
 
 fn say_pictures(pictures: u64) {
     let mut text = [0u8; 128];
-    let count = remarks::pictures(pictures, &mut text);
+    let count = text::remarks::pictures(pictures, &mut text);
     io::write_all(STDERR_FILENO, &text[..count]);
 }
 
@@ -113,7 +116,8 @@ fn in_step(clip: Clip) -> bool {
     match clip {
         Clip::Unknown => false,
         Clip::Known(receiver) => {
-            let standing = receiver.standing;
+            let progress = receiver.progress;
+            let standing = progress.standing;
             match standing {
                 Standing::InStep(_) => true,
                 Standing::Lost => false,
@@ -151,7 +155,7 @@ fn follow(n: u64, stretch: Stretch, clip: Clip) -> Stretch {
 
 fn whole(
     n: u64,
-    format: Format,
+    kind: Kind,
     clip: Clip,
     before: Stretch,
     block: &[u8; 512],
@@ -159,7 +163,7 @@ fn whole(
     first: &mut [u8],
     second: &mut [u8],
 ) -> Turn {
-    let listed = listing::list(format, clip, block, collection, first, second);
+    let listed = listing::list(kind, clip, block, collection, first, second);
     let answer = listed.answer;
     let next = listed.next;
     let stretch = follow(n, before, next);
@@ -193,7 +197,7 @@ fn whole(
 
 fn one(
     n: u64,
-    format: Format,
+    kind: Kind,
     clip: Clip,
     stretch: Stretch,
     collection: &mut [u8],
@@ -203,7 +207,7 @@ fn one(
     let mut block = [0u8; 512];
     let got = io::read_full(STDIN_FILENO, &mut block);
     if got == 512 {
-        return whole(n, format, clip, stretch, &block, collection, first, second);
+        return whole(n, kind, clip, stretch, &block, collection, first, second);
     }
     if 0 < got {
         say_short(n);
@@ -227,7 +231,7 @@ fn counted(pictures: u64, shown: bool) -> u64
 }
 
 // Nothing says that the input ends, so the loop counts its turns.
-fn all(format: Format, collection: &mut [u8], first: &mut [u8], second: &mut [u8]) {
+fn all(kind: Kind, collection: &mut [u8], first: &mut [u8], second: &mut [u8]) {
     let mut clip = Clip::Unknown;
     let mut stretch = Stretch {
         any: false,
@@ -235,10 +239,10 @@ fn all(format: Format, collection: &mut [u8], first: &mut [u8], second: &mut [u8
         to: 0,
     };
     let mut pictures: u64 = 0;
-    let mut more = begin(format);
+    let mut more = begin(kind);
     let mut n: u64 = 0;
     while n < 18446744073709551615 && more {
-        let turn = one(n, format, clip, stretch, collection, first, second);
+        let turn = one(n, kind, clip, stretch, collection, first, second);
         clip = turn.clip;
         stretch = turn.stretch;
         more = turn.more;
@@ -253,14 +257,14 @@ fn qcif() {
     let mut collection = [0u8; 8500];
     let mut first = [0u8; 38016];
     let mut second = [0u8; 38016];
-    all(Format::Qcif, &mut collection, &mut first, &mut second);
+    all(Kind::H261Qcif, &mut collection, &mut first, &mut second);
 }
 
 fn cif() {
     let mut collection = [0u8; 33000];
     let mut first = [0u8; 152064];
     let mut second = [0u8; 152064];
-    all(Format::Cif, &mut collection, &mut first, &mut second);
+    all(Kind::H261Cif, &mut collection, &mut first, &mut second);
 }
 
 fn main() {

@@ -2,7 +2,7 @@
 use mathlib.Core.Path.{_≡_, sym, ap, subst, _∙_}
 use mathlib.Core.Bool.{Bool, true, false}
 use mathlib.Core.List.{List}
-use Prim.Native.Nat.{ℕ, zero, suc, _+_, _*_, _-_, _%_, _≤_, _<_}
+use Prim.Native.Nat.{ℕ, zero, suc, _+_, _*_, _-_, _%_, _<_}
 use native.Mathlib.Nat.{le-refl}
 use lib.Dec.{ltb, lit≤}
 use lib.IntN.{ℤ, pos, _-ℤ_, _*ℤ_}
@@ -10,12 +10,15 @@ use lib.ListN.{getD}
 use mir.Syntax.{w32}
 use mir.Val.{toZ, ofZ}
 use Rattle.laws.specs.Choice.{pick}
-use Rattle.laws.specs.Table.{low-at}
-use Rattle.laws.specs.Integer.{Low, low-neg, low-mul, low-add, low-up, low-shr, back}
-use Rattle.laws.specs.Floor.{floorDivided, floor-shift, left-low}
-use Rattle.laws.specs.Sum.{low-sum}
+use Rattle.laws.proofs.Table.{low-at}
+use Rattle.laws.specs.Integer.{Low}
+use Rattle.laws.proofs.Integer.{low-neg, low-mul, low-add, low-up, low-shr, back}
+use Rattle.laws.specs.Floor.{floorDivided}
+use Rattle.laws.proofs.Floor.{floor-shift, left-low}
+use Rattle.laws.proofs.Sum.{low-sum}
 use Rattle.inverse.specs.Inverse.{A, cosine, magnitudes}
-use Rattle.transform.specs.Lines.{Small, SmallRow, Line, entry, line-low}
+use Rattle.quantiser.specs.Lines.{Small, SmallRow, Line, entry}
+use Rattle.quantiser.proofs.Lines.{line-low}
 use Rattle.inverse.specs.Passes.{along, downAt}
 
 either-low : (b : Bool) {x y : ℤ} {m : ℕ} → Low m x → Low m y → Low m (pick b x y)

@@ -1,3 +1,6 @@
 mod Halves
+mod Parts
 mod Bounds
 mod Split
+pub mod AloneLaws
+pub mod InverseLaws

@@ -5,15 +5,17 @@ use Prim.Native.Nat.{ℕ, zero, suc, _+_, _*_, _%_}
 use native.Mathlib.Nat.{mul-zero}
 use lib.Dec.{lit≤}
 use lib.IntN.{ℤ, pos, negsuc, _+ℤ_, _-ℤ_, _*ℤ_, +ℤ-idr, +ℤ-comm, -ℤ-+ℤ-cancel}
-use Rattle.laws.specs.Integer.{+ℤ-*ℤ}
-use Rattle.laws.specs.Floor.{floorDivided, floor-floor, floor-add}
-use Rattle.laws.specs.Sum.{sumZ, sum-mul, sum-ext}
-use Rattle.laws.specs.Linear.{sum-add, mul-past}
+use Rattle.laws.proofs.Integer.{+ℤ-*ℤ}
+use Rattle.laws.specs.Floor.{floorDivided}
+use Rattle.laws.proofs.Floor.{floor-floor, floor-add}
+use Rattle.laws.specs.Sum.{sumZ}
+use Rattle.laws.proofs.Sum.{sum-mul, sum-ext}
+use Rattle.laws.proofs.Linear.{sum-add, mul-past}
 use Rattle.laws.specs.Block.{Is, cell}
-use Rattle.transform.specs.Cut.{cut}
+use Rattle.quantiser.specs.Cut.{cut}
 use Rattle.inverse.specs.Inverse.{A, cosine, S, F, output, inverseAt}
 use Rattle.inverse.specs.Passes.{along, downAt, rowsAt, columnsAt, finished}
-use Rattle.transform.specs.Lines.{Line, entry}
+use Rattle.quantiser.specs.Lines.{Line, entry}
 
 -- a line with the same entries has the same sums
 pub along-same : {g : ℕ → ℤ} {r : List ℤ} → Line g r → (x : ℕ) → along r x ≡ sumZ 8 (λ v. g v *ℤ A v x)

@@ -1,18 +1,14 @@
 -- The inverse transform, by its definition: a double sum over the block, a rounded division and a cut. Assumes nothing.
-use mathlib.Core.Path.{_≡_, ap, _∙_}
-use mathlib.Core.Bool.{Bool, true, false}
 use mathlib.Core.List.{List, [], _∷_}
-use Prim.Native.Nat.{ℕ, _+_, _*_, _-_, _/_, _%_, _<_, zero-le}
-use lib.Dec.{ltb, lit≤}
-use lib.IntN.{ℤ, pos, negsuc, negℤ, _+ℤ_, _*ℤ_, zero-*ℤ}
+use Prim.Native.Nat.{ℕ, _+_, _*_, _-_, _%_}
+use lib.Dec.{ltb}
+use lib.IntN.{ℤ, pos, negsuc, negℤ, _+ℤ_, _*ℤ_}
 use lib.ListN.{getD}
 use Rattle.laws.specs.Choice.{pick}
-use Rattle.laws.specs.Integer.{Low}
 use Rattle.laws.specs.Floor.{floorDivided}
-use Rattle.laws.specs.Block.{cell, Is, is-each}
-use Rattle.laws.specs.Sum.{sumZ, sum-ext}
-use Rattle.transform.specs.Lines.{Small}
-use Rattle.transform.specs.Cut.{cut, atLeast, atMost, cut-low}
+use Rattle.laws.specs.Block.{cell}
+use Rattle.laws.specs.Sum.{sumZ}
+use Rattle.quantiser.specs.Cut.{cut}
 
 -- F(u, v): the number at row v, column u.
 abbrev pub F : List (List ℤ) → ℕ → ℕ → ℤ
@@ -45,22 +41,3 @@ output s = cut (negsuc 255) (pos 255) (floorDivided (s +ℤ pos 16777216) 335544
 -- row y, column x of the result
 unfoldable pub inverseAt : List (List ℤ) → ℕ → ℕ → ℤ
 inverseAt block y x = output (S block x y)
-
--- ---- what the outputs are
-pub output-low : (s : ℤ) → Low 256 (output s)
-unfolding output
-output-low s = cut-low 255 255 (lit≤ tt) (lit≤ tt) _
-
-pub inverse-small : (block : List (List ℤ)) {result : List (List ℤ)} → Is (pos 0) (inverseAt block) result → Small 256 result
-unfolding inverseAt
-inverse-small block h = is-each (λ (z : ℤ). Low 256 z) h (record { low = zero-le }) (λ y x. output-low (S block x y))
-
--- A block of zeros adds nothing.
-pub none-inverse : (block : List (List ℤ)) → ((i j : ℕ) → i < 8 → j < 8 → cell (pos 0) block i j ≡ pos 0) → (y x : ℕ) → inverseAt block y x ≡ pos 0
-unfolding inverseAt S output cut atLeast atMost floorDivided sumZ
-none-inverse block none y x =
-    ap output (sum-ext 8 _ (λ v. pos 0) (λ v l. sum-ext 8 _ (λ u. pos 0) (λ u m. zero u v (none v u l m))))
-  where
-    zero : (u v : ℕ) → F block u v ≡ pos 0 → F block u v *ℤ A u x *ℤ A v y ≡ pos 0
-    zero u v e =
-        ap (λ (z : ℤ). z *ℤ A u x *ℤ A v y) e ∙ ap (λ (z : ℤ). z *ℤ A v y) (zero-*ℤ (A u x)) ∙ zero-*ℤ (A v y)

@@ -3,8 +3,8 @@
 // A pass goes by halves, the even places and the odd ones, which the compiler makes once for two results each. Both passes stay within
 // 32 bits: what the rows give is split into t = 8192 high + low, and (S + 2^24) / 2^25 is then (H + L / 8192) / 4096, rounded down each time, where H
 // and L are the sums of the two parts and the rounding term 2^24 = 8192 · 2048 stands in the first number of the line.
-use transform::cut::cut16;
-use transform::cut::short;
+use quantiser::cut::cut16;
+use quantiser::cut::short;
 ghost use mathlib.Core.Path.{_≡_};
 ghost use Prim.Native.Nat.{_<_};
 ghost use lib.IntN.{pos, negsuc, _+ℤ_, _-ℤ_, _*ℤ_};
@@ -14,45 +14,49 @@ ghost use Rattle.laws.specs.Block.{Is, cell};
 ghost use Rattle.laws.specs.Linear.{eval, plus, less};
 ghost use Rattle.inverse.specs.Inverse.{inverseAt};
 ghost use Rattle.inverse.specs.Alone.{flatAt};
-ghost use Rattle.transform.specs.Cut.{cut};
-ghost use Rattle.transform.specs.Lines.{Small, SmallRow, Line, entry};
-ghost use Rattle.inverse.specs.Passes.{along, evenPart, oddPart, downAt, rowsAt, columnsAt, finished};
+ghost use Rattle.quantiser.specs.Cut.{cut};
+ghost use Rattle.quantiser.specs.Lines.{Small, SmallRow, Line, entry};
+ghost use Rattle.inverse.specs.Passes.{Product, Four, EvenFactors, OddFactors, Factors, along, evenPart, oddPart, downAt, rowsAt, columnsAt, finished};
 
 // Eight products of 16384 by 2841 come to 372375552.
 fn more(sum: i32, number: i16, factor: i32) -> i32
-    requires { ⌜ (Low 372375552 sum) × (Low 16384 number) × (Low 2841 factor) ⌝ }
+    requires { ⌜ (Low 372375552 sum) × (Product number factor) ⌝ }
     ensures { λ r. ⌜ r ≡ sum +ℤ number *ℤ factor ⌝ }
 {
     sum + (number as i32) * factor
 }
 
+// Half of a line's sum.
+fn four(a: i16, k: i32, b: i16, l: i32, c: i16, m: i32, d: i16, n: i32) -> i32
+    requires { ⌜ Four a k b l c m d n ⌝ }
+    ensures { λ r. ⌜ r ≡ a *ℤ k +ℤ b *ℤ l +ℤ c *ℤ m +ℤ d *ℤ n ⌝ }
+{
+    more(more(more(more(0, a, k), b, l), c, m), d, n)
+}
+
 fn even(f: [i16; 8], k2: i32, k4: i32, k6: i32) -> i32
-    requires { ⌜ (SmallRow 16384 f) × (Low 2841 k2) × (Low 2841 k4) × (Low 2841 k6) ⌝ }
+    requires { ⌜ (SmallRow 16384 f) × (EvenFactors k2 k4 k6) ⌝ }
     ensures { λ r. ⌜ r ≡ eval (entry f) (evenPart k2 k4 k6) ⌝ }
 {
-    more(
-        more(more(more(0, f[0], 2048), f[2], k2), f[4], k4),
-        f[6],
-        k6,
-    )
+    four(f[0], 2048, f[2], k2, f[4], k4, f[6], k6)
 }
 
 fn odd(f: [i16; 8], k1: i32, k3: i32, k5: i32, k7: i32) -> i32
-    requires { ⌜ (SmallRow 16384 f) × (Low 2841 k1) × (Low 2841 k3) × (Low 2841 k5) × (Low 2841 k7) ⌝ }
+    requires { ⌜ (SmallRow 16384 f) × (OddFactors k1 k3 k5 k7) ⌝ }
     ensures { λ r. ⌜ r ≡ eval (entry f) (oddPart k1 k3 k5 k7) ⌝ }
 {
-    more(more(more(more(0, f[1], k1), f[3], k3), f[5], k5), f[7], k7)
+    four(f[1], k1, f[3], k3, f[5], k5, f[7], k7)
 }
 
 fn both_plus(f: [i16; 8], k2: i32, k4: i32, k6: i32, k1: i32, k3: i32, k5: i32, k7: i32) -> i32
-    requires { ⌜ (SmallRow 16384 f) × (Low 2841 k2) × (Low 2841 k4) × (Low 2841 k6) × (Low 2841 k1) × (Low 2841 k3) × (Low 2841 k5) × (Low 2841 k7) ⌝ }
+    requires { ⌜ (SmallRow 16384 f) × (Factors k2 k4 k6 k1 k3 k5 k7) ⌝ }
     ensures { λ r. ⌜ r ≡ eval (entry f) (plus (evenPart k2 k4 k6) (oddPart k1 k3 k5 k7)) ⌝ }
 {
     even(f, k2, k4, k6) + odd(f, k1, k3, k5, k7)
 }
 
 fn both_less(f: [i16; 8], k2: i32, k4: i32, k6: i32, k1: i32, k3: i32, k5: i32, k7: i32) -> i32
-    requires { ⌜ (SmallRow 16384 f) × (Low 2841 k2) × (Low 2841 k4) × (Low 2841 k6) × (Low 2841 k1) × (Low 2841 k3) × (Low 2841 k5) × (Low 2841 k7) ⌝ }
+    requires { ⌜ (SmallRow 16384 f) × (Factors k2 k4 k6 k1 k3 k5 k7) ⌝ }
     ensures { λ r. ⌜ r ≡ eval (entry f) (less (evenPart k2 k4 k6) (oddPart k1 k3 k5 k7)) ⌝ }
 {
     even(f, k2, k4, k6) - odd(f, k1, k3, k5, k7)

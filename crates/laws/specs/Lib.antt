@@ -2,13 +2,10 @@ pub mod Choice
 pub mod Integer
 pub mod Floor
 pub mod Sum
-pub mod Operation
 pub mod Table
-pub mod Zeros
 pub mod Block
 pub mod Rows
 pub mod Tabulate
 pub mod Linear
 pub mod Row
-pub mod Splice
 pub mod Lists

@@ -1,37 +1,8 @@
 -- Sums of integers over 0, 1, .. n - 1.
-use mathlib.Core.Path.{_≡_, refl, sym, ap, subst, _∙_}
-use Prim.Native.Nat.{ℕ, zero, suc, _+_, _*_, _≤_, _<_, zero-le}
-use native.Mathlib.Nat.{le-refl, le-of-eq, le-step, suc-mul}
-use native.Mathlib.Numerals.{add-one}
-use lib.IntN.{ℤ, pos, negsuc, natAbs, _+ℤ_, _*ℤ_, zero-*ℤ}
-use Rattle.laws.specs.Integer.{+ℤ-*ℤ, Low, low-add, low-up}
+use Prim.Native.Nat.{ℕ, zero, suc}
+use lib.IntN.{ℤ, pos, _+ℤ_}
 
 -- g 0 + g 1 + .. + g (n - 1)
 unfoldable pub sumZ : ℕ → (ℕ → ℤ) → ℤ
 sumZ zero g = pos 0
 sumZ (suc n) g = sumZ n g +ℤ g n
-
-pub sum-zero : (g : ℕ → ℤ) → sumZ 0 g ≡ pos 0
-unfolding sumZ
-sum-zero g = refl
-
-pub sum-more : (n : ℕ) (g : ℕ → ℤ) → sumZ (n + 1) g ≡ sumZ n g +ℤ g n
-unfolding sumZ
-sum-more n g = ap (λ (k : ℕ). sumZ k g) (add-one n)
-
--- a factor goes in
-pub sum-mul : (n : ℕ) (g : ℕ → ℤ) (k : ℤ) → sumZ n g *ℤ k ≡ sumZ n (λ i. g i *ℤ k)
-unfolding sumZ
-sum-mul zero g k = zero-*ℤ k
-sum-mul (suc n) g k = +ℤ-*ℤ (sumZ n g) (g n) k ∙ ap (λ (z : ℤ). z +ℤ g n *ℤ k) (sum-mul n g k)
-
-pub sum-ext : (n : ℕ) (g h : ℕ → ℤ) → ((i : ℕ) → i < n → g i ≡ h i) → sumZ n g ≡ sumZ n h
-unfolding sumZ
-sum-ext zero g h e = refl
-sum-ext (suc n) g h e = λ i. sum-ext n g h (λ k l. e k (le-step l)) i +ℤ e n (le-refl (suc n)) i
-
--- n numbers, each at most m in size
-pub low-sum : (n : ℕ) (g : ℕ → ℤ) {m : ℕ} → ((i : ℕ) → i < n → Low m (g i)) → Low (n * m) (sumZ n g)
-unfolding sumZ
-low-sum zero g b = record { low = zero-le }
-low-sum (suc n) g {m} b = low-up _ (low-add (low-sum n g (λ i l. b i (le-step l))) (b n (le-refl (suc n)))) (le-of-eq (sym (suc-mul n m)))

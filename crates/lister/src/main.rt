@@ -1,5 +1,5 @@
 // Lists the QCIF blocks on standard input: a line for each, and how the receiver of their clip stands at the end.
-use format::Format;
+use coding::Kind;
 use libc::STDERR_FILENO;
 use libc::STDIN_FILENO;
 use libc::STDOUT_FILENO;
@@ -28,7 +28,7 @@ fn whole(
     first: &mut [u8; 38016],
     second: &mut [u8; 38016],
 ) -> Turn {
-    let listed = listing::list(Format::Qcif, clip, block, collection, first, second);
+    let listed = listing::list(Kind::H261Qcif, clip, block, collection, first, second);
     let answer = listed.answer;
     let next = listed.next;
     let mut text = [0u8; 128];

@@ -1,11 +1,11 @@
 -- Document 01, "The vault lister": the bytes of each line. Assumes nothing.
 use Prim.Native.Nat.{ℕ}
 use mathlib.Core.List.{List, [], _∷_, _++_}
-use Rattle.receiver.specs.declared.Answer.{Answer}
-use Rattle.receiver.specs.declared.Standing.{Standing}
-use Rattle.receiver.specs.declared.Standing.the-variants as S
-use Rattle.receiver.specs.Answered.{Said, old, taken, lost, picture, refused, said}
+use Rattle.standing.specs.declared.Answer.{Answer}
+use Rattle.standing.specs.declared.Standing.{Standing}
+use Rattle.standing.specs.Answered.{Said, old, taken, lost, picture, refused, said}
 use Rattle.text.specs.Text.{decimal, refusalText}
+use Rattle.standing.specs.declared.Standing.the-variants as S
 
 -- "The tick of a picture is its number."
 abbrev pub tickOf : ℕ → ℕ

@@ -1,17 +1,17 @@
 // The vault lister's work but reading and writing: the clip that is listed, what each block comes to, and its line.
-use format::Format;
-use receiver::Answer;
-use receiver::Opened;
-use receiver::Receiver;
-use receiver::Standing;
+use coding::Kind;
+use standing::Answer;
+use standing::Opened;
+use standing::Receiver;
+use standing::Standing;
 use vault::Checked;
 ghost use mathlib.Core.Path.{_≡_};
 ghost use Prim.Native.Nat.{_+_, _≤_};
 ghost use lib.ListN.{length};
 ghost use Rattle.io.specs.Counts.{Counts};
-ghost use Rattle.receiver.specs.Answered.{said};
-ghost use Rattle.receiver.specs.Receive.{buffers, step};
-ghost use Rattle.receiver.specs.H261.{h261};
+ghost use Rattle.coding.specs.Kind.{codingOf};
+ghost use Rattle.standing.specs.Answered.{said};
+ghost use Rattle.standing.specs.Receive.{buffers, step};
 ghost use Rattle.text.specs.Text.{over};
 ghost use Rattle.text.specs.Puts.{Puts};
 ghost use Rattle.listing.specs.Lines.{tickOf, placeText, pictureText, textOf, lineText, shortText, standingText};
@@ -31,11 +31,12 @@ pub struct Listed {
 // ---- what a block comes to
 
 // A receiver for the block's clip, or 21 or 22.
-pub fn find(format: Format, block: &[u8]) -> Opened
-    ensures { λ r. ⌜ r ≡ foundBy format (now (block .entry)) ⌝ }
+pub fn find(kind: Kind, block: &[u8]) -> Opened
+    ensures { λ r. ⌜ r ≡ foundBy kind (now (block .entry)) ⌝ }
 {
-    match vault::check(format, block) {
-        Checked::Good(header) => receiver::open(header.clip, format),
+    let size = coding::size_of(kind);
+    match vault::check(size, block) {
+        Checked::Good(header) => standing::open(header.clip, kind),
         Checked::Refused(why) => Opened::Refused(why),
     }
 }
@@ -47,7 +48,7 @@ fn go_on(
     first: &mut [u8],
     second: &mut [u8],
 ) -> Listed
-    ensures { λ r. ⌜ came r (now (collection .exit)) (now (first .exit)) (now (second .exit)) ≡ stepped (step h261 receiver (now (block .entry)) (buffers (now (collection .entry)) (now (first .entry)) (now (second .entry)))) ⌝ }
+    ensures { λ r. ⌜ came r (now (collection .exit)) (now (first .exit)) (now (second .exit)) ≡ stepped (step codingOf receiver (now (block .entry)) (buffers (now (collection .entry)) (now (first .entry)) (now (second .entry)))) ⌝ }
 {
     let received = receiver::receive(receiver, block, collection, first, second);
     let answer = received.answer;
@@ -60,18 +61,18 @@ fn go_on(
 
 // A block comes: the answer, and the clip afterwards. The first good block opens its clip's receiver.
 pub fn list(
-    format: Format,
+    kind: Kind,
     clip: Clip,
     block: &[u8],
     collection: &mut [u8],
     first: &mut [u8],
     second: &mut [u8],
 ) -> Listed
-    ensures { λ r. ⌜ came r (now (collection .exit)) (now (first .exit)) (now (second .exit)) ≡ listedOf format clip (now (block .entry)) (buffers (now (collection .entry)) (now (first .entry)) (now (second .entry))) ⌝ }
+    ensures { λ r. ⌜ came r (now (collection .exit)) (now (first .exit)) (now (second .exit)) ≡ listedOf kind clip (now (block .entry)) (buffers (now (collection .entry)) (now (first .entry)) (now (second .entry))) ⌝ }
 {
     match clip {
         Clip::Known(receiver) => go_on(receiver, block, collection, first, second),
-        Clip::Unknown => match find(format, block) {
+        Clip::Unknown => match find(kind, block) {
             Opened::Open(receiver) => go_on(receiver, block, collection, first, second),
             Opened::Refused(why) => Listed {
                 answer: Answer::Refused(why),
@@ -111,7 +112,8 @@ fn put_picture(picture: u32, at: usize, out: &mut [u8]) -> usize
     text::put_number(tick_of(picture) as u64, ticking, out)
 }
 
-fn put_answer(answer: Answer, at: usize, out: &mut [u8]) -> usize
+// " taken 3.1", " picture 3 tick 3", " refused 21".
+pub fn put_answer(answer: Answer, at: usize, out: &mut [u8]) -> usize
     requires { ⌜ at + 60 ≤ length (now out) ⌝ }
     ensures { λ r. ⌜ r ≤ at + 60 ⌝ }
     ensures { λ r. ⌜ Puts (textOf (said answer)) at (now (out .entry)) (now (out .exit)) r ⌝ }
@@ -146,7 +148,8 @@ pub fn short(n: u64, out: &mut [u8; 128]) -> usize
     text::put(b" short\n", numbered, out)
 }
 
-fn put_standing(standing: Standing, at: usize, out: &mut [u8]) -> usize
+// " lost", " catching", " in step at 3".
+pub fn put_standing(standing: Standing, at: usize, out: &mut [u8]) -> usize
     requires { ⌜ at + 32 ≤ length (now out) ⌝ }
     ensures { λ r. ⌜ r ≤ at + 32 ⌝ }
     ensures { λ r. ⌜ Puts (standingText standing) at (now (out .entry)) (now (out .exit)) r ⌝ }
@@ -170,7 +173,8 @@ pub fn end(clip: Clip, out: &mut [u8; 128]) -> usize
     match clip {
         Clip::Unknown => text::put(b"end none\n", 0, out),
         Clip::Known(receiver) => {
-            let standing = receiver.standing;
+            let progress = receiver.progress;
+            let standing = progress.standing;
             let named = text::put(b"end clip ", 0, out);
             let clipped = text::put_number(receiver.clip as u64, named, out);
             let stood = put_standing(standing, clipped, out);

@@ -4,16 +4,17 @@
 // number. Where standard error is a terminal, a line there tells how far it has come.
 use arguments::ClipWord;
 use arguments::FormatWord;
-use format::Format;
+use h261_groups::Format;
 use libc::STDERR_FILENO;
 use libc::STDIN_FILENO;
 use libc::STDOUT_FILENO;
-use reader::Verdict;
 use refusals::Refusal;
+use refusals::Verdict;
 use sender::Answer;
 use sender::Opened;
 use sender::Sender;
 use stream::Stream;
+ghost use Prim.Native.Nat.{_<_, _≤_};
 
 // What has gone by of the stream, and the sender so far; whether the blocks can still be written; whether a terminal shows how far it has come.
 struct Pack {
@@ -39,7 +40,7 @@ fn clear(terminal: bool) {
 fn say_progress(terminal: bool, pictures: u32, offset: usize) {
     if terminal {
         let mut text = [0u8; 128];
-        let count = remarks::progress(pictures as u64, offset as u64, &mut text);
+        let count = text::remarks::progress(pictures as u64, offset as u64, &mut text);
         io::write_all(STDERR_FILENO, &text[..count]);
     }
 }
@@ -54,7 +55,7 @@ fn end_progress(terminal: bool) {
 fn say_refused(terminal: bool, offset: usize, why: Refusal) {
     clear(terminal);
     let mut text = [0u8; 128];
-    let count = remarks::refused(offset as u64, why, &mut text);
+    let count = text::remarks::refused(offset as u64, why, &mut text);
     io::write_all(STDERR_FILENO, &text[..count]);
 }
 
@@ -77,7 +78,7 @@ fn put_blocks(blocks: usize, out: &[u8]) -> bool {
 
 // A description goes under the next number.
 fn send(
-    pack: Pack,
+    before: Pack,
     head: &[u8],
     macroblocks: &[u8],
     levels: &[u8],
@@ -85,36 +86,28 @@ fn send(
     first: &mut [u8],
     second: &mut [u8],
 ) -> Pack {
-    let stream = pack.stream;
-    let sender = pack.sender;
+    let stream = before.stream;
+    let sender = before.sender;
     let sent = sender::send(sender, head, macroblocks, levels, out, first, second);
     let answer = sent.answer;
     let next = sent.next;
+    let mut pack = before;
+    pack.sender = next;
     match answer {
         Answer::Blocks(blocks) => {
-            let writes = put_blocks(blocks, out);
+            pack.writes = put_blocks(blocks, out);
             say_progress(pack.terminal, next.picture, stream.offset);
-            Pack {
-                stream,
-                sender: next,
-                writes,
-                terminal: pack.terminal,
-            }
+            pack
         }
         Answer::Refused(why) => {
             say_refused(pack.terminal, stream.offset, why);
-            Pack {
-                stream,
-                sender: next,
-                writes: pack.writes,
-                terminal: pack.terminal,
-            }
+            pack
         }
     }
 }
 
-// The picture that ends here, of `count` bits, the last one of them before `ones`.
-fn finish(
+// A picture of `count` bits, the last one of them before `ones`: read, and its description sent.
+fn read(
     pack: Pack,
     count: usize,
     ones: usize,
@@ -128,10 +121,8 @@ fn finish(
 ) -> Pack {
     let stream = pack.stream;
     let sender = pack.sender;
-    let format = sender.format;
-    if !stream.begun {
-        return pack;
-    }
+    let kind = sender.kind;
+    let format = coding::format_of(kind);
     let verdict = stream::read(format, picture, count, ones, head, macroblocks, levels);
     match verdict {
         Verdict::Accepted => send(pack, head, macroblocks, levels, out, first, second),
@@ -142,6 +133,40 @@ fn finish(
     }
 }
 
+// The picture that ends here, in buffers that last as long as it.
+fn finish(
+    pack: Pack,
+    count: usize,
+    ones: usize,
+    picture: &[u8],
+    first: &mut [u8],
+    second: &mut [u8],
+) -> Pack {
+    let sender = pack.sender;
+    let kind = sender.kind;
+    let format = coding::format_of(kind);
+    let heads = h261_groups::head_length(format);
+    let fields = h261_groups::macroblocks_length(format);
+    let coefficients = h261_groups::levels_length(format);
+    let blocks = h261_groups::blocks_length(format);
+    let mut head = [0u8; 15];
+    let mut macroblocks = [0u8; 1584];
+    let mut levels = [0u8; 152064];
+    let mut out = [0u8; 33792];
+    read(
+        pack,
+        count,
+        ones,
+        picture,
+        &mut head[..heads],
+        &mut macroblocks[..fields],
+        &mut levels[..coefficients],
+        &mut out[..blocks],
+        first,
+        second,
+    )
+}
+
 // How many bits the picture has where the next start code ends with the next bit.
 fn bits_before(count: usize) -> usize {
     if count < 19 {
@@ -150,109 +175,49 @@ fn bits_before(count: usize) -> usize {
     count - 19
 }
 
-fn bit(
-    pack: Pack,
-    bit: bool,
-    picture: &mut [u8],
-    head: &mut [u8],
-    macroblocks: &mut [u8],
-    levels: &mut [u8],
-    out: &mut [u8],
-    first: &mut [u8],
-    second: &mut [u8],
-) -> Pack {
+// Where a start code ends with the next bit, the picture before it is whole.
+fn end(pack: Pack, starts: bool, picture: &[u8], first: &mut [u8], second: &mut [u8]) -> Pack {
     let stream = pack.stream;
-    let next = stream::starts(stream, bit);
-    if next {
-        let count = bits_before(stream.count);
-        let done = finish(
+    if starts && stream.begun {
+        return finish(
             pack,
-            count,
+            bits_before(stream.count),
             stream.before,
             picture,
-            head,
-            macroblocks,
-            levels,
-            out,
             first,
             second,
         );
-        let sender = done.sender;
-        return Pack {
-            stream: stream::push(stream, bit, picture),
-            sender,
-            writes: done.writes,
-            terminal: done.terminal,
-        };
-    }
-    let sender = pack.sender;
-    Pack {
-        stream: stream::push(stream, bit, picture),
-        sender,
-        writes: pack.writes,
-        terminal: pack.terminal,
-    }
-}
-
-fn byte(
-    before: Pack,
-    value: u8,
-    picture: &mut [u8],
-    head: &mut [u8],
-    macroblocks: &mut [u8],
-    levels: &mut [u8],
-    out: &mut [u8],
-    first: &mut [u8],
-    second: &mut [u8],
-) -> Pack {
-    let mut pack = before;
-    let mut left = value;
-    let mut i: usize = 0;
-    while i < 8 {
-        let one = left / 128 == 1;
-        left = left % 128 * 2;
-        pack = bit(
-            pack,
-            one,
-            picture,
-            head,
-            macroblocks,
-            levels,
-            out,
-            first,
-            second,
-        );
-        i += 1;
     }
     pack
 }
 
+fn bit(before: Pack, bit: bool, picture: &mut [u8], first: &mut [u8], second: &mut [u8]) -> Pack {
+    let stream = before.stream;
+    let mut pack = end(before, stream::starts(stream, bit), picture, first, second);
+    let next = stream::push(stream, bit, picture);
+    pack.stream = next;
+    pack
+}
+
+fn bit_at(bytes: &[u8; 4096], at: usize) -> bool
+    requires { ⌜ at < 32768 ⌝ }
+{
+    bytes[at / 8] >> (7 - at % 8) & 1 == 1
+}
+
 fn chunk(
     before: Pack,
-    bytes: &[u8],
+    bytes: &[u8; 4096],
+    count: usize,
     picture: &mut [u8],
-    head: &mut [u8],
-    macroblocks: &mut [u8],
-    levels: &mut [u8],
-    out: &mut [u8],
     first: &mut [u8],
     second: &mut [u8],
-) -> Pack {
+) -> Pack
+    requires { ⌜ count ≤ 32768 ⌝ }
+{
     let mut pack = before;
-    let mut i: usize = 0;
-    while i < bytes.len() {
-        pack = byte(
-            pack,
-            bytes[i],
-            picture,
-            head,
-            macroblocks,
-            levels,
-            out,
-            first,
-            second,
-        );
-        i += 1;
+    for at in 0..count {
+        pack = bit(pack, bit_at(bytes, at), picture, first, second);
     }
     pack
 }
@@ -265,142 +230,56 @@ fn goes_on(got: usize, writes: bool) -> bool {
     false
 }
 
-fn one(
-    pack: Pack,
-    picture: &mut [u8],
-    head: &mut [u8],
-    macroblocks: &mut [u8],
-    levels: &mut [u8],
-    out: &mut [u8],
-    first: &mut [u8],
-    second: &mut [u8],
-) -> Turn {
+fn one(pack: Pack, picture: &mut [u8], first: &mut [u8], second: &mut [u8]) -> Turn {
     let mut input = io::buffer();
     let got = io::read_full(STDIN_FILENO, &mut input);
-    let next = chunk(
-        pack,
-        &input[..got],
-        picture,
-        head,
-        macroblocks,
-        levels,
-        out,
-        first,
-        second,
-    );
+    let next = chunk(pack, &input, 8 * got, picture, first, second);
     Turn {
         more: goes_on(got, next.writes),
         pack: next,
     }
 }
 
-// Nothing says that the input ends, so the loop counts its turns.
-fn all(
-    sender: Sender,
-    terminal: bool,
-    picture: &mut [u8],
-    head: &mut [u8],
-    macroblocks: &mut [u8],
-    levels: &mut [u8],
-    out: &mut [u8],
-    first: &mut [u8],
-    second: &mut [u8],
-) -> Pack {
-    let mut pack = Pack {
+// The stream, and the picture at its end. Nothing says that the input ends, so the loop counts its turns.
+fn all(opened: Pack, picture: &mut [u8], first: &mut [u8], second: &mut [u8]) {
+    let mut pack = opened;
+    let mut more = true;
+    let mut n: u64 = 0;
+    while n < 18446744073709551615 && more {
+        let turn = one(pack, picture, first, second);
+        pack = turn.pack;
+        more = turn.more;
+        n += 1;
+    }
+    let stream = pack.stream;
+    if stream.begun {
+        finish(pack, stream.count, stream.last, picture, first, second);
+    }
+}
+
+// The buffers that last as long as the stream have room for either format.
+fn record(sender: Sender) {
+    let kind = sender.kind;
+    let format = coding::format_of(kind);
+    let terminal = libc::isatty(STDERR_FILENO) == 1;
+    let bytes = h261_groups::output_length(format);
+    let samples = h261_groups::store_length(format);
+    let mut picture = [0u8; 32768];
+    let mut first = [0u8; 152064];
+    let mut second = [0u8; 152064];
+    let pack = Pack {
         stream: stream::open(),
         sender,
         writes: true,
         terminal,
     };
-    let mut more = true;
-    let mut n: u64 = 0;
-    while n < 18446744073709551615 && more {
-        let turn = one(pack, picture, head, macroblocks, levels, out, first, second);
-        pack = turn.pack;
-        more = turn.more;
-        n += 1;
-    }
-    pack
-}
-
-// The stream, and the picture at its end.
-fn run(
-    sender: Sender,
-    terminal: bool,
-    picture: &mut [u8],
-    head: &mut [u8],
-    macroblocks: &mut [u8],
-    levels: &mut [u8],
-    out: &mut [u8],
-    first: &mut [u8],
-    second: &mut [u8],
-) {
-    let pack = all(
-        sender,
-        terminal,
-        picture,
-        head,
-        macroblocks,
-        levels,
-        out,
-        first,
-        second,
-    );
-    let stream = pack.stream;
-    finish(
+    all(
         pack,
-        stream.count,
-        stream.last,
-        picture,
-        head,
-        macroblocks,
-        levels,
-        out,
-        first,
-        second,
+        &mut picture[..bytes],
+        &mut first[..samples],
+        &mut second[..samples],
     );
-}
-
-fn qcif(sender: Sender, terminal: bool) {
-    let mut picture = [0u8; 8192];
-    let mut head = [0u8; 6];
-    let mut macroblocks = [0u8; 396];
-    let mut levels = [0u8; 38016];
-    let mut out = [0u8; 8704];
-    let mut first = [0u8; 38016];
-    let mut second = [0u8; 38016];
-    run(
-        sender,
-        terminal,
-        &mut picture,
-        &mut head,
-        &mut macroblocks,
-        &mut levels,
-        &mut out,
-        &mut first,
-        &mut second,
-    );
-}
-
-fn cif(sender: Sender, terminal: bool) {
-    let mut picture = [0u8; 32768];
-    let mut head = [0u8; 15];
-    let mut macroblocks = [0u8; 1584];
-    let mut levels = [0u8; 152064];
-    let mut out = [0u8; 33792];
-    let mut first = [0u8; 152064];
-    let mut second = [0u8; 152064];
-    run(
-        sender,
-        terminal,
-        &mut picture,
-        &mut head,
-        &mut macroblocks,
-        &mut levels,
-        &mut out,
-        &mut first,
-        &mut second,
-    );
+    end_progress(terminal);
 }
 
 fn usage() {
@@ -410,18 +289,9 @@ fn usage() {
     );
 }
 
-fn record(format: Format, sender: Sender) {
-    let terminal = libc::isatty(STDERR_FILENO) == 1;
-    match format {
-        Format::Qcif => qcif(sender, terminal),
-        Format::Cif => cif(sender, terminal),
-    }
-    end_progress(terminal);
-}
-
 fn begin(format: Format, clip: u16) {
-    match sender::open(clip, format) {
-        Opened::Open(sender) => record(format, sender),
+    match sender::open(clip, coding::kind_of(format)) {
+        Opened::Open(sender) => record(sender),
         Opened::Refused(_) => usage(),
     }
 }

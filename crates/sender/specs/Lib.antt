@@ -1,5 +1,3 @@
-pub mod Coding
 pub mod Send
-pub mod Laws
+pub mod Sending
 pub mod Run
-pub mod H261

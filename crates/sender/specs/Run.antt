@@ -2,13 +2,13 @@
 use Prim.Native.Nat.{ℕ, zero, suc}
 use mathlib.Core.List.{List, [], _∷_, _++_}
 use lib.ListN.{take, drop}
-use Rattle.format.specs.declared.Format.{Format}
-use Rattle.stores.specs.Stores.{Stores}
+use Rattle.coding.specs.declared.Kind.{Kind}
+use Rattle.coding.specs.Coding.{Coding}
+use Rattle.standing.specs.Stores.{Stores}
 use Rattle.sender.specs.declared.Sender.{Sender}
 use Rattle.sender.specs.declared.Answer.{Answer}
+use Rattle.sender.specs.Send.{Outcome, step}
 use Rattle.sender.specs.declared.Answer.the-variants as A
-use Rattle.sender.specs.Coding.{Coding}
-use Rattle.sender.specs.Send.{Buffers, Outcome, step}
 
 -- a call: a description, and what the lent output holds before it
 pub record Call (D : Type 0) : Type 0 where
@@ -30,7 +30,7 @@ abbrev pub added : Answer → List ℕ → List (List ℕ)
 added (A.Blocks n) out = cut n out
 added (A.Refused why) out = []
 
-module _ {D : Type 0} (coding : Format → Coding D) where
+module _ {D : Type 0} (coding : Kind → Coding D) where
   unfoldable pub called : World → Call D → Outcome
   called w call = step coding (w .sender) (call .description) (record { out = call .out; both = w .both })
 

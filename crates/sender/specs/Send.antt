@@ -1,7 +1,7 @@
 -- Document 01: "The sender starts at picture 0, numbers on by one, writes a picture's blocks into 8,704 or 33,792 bytes (the rest untouched), and keeps its store by the
 -- rules above, in two lent ones used as the receiver's are. Picture 0 must be a refresh." Assumes nothing.
 use Prim.Native.Nat.{ℕ, _+_, _*_}
-use mathlib.Core.Bool.{Bool, true, false}
+use mathlib.Core.Bool.{Bool}
 use mathlib.Core.List.{List, _++_}
 use lib.Dec.{eqb, leb, ltb}
 use lib.ListN.{length, drop}
@@ -9,29 +9,29 @@ use Rattle.laws.specs.Choice.{pick, both, either, opposite}
 use Rattle.refusals.specs.declared.Reason.{Reason}
 use Rattle.refusals.specs.declared.Reason.the-variants.{Length, BlockField, AllSent, Invalid, NotRefresh, AboveLimit}
 use Rattle.refusals.specs.Number.{refusal, number}
-use Rattle.bits.specs.Bits.{Bit}
-use Rattle.bits.specs.Write.{started, bytesOf}
-use Rattle.format.specs.declared.Format.{Format}
-use Rattle.format.specs.Format.{limit, blocksLength}
+use Rattle.size.specs.declared.Size.{Size}
+use Rattle.size.specs.Size.{limit, blocksLength}
+use Rattle.coding.specs.declared.Kind.{Kind}
+use Rattle.coding.specs.Coding.{Coding}
+use Rattle.coding.specs.Kind.{kindSize}
+use Rattle.coding.specs.Described.{bytesIn}
 use Rattle.vault.specs.Block.{pictures}
 use Rattle.vault.specs.Parts.{partCount, blocksOf}
-use Rattle.stores.specs.declared.Holder.{Holder}
-use Rattle.stores.specs.declared.Holder.the-variants.{Neither}
-use Rattle.stores.specs.Stores.{Stores, stores, sized, goesInto, reference, kept, shown}
+use Rattle.standing.specs.declared.Holder.the-variants.{Neither}
+use Rattle.standing.specs.Stores.{Stores, stores, sized, goesInto, reference, kept, shown}
 use Rattle.sender.specs.declared.Sender.{Sender}
 use Rattle.sender.specs.declared.Opened.{Opened}
-use Rattle.sender.specs.declared.Opened.the-variants as O
 use Rattle.sender.specs.declared.Answer.{Answer}
-use Rattle.sender.specs.declared.Answer.the-variants as A
 use Rattle.sender.specs.declared.Sent.{Sent}
-use Rattle.sender.specs.Coding.{Coding}
+use Rattle.sender.specs.declared.Opened.the-variants as O
+use Rattle.sender.specs.declared.Answer.the-variants as A
 
 -- ---- opening. Refusal 22: "opening with clip 0"
-abbrev pub fresh : ℕ → Format → Sender
-fresh clip format = record { clip = clip; format = format; picture = 0; holder = Neither }
+abbrev pub fresh : ℕ → Kind → Sender
+fresh clip kind = record { clip = clip; kind = kind; picture = 0; holder = Neither }
 
-abbrev pub opened : ℕ → Format → Opened
-opened clip format = pick (eqb clip 0) (O.Refused (refusal BlockField 0)) (O.Open (fresh clip format))
+abbrev pub opened : ℕ → Kind → Opened
+opened clip kind = pick (eqb clip 0) (O.Refused (refusal BlockField 0)) (O.Open (fresh clip kind))
 
 -- ---- the lent buffers but the description
 pub record Buffers : Type 0 where
@@ -41,8 +41,8 @@ pub record Buffers : Type 0 where
 abbrev pub buffers : List ℕ → List ℕ → List ℕ → Buffers
 buffers out first second = record { out = out; both = stores first second }
 
-abbrev pub lengths : Format → Buffers → Bool
-lengths f b = both (eqb (length (b .out)) (blocksLength f)) (sized f (length (b .both .first)) (length (b .both .second)))
+abbrev pub lengths : Size → Buffers → Bool
+lengths size b = both (eqb (length (b .out)) (blocksLength size)) (sized size (length (b .both .first)) (length (b .both .second)))
 
 -- ---- what a description comes to
 pub data Judgement : Type 0 where
@@ -59,21 +59,17 @@ pub record Outcome : Type 0 where
 abbrev pub outcome : Sent → List ℕ → List ℕ → List ℕ → Outcome
 outcome gave out first second = record { gave = gave; left = buffers out first second }
 
--- "fills the output's last started byte with zeros"
-abbrev pub bytesIn : List Bit → List ℕ
-bytesIn bits = bytesOf (started (length bits)) bits
-
 -- "numbers on by one"
 abbrev pub onward : Sender → Sender
-onward s = record { clip = s .clip; format = s .format; picture = s .picture + 1; holder = goesInto (s .holder) }
+onward s = record { clip = s .clip; kind = s .kind; picture = s .picture + 1; holder = goesInto (s .holder) }
 
-module _ {D : Type 0} (coding : Format → Coding D) where
+module _ {D : Type 0} (coding : Kind → Coding D) where
   -- "Sender: 1, 34, 31, 33, 32."
   unfoldable pub judge : Sender → D → Buffers → Judgement
   judge s d b =
-      let c = coding (s .format) in
+      let c = coding (s .kind) in
       -- 1: "a lent buffer hasn't its named length"
-      pick (both (c .named d) (lengths (s .format) b))
+      pick (both (c .named d) (lengths (kindSize (s .kind)) b))
       -- 34: "4,096 pictures sent"
       (pick (ltb (s .picture) pictures)
       -- 31: "invalid description, or one of another format than opened"
@@ -81,17 +77,17 @@ module _ {D : Type 0} (coding : Format → Coding D) where
       -- 33: "picture 0 not a refresh"
       (pick (either (opposite (eqb (s .picture) 0)) (c .refresh d))
       -- 32: "written picture above the limit"
-      (pick (leb (length (c .written d)) (limit (s .format))) sends (refuses AboveLimit))
+      (pick (leb (length (c .written d)) (limit (kindSize (s .kind)))) sends (refuses AboveLimit))
       (refuses NotRefresh)) (refuses Invalid)) (refuses AllSent)) (refuses Length)
 
   -- the blocks of the described picture, one after another
   unfoldable pub blocksSent : Sender → D → List ℕ
   blocksSent s d =
-      let c = coding (s .format) in
+      let c = coding (s .kind) in
       blocksOf (s .clip) (s .picture) (c .refresh d) (bytesIn (c .written d)) (length (c .written d))
 
   abbrev pub countSent : Sender → D → ℕ
-  countSent s d = partCount (length (coding (s .format) .written d))
+  countSent s d = partCount (length (coding (s .kind) .written d))
 
   -- "A refusal changes no buffer and no state"
   unfoldable pub cameTo : Sender → D → Buffers → Judgement → Outcome
@@ -99,7 +95,7 @@ module _ {D : Type 0} (coding : Format → Coding D) where
     gave = sent (A.Blocks (countSent s d)) (onward s);
     left = record {
       out = blocksSent s d ++ drop (512 * countSent s d) (b .out);
-      both = kept (s .holder) (coding (s .format) .render d (reference (s .holder) (b .both))) (b .both);
+      both = kept (s .holder) (coding (s .kind) .render d (reference (s .holder) (b .both))) (b .both);
     };
   }
   cameTo s d b (refuses reason) = record { gave = sent (A.Refused (refusal reason 0)) s; left = b }
@@ -118,4 +114,4 @@ said (A.Refused why) = refused (number (why .reason)) (why .place)
 
 -- ---- the store of the last picture sent
 abbrev pub shownBy : Sender → Stores → List ℕ
-shownBy s both = shown (s .format) (s .holder) both
+shownBy s both = shown (kindSize (s .kind)) (s .holder) both

@@ -1,26 +1,25 @@
 // A sender of one clip: state by value, in and out.
-use format::Format;
+use coding::Kind;
 use refusals::Reason;
 use refusals::Refusal;
-use stores::Holder;
-use writer::Written;
+use standing::Holder;
 ghost use mathlib.Core.Path.{_≡_};
 ghost use Prim.Native.Nat.{_<_};
 ghost use lib.Dec.{eqb};
 ghost use lib.ListN.{length};
 ghost use Rattle.laws.specs.Choice.{both, either, opposite};
 ghost use Rattle.refusals.specs.Number.{refusal};
-ghost use Rattle.format.specs.Format.{outputLength};
-ghost use Rattle.description.specs.Fields.{flat};
+ghost use Rattle.size.specs.Size.{outputLength};
+ghost use Rattle.layout.specs.Flat.{flat};
+ghost use Rattle.coding.specs.Kind.{kindSize, codingOf};
 ghost use Rattle.vault.specs.Block.{pictures};
-ghost use Rattle.stores.specs.Stores.{stores};
-ghost use Rattle.sender.specs.H261.{h261, SendDoes};
-ghost use Rattle.sender.specs.Laws.{Passed, Encoded};
-ghost use Rattle.sender.specs.Send.{opened, buffers, lengths, sent, sends, onward, outcome, cameTo, step, shownBy};
+ghost use Rattle.standing.specs.Stores.{stores};
+ghost use Rattle.sender.specs.Sending.{SendDoes, Passed, Encoded};
+ghost use Rattle.sender.specs.Send.{opened, buffers, lengths, sent, sends, onward, outcome, cameTo, shownBy};
 
 pub struct Sender {
     pub clip: u16,
-    pub format: Format,
+    pub kind: Kind,
     // The number of the next picture.
     pub picture: u32,
     // Which store holds the last picture sent.
@@ -43,8 +42,8 @@ pub struct Sent {
     pub next: Sender,
 }
 
-pub fn open(clip: u16, format: Format) -> Opened
-    ensures { λ r. ⌜ r ≡ opened clip format ⌝ }
+pub fn open(clip: u16, kind: Kind) -> Opened
+    ensures { λ r. ⌜ r ≡ opened clip kind ⌝ }
 {
     if clip == 0 {
         return Opened::Refused(Refusal {
@@ -54,7 +53,7 @@ pub fn open(clip: u16, format: Format) -> Opened
     }
     Opened::Open(Sender {
         clip,
-        format,
+        kind,
         picture: 0,
         holder: Holder::Neither,
     })
@@ -64,7 +63,7 @@ pub fn open(clip: u16, format: Format) -> Opened
 
 // Whether every lent buffer has its named length.
 fn named(
-    format: Format,
+    kind: Kind,
     head: &[u8],
     macroblocks: &[u8],
     levels: &[u8],
@@ -72,15 +71,16 @@ fn named(
     first: &[u8],
     second: &[u8],
 ) -> bool
-    ensures { λ r. ⌜ r ≡ both (h261 format .named (flat (now (head .entry)) (now (macroblocks .entry)) (now (levels .entry)))) (lengths format (buffers (now (out .entry)) (now (first .entry)) (now (second .entry)))) ⌝ }
+    ensures { λ r. ⌜ r ≡ both (codingOf kind .named (flat (now (head .entry)) (now (macroblocks .entry)) (now (levels .entry)))) (lengths (kindSize kind) (buffers (now (out .entry)) (now (first .entry)) (now (second .entry)))) ⌝ }
 {
-    if !writer::one_format(head, macroblocks, levels) {
+    if !coding::named(kind, head, macroblocks, levels) {
         return false;
     }
-    if out.len() != format::blocks_length(format) {
+    let size = coding::size_of(kind);
+    if out.len() != size::blocks_length(size) {
         return false;
     }
-    stores::sized(format, first.len(), second.len())
+    standing::sized(size, first.len(), second.len())
 }
 
 // Picture 0 must be a refresh.
@@ -108,12 +108,12 @@ fn number_on(sender: Sender) -> Sender
     requires { ⌜ sender .picture < pictures ⌝ }
     ensures { λ r. ⌜ r ≡ onward sender ⌝ }
 {
-    let format = sender.format;
+    let kind = sender.kind;
     let held = sender.holder;
-    let holder = stores::goes_into(held);
+    let holder = standing::goes_into(held);
     Sender {
         clip: sender.clip,
-        format,
+        kind,
         picture: sender.picture + 1,
         holder,
     }
@@ -132,13 +132,13 @@ fn put(
     first: &mut [u8],
     second: &mut [u8],
 ) -> Sent
-    requires { ⌜ Encoded h261 sender refresh (flat (now head) (now macroblocks) (now levels)) (buffers (now out) (now first) (now second)) (now bytes) count ⌝ }
-    ensures { λ r. ⌜ outcome r (now (out .exit)) (now (first .exit)) (now (second .exit)) ≡ cameTo h261 sender (flat (now (head .entry)) (now (macroblocks .entry)) (now (levels .entry))) (buffers (now (out .entry)) (now (first .entry)) (now (second .entry))) sends ⌝ }
+    requires { ⌜ Encoded codingOf sender refresh (flat (now head) (now macroblocks) (now levels)) (buffers (now out) (now first) (now second)) (now bytes) count ⌝ }
+    ensures { λ r. ⌜ outcome r (now (out .exit)) (now (first .exit)) (now (second .exit)) ≡ cameTo codingOf sender (flat (now (head .entry)) (now (macroblocks .entry)) (now (levels .entry))) (buffers (now (out .entry)) (now (first .entry)) (now (second .entry))) sends ⌝ }
 {
-    let format = sender.format;
+    let kind = sender.kind;
     let holder = sender.holder;
     let blocks = vault::blocks(sender.clip, sender.picture, refresh, bytes, count, out);
-    stores::keep(format, holder, head, macroblocks, levels, first, second);
+    stores::keep(kind, holder, head, macroblocks, levels, first, second);
     let next = number_on(sender);
     Sent {
         answer: Answer::Blocks(blocks),
@@ -158,32 +158,28 @@ fn send_in(
     first: &mut [u8],
     second: &mut [u8],
 ) -> Sent
-    requires { ⌜ (Passed h261 sender refresh (flat (now head) (now macroblocks) (now levels)) (buffers (now out) (now first) (now second))) × (length (now scratch) ≡ outputLength (sender .format)) ⌝ }
+    requires { ⌜ (Passed codingOf sender refresh (flat (now head) (now macroblocks) (now levels)) (buffers (now out) (now first) (now second))) × (length (now scratch) ≡ outputLength (kindSize (sender .kind))) ⌝ }
     ensures { λ r. ⌜ SendDoes sender (flat (now (head .entry)) (now (macroblocks .entry)) (now (levels .entry))) (buffers (now (out .entry)) (now (first .entry)) (now (second .entry))) (outcome r (now (out .exit)) (now (first .exit)) (now (second .exit))) ⌝ }
 {
-    let format = sender.format;
-    let written = writer::write(head, macroblocks, levels, format, scratch);
-    match written {
-        Written::Bits(count) => {
-            let bytes = (count + 7) / 8;
-            put(
-                sender,
-                refresh,
-                head,
-                macroblocks,
-                levels,
-                &scratch[..bytes],
-                count,
-                out,
-                first,
-                second,
-            )
-        }
-        Written::Refused(why) => Sent {
-            answer: Answer::Refused(why),
-            next: sender,
-        },
+    let kind = sender.kind;
+    let count = coding::write(kind, head, macroblocks, levels, scratch);
+    let size = coding::size_of(kind);
+    if size::limit(size) < count {
+        return refused(sender, Reason::AboveLimit);
     }
+    let bytes = (count + 7) / 8;
+    put(
+        sender,
+        refresh,
+        head,
+        macroblocks,
+        levels,
+        &scratch[..bytes],
+        count,
+        out,
+        first,
+        second,
+    )
 }
 
 // A description comes: the answer and the next state; the picture's blocks in the output, its samples in a store. A refusal changes nothing.
@@ -198,29 +194,30 @@ pub fn send(
 ) -> Sent
     ensures { λ r. ⌜ SendDoes sender (flat (now (head .entry)) (now (macroblocks .entry)) (now (levels .entry))) (buffers (now (out .entry)) (now (first .entry)) (now (second .entry))) (outcome r (now (out .exit)) (now (first .exit)) (now (second .exit))) ⌝ }
 {
-    let format = sender.format;
-    if !named(format, head, macroblocks, levels, out, first, second) {
+    let kind = sender.kind;
+    if !named(kind, head, macroblocks, levels, out, first, second) {
         return refused(sender, Reason::Length);
     }
     if vault::PICTURES <= sender.picture {
         return refused(sender, Reason::AllSent);
     }
-    if !validity::valid(head, macroblocks, levels, format) {
+    if !coding::valid(kind, head, macroblocks, levels) {
         return refused(sender, Reason::Invalid);
     }
-    let refresh = stores::is_refresh(format, macroblocks);
-    if !begins(sender.picture, refresh) {
+    let refreshed = coding::is_refresh(kind, head, macroblocks, levels);
+    if !begins(sender.picture, refreshed) {
         return refused(sender, Reason::NotRefresh);
     }
     let mut scratch = [0u8; 32768];
-    let size = format::output_length(format);
+    let size = coding::size_of(kind);
+    let room = size::output_length(size);
     send_in(
         sender,
-        refresh,
+        refreshed,
         head,
         macroblocks,
         levels,
-        &mut scratch[..size],
+        &mut scratch[..room],
         out,
         first,
         second,
@@ -231,7 +228,8 @@ pub fn send(
 pub fn show<'a>(sender: Sender, first: &'a [u8], second: &'a [u8]) -> &'a [u8]
     ensures { λ r. ⌜ now r ≡ shownBy sender (stores (now (first .entry)) (now (second .entry))) ⌝ }
 {
-    let format = sender.format;
+    let kind = sender.kind;
     let holder = sender.holder;
-    stores::show(format, holder, first, second)
+    let size = coding::size_of(kind);
+    standing::store_shown(size, holder, first, second)
 }

@@ -2,10 +2,9 @@
 use Prim.Native.Nat.{ℕ, _+_, _*_, _%_, _^_, _/_, _<_, _≤_}
 use native.Mathlib.Omega.{arith}
 use borrow.Author.Tests.{lt-ltb, le-ltb, le-leb, lt-leb}
-use mathlib.Core.Path.{_≡_, refl, sym, ap, _∙_}
+use mathlib.Core.Path.{_≡_, sym, ap, _∙_}
 use mathlib.Core.Bool.{Bool, true, false}
 use mathlib.Core.List.{List}
-use lib.Dec.{ltb, leb}
 use lib.ListN.{length}
 use Rattle.laws.specs.Choice.{pick}
 use Rattle.bits.specs.Bits.{bitsOf}
@@ -38,28 +37,16 @@ module _ (s : Stream) (bit : Bool) {place window : ℕ} (p : place ≡ oneMore (
   begun o = λ i. record { place = p i; window = w i; begun = true; offset = (o ∙ ap offsetOf p) i; count = 20; last = 16; «before» = 0 }
 
   module _ {count : ℕ} (c : count ≡ oneMore (s .count)) where
-    pub longer-one : bit ≡ true
-        → record { place = place; window = window; begun = s .begun; offset = s .offset; count = count; last = count; «before» = s .last } ≡ longerBy s bit
-    longer-one e = λ i. record {
+    pub longer : {t : Bool} → bit ≡ t
+        → record { place = place; window = window; begun = s .begun; offset = s .offset; count = count; last = pick t count (s .last); «before» = pick t (s .last) (s .«before») } ≡ longerBy s bit
+    longer e = λ i. record {
       place = p i;
       window = w i;
       begun = s .begun;
       offset = s .offset;
       count = c i;
-      last = (c ∙ sym (ap (λ (t : Bool). pick t (oneMore (s .count)) (s .last)) e)) i;
-      «before» = sym (ap (λ (t : Bool). pick t (s .last) (s .«before»)) e) i;
-    }
-
-    pub longer-zero : bit ≡ false
-        → record { place = place; window = window; begun = s .begun; offset = s .offset; count = count; last = s .last; «before» = s .«before» } ≡ longerBy s bit
-    longer-zero e = λ i. record {
-      place = p i;
-      window = w i;
-      begun = s .begun;
-      offset = s .offset;
-      count = c i;
-      last = sym (ap (λ (t : Bool). pick t (oneMore (s .count)) (s .last)) e) i;
-      «before» = sym (ap (λ (t : Bool). pick t (s .last) (s .«before»)) e) i;
+      last = pick (sym e i) (c i) (s .last);
+      «before» = pick (sym e i) (s .last) (s .«before»);
     }
 
 -- ---- the buffer

@@ -6,17 +6,18 @@ use mathlib.Core.Path.{_≡_, refl, sym, ap, subst, _∙_}
 use mathlib.Core.Bool.{Bool, true, false}
 use mathlib.Core.List.{List}
 use lib.Dec.{leb}
-use Rattle.laws.specs.Choice.{pick, both, second-no}
+use Rattle.laws.specs.Choice.{pick, both}
+use Rattle.laws.proofs.Choice.{second-no}
 use Rattle.refusals.specs.declared.Reason.the-variants.{Length}
 use Rattle.refusals.specs.declared.Refusal.{Refusal}
 use Rattle.refusals.specs.Number.{number, refusal}
 use Rattle.bits.specs.Read.{Read, got, refused, endless}
-use Rattle.format.specs.declared.Format.{Format}
-use Rattle.description.specs.Flat.{Flat}
-use Rattle.reader.specs.declared.Verdict.{Verdict}
-use Rattle.reader.specs.declared.Verdict.the-variants.{Accepted, Refused}
-use Rattle.reader.specs.Described.{verdictOf}
-use Rattle.reader.specs.ReadOf.{readOf, flatAfter}
+use Rattle.h261_groups.specs.declared.Format.{Format}
+use Rattle.layout.specs.Flat.{Flat}
+use Rattle.refusals.specs.declared.Verdict.{Verdict}
+use Rattle.refusals.specs.declared.Verdict.the-variants.{Accepted, Refused}
+use Rattle.h261_reader.specs.Described.{verdictOf}
+use Rattle.h261_reader.specs.ReadOf.{readOf, flatAfter}
 use Rattle.stream.specs.Filled.{countOf, amongZeros, orElse, unfilled, byFirst, filled}
 
 -- ---- a refusal among the zeros

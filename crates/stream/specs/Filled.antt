@@ -8,14 +8,15 @@ use Rattle.laws.specs.Choice.{pick, both}
 use Rattle.refusals.specs.declared.Refusal.{Refusal}
 use Rattle.refusals.specs.Number.{number}
 use Rattle.bits.specs.Read.{Read, got, refused, endless}
-use Rattle.format.specs.declared.Format.{Format}
-use Rattle.format.specs.Format.{limit}
-use Rattle.description.specs.Flat.{Flat}
-use Rattle.reader.specs.ReadOf.{readOf}
+use Rattle.h261_groups.specs.declared.Format.{Format}
+use Rattle.h261_groups.specs.Format.{sizeOf}
+use Rattle.size.specs.Size.{limit}
+use Rattle.layout.specs.Flat.{Flat}
+use Rattle.h261_reader.specs.ReadOf.{readOf}
 
 -- N: all bits, but of the zeros after the last one only those up to the limit
 abbrev pub countOf : Format → ℕ → ℕ → ℕ
-countOf f count ones = min count (max (limit f) ones)
+countOf f count ones = min count (max (limit (sizeOf f)) ones)
 
 -- a refusal of 3 to 13 among the zeros after the last one
 abbrev pub amongZeros : Refusal → ℕ → Bool

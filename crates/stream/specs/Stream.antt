@@ -1,9 +1,7 @@
 -- A raw H.261 stream, bit by bit: a picture reaches from its start code, at any bit, to the next one or to the stream's end. Assumes nothing.
-use Prim.Native.Nat.{ℕ, _+_, _-_, _*_, _/_, _%_, _<_}
-use borrow.Author.Tests.{lt-ltb}
-use mathlib.Core.Path.{_≡_, sym, ap}
+use Prim.Native.Nat.{ℕ, _+_, _-_, _*_, _/_, _%_}
 use mathlib.Core.Bool.{Bool, true, false}
-use mathlib.Core.List.{List, [], _∷_}
+use mathlib.Core.List.{List}
 use lib.Dec.{eqb, ltb, leb}
 use lib.ListN.{length}
 use Rattle.laws.specs.Choice.{pick}
@@ -18,9 +16,6 @@ bitNumber false = 0
 -- counts stop at the greatest number of 64 bits
 abbrev pub oneMore : ℕ → ℕ
 oneMore n = pick (ltb n 18446744073709551615) (n + 1) n
-
-pub more-below : (n : ℕ) → n < 18446744073709551615 → n + 1 ≡ oneMore n
-more-below n l = sym (ap (λ (t : Bool). pick t (n + 1) n) (lt-ltb n 18446744073709551615 l))
 
 -- before the first bit: no zero has been seen
 abbrev pub fresh : Stream

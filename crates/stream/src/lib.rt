@@ -1,13 +1,13 @@
 // A raw H.261 stream, bit by bit: its pictures, at any bit, with fill of zeros between.
-use format::Format;
-use reader::Verdict;
+use h261_groups::Format;
 use refusals::Refusal;
+use refusals::Verdict;
 ghost use mathlib.Core.Path.{_≡_};
 ghost use mathlib.Core.Bool.{Bool};
 ghost use Prim.Native.Nat.{min, max};
-ghost use Rattle.description.specs.Fields.{flat};
-ghost use Rattle.reader.specs.Described.{verdictOf};
-ghost use Rattle.reader.specs.ReadOf.{flatAfter};
+ghost use Rattle.layout.specs.Flat.{flat};
+ghost use Rattle.h261_reader.specs.Described.{verdictOf};
+ghost use Rattle.h261_reader.specs.ReadOf.{flatAfter};
 ghost use Rattle.stream.specs.Stream.{bitNumber, oneMore, fresh, windowAfter, startsAt, offsetOf, begunBy, longerBy, after, beginning, extended, keptAfter};
 ghost use Rattle.stream.specs.Filled.{amongZeros, unfilled, filled};
 
@@ -184,7 +184,7 @@ fn among_zeros(why: Refusal, ones: usize) -> bool
     ensures { λ r. ⌜ r ≡ amongZeros why ones ⌝ }
 {
     let reason = why.reason;
-    let number = numbers::number_of(reason);
+    let number = refusals::number_of(reason);
     if number < 3 {
         return false;
     }
@@ -210,7 +210,7 @@ fn read_unfilled(
     if !among_zeros(why, ones) {
         return Verdict::Refused(why);
     }
-    let verdict = reader::read(bytes, why.place, format, head, macroblocks, levels);
+    let verdict = h261_reader::read(bytes, why.place, format, head, macroblocks, levels);
     match verdict {
         Verdict::Accepted => Verdict::Accepted,
         Verdict::Refused(_second) => Verdict::Refused(why),
@@ -230,9 +230,9 @@ pub fn read(
     ensures verdict { λ r. ⌜ r ≡ verdictOf (filled format (now (bytes .entry)) count ones (flat (now (head .entry)) (now (macroblocks .entry)) (now (levels .entry)))) ⌝ }
     ensures buffers { λ _. ⌜ flat (now (head .exit)) (now (macroblocks .exit)) (now (levels .exit)) ≡ flatAfter (flat (now (head .entry)) (now (macroblocks .entry)) (now (levels .entry))) (filled format (now (bytes .entry)) count ones (flat (now (head .entry)) (now (macroblocks .entry)) (now (levels .entry)))) ⌝ }
 {
-    let most = larger(format::limit(format), ones);
+    let most = larger(h261_groups::limit(format), ones);
     let first = smaller(count, most);
-    let verdict = reader::read(bytes, first, format, head, macroblocks, levels);
+    let verdict = h261_reader::read(bytes, first, format, head, macroblocks, levels);
     match verdict {
         Verdict::Accepted => Verdict::Accepted,
         Verdict::Refused(why) => read_unfilled(format, bytes, ones, why, head, macroblocks, levels),

@@ -4,12 +4,11 @@ use native.Mathlib.Omega.{arith}
 use native.Mathlib.Nat.{pow-suc, add-suc}
 use native.Mathlib.Numerals.{unary-clauses}
 use borrow.Author.Tests.{lt-ltb, le-ltb, leb-true, leb-false}
-use mathlib.Core.Path.{_≡_, refl, sym, ap, _∙_}
+use mathlib.Core.Path.{_≡_, refl, ap, _∙_}
 use mathlib.Core.Bool.{Bool, true, false}
 use mathlib.Core.List.{List, [], _∷_, _++_}
-use lib.Dec.{ltb, leb}
+use lib.Dec.{leb}
 use lib.ListN.{take}
-use Rattle.laws.specs.Choice.{pick}
 use Rattle.io.specs.Digits.{digits, glyph, Fewest}
 use Rattle.text.specs.Text.{digitsIn, decimal}
 

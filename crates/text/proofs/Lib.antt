@@ -1,2 +1,4 @@
 pub mod Digits
 pub mod Refused
+pub mod Puts
+pub mod Compared

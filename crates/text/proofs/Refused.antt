@@ -1,5 +1,5 @@
 -- The words of a refusal, one after another, are its text. Assumes nothing.
-use Prim.Native.Nat.{ℕ, _+_, _≤_, _<_}
+use Prim.Native.Nat.{ℕ, _≤_, _<_}
 use native.Mathlib.Omega.{arith}
 use borrow.Author.Tests.{lt-leb, le-leb}
 use mathlib.Core.Path.{_≡_, sym, ap, subst}
@@ -7,9 +7,11 @@ use mathlib.Core.Bool.{Bool}
 use mathlib.Core.List.{List, [], _++_}
 use lib.Dec.{leb}
 use lib.ListN.{length}
-use Rattle.laws.specs.Choice.{pick, both, second-no}
+use Rattle.laws.specs.Choice.{pick, both}
+use Rattle.laws.proofs.Choice.{second-no}
 use Rattle.text.specs.Text.{decimal, atPlace, atWord, refusedWord, refusalText}
-use Rattle.text.specs.Puts.{Puts, puts-then, puts-none}
+use Rattle.text.specs.Puts.{Puts}
+use Rattle.text.proofs.Puts.{puts-then, puts-none}
 
 pub below-three : (n place : ℕ) → n < 3 → [] ≡ atPlace n place
 unfolding atPlace

@@ -1,11 +1,31 @@
-// Words and decimal numbers, put into a lent buffer one after another.
+// Words compared; words and decimal numbers put into a lent buffer one after another.
 use refusals::Refusal;
 ghost use mathlib.Core.Path.{_≡_};
 ghost use Prim.Native.Nat.{_+_, _≤_};
 ghost use lib.ListN.{length};
+ghost use Rattle.laws.specs.Lists.{alike};
 ghost use Rattle.refusals.specs.Number.{number};
 ghost use Rattle.text.specs.Text.{decimal, refusalText};
 ghost use Rattle.text.specs.Puts.{Puts};
+
+pub mod remarks;
+
+// Whether two slices hold the same bytes.
+pub fn same(a: &[u8], b: &[u8]) -> bool
+    ensures { λ r. ⌜ r ≡ alike (now (a .entry)) (now (b .entry)) ⌝ }
+{
+    if a.len() != b.len() {
+        return false;
+    }
+    let mut i: usize = 0;
+    while i < a.len() {
+        if a[i] != b[i] {
+            return false;
+        }
+        i += 1;
+    }
+    true
+}
 
 // Puts words into `out` at a place, and answers the place after them.
 pub fn put(words: &[u8], at: usize, out: &mut [u8]) -> usize
@@ -35,7 +55,7 @@ pub fn put_refusal(why: Refusal, at: usize, out: &mut [u8]) -> usize
     ensures { λ r. ⌜ Puts (refusalText (number (why .reason)) (why .place)) at (now (out .entry)) (now (out .exit)) r ⌝ }
 {
     let reason = why.reason;
-    let numbered = numbers::number_of(reason);
+    let numbered = refusals::number_of(reason);
     let named = put(b" refused ", at, out);
     let told = put_number(numbered as u64, named, out);
     if numbered < 3 {

@@ -6,8 +6,8 @@ use mathlib.Core.List.{List, [], _∷_, _++_}
 use lib.ListN.{length, getD, take, drop}
 use lib.Dec.{eqb, leb, ltb}
 use Rattle.laws.specs.Choice.{pick, both, either, opposite}
-use Rattle.format.specs.declared.Format.{Format}
-use Rattle.format.specs.declared.Format.the-variants.{Qcif, Cif}
+use Rattle.size.specs.declared.Size.{Size}
+use Rattle.size.specs.declared.Size.the-variants.{SubQcif, Qcif, Cif}
 use Rattle.refusals.specs.declared.Reason.{Reason}
 use Rattle.refusals.specs.declared.Reason.the-variants.{Length, BlockCheck, BlockField, OtherClip}
 use Rattle.refusals.specs.Number.{refusal}
@@ -83,13 +83,14 @@ pictures = 4096
 abbrev pub pictureRule : Header → Bool
 pictureRule header = ltb (header .picture) pictures
 
--- "part (at most 16 QCIF, 65 CIF)"
-abbrev pub greatestPart : Format → ℕ
+-- "part (at most 16 QCIF, 65 CIF)"; sub-QCIF as QCIF
+abbrev pub greatestPart : Size → ℕ
+greatestPart SubQcif = 16
 greatestPart Qcif = 16
 greatestPart Cif = 65
 
-abbrev pub partRule : Format → Header → Bool
-partRule format header = leb (header .part) (greatestPart format)
+abbrev pub partRule : Size → Header → Bool
+partRule size header = leb (header .part) (greatestPart size)
 
 -- "refresh, part 0 only"
 abbrev pub refreshRule : Header → Bool
@@ -99,9 +100,9 @@ refreshRule header = either (opposite (header .refresh)) (eqb (header .part) 0)
 abbrev pub usedRule : Header → Bool
 usedRule header = both (leb 1 (header .used)) (both (leb (header .used) 4000) (either (header .last) (eqb (header .used) 4000)))
 
-unfoldable pub ruled : Format → Header → Bool
-ruled format header =
-    both (clipRule header) (both (pictureRule header) (both (partRule format header) (both (refreshRule header) (usedRule header))))
+unfoldable pub ruled : Size → Header → Bool
+ruled size header =
+    both (clipRule header) (both (pictureRule header) (both (partRule size header) (both (refreshRule header) (usedRule header))))
 
 -- how many of the eight bits of byte i stand after the first `used` bits
 abbrev pub unused : ℕ → ℕ → ℕ
@@ -113,9 +114,9 @@ clear used payload zero = true
 clear used payload (suc n) = both (clear used payload n) (eqb (getD payload n 0 % 2 ^ unused used n) 0)
 
 -- every field follows its rule; of the marks "the rest zero"
-unfoldable pub follows : Format → List ℕ → Bool
-follows format block =
-    both (ruled format (headerOf block))
+unfoldable pub follows : Size → List ℕ → Bool
+follows size block =
+    both (ruled size (headerOf block))
     (both (leb (marksOf block) 3) (both (clear (usedOf block) (payloadOf block) 500) (eqb (zerosOf block) 0)))
 
 -- ---- the check sum
@@ -132,19 +133,19 @@ sumOf block = weighted block 510 % 65521
 abbrev pub refusedBy : Reason → Checked
 refusedBy reason = Refused (refusal reason 0)
 
-unfoldable pub checkOf : Format → List ℕ → Checked
-checkOf format block =
+unfoldable pub checkOf : Size → List ℕ → Checked
+checkOf size block =
     pick (eqb (length block) 512)
     (pick (eqb (sumOf block) (checkSumOf block))
-    (pick (follows format block) (Good (headerOf block)) (refusedBy BlockField)) (refusedBy BlockCheck)) (refusedBy Length)
+    (pick (follows size block) (Good (headerOf block)) (refusedBy BlockField)) (refusedBy BlockCheck)) (refusedBy Length)
 
 abbrev pub ofClip : ℕ → Checked → Checked
 ofClip clip (Good header) = pick (eqb (header .clip) clip) (Good header) (refusedBy OtherClip)
 ofClip clip (Refused refusal) = Refused refusal
 
 -- the same for a receiver of one clip
-unfoldable pub judgeOf : Format → ℕ → List ℕ → Checked
-judgeOf format clip block = ofClip clip (checkOf format block)
+unfoldable pub judgeOf : Size → ℕ → List ℕ → Checked
+judgeOf size clip block = ofClip clip (checkOf size block)
 
 -- ---- making a block of a header and a payload
 abbrev pub bit : Bool → ℕ

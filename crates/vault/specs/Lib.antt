@@ -1,9 +1,3 @@
 pub mod Block
-pub mod Clear
 pub mod Parts
-pub mod Kept
-pub mod Made
-pub mod Cut
-pub mod Judged
 pub mod Collected
-pub mod Due

@@ -1,13 +1,14 @@
 -- One picture cut into blocks: its N bits, 4000 to a part. Assumes nothing.
-use Prim.Native.Nat.{ℕ, zero, suc, _+_, _-_, _*_, _/_, _^_, min}
+use Prim.Native.Nat.{ℕ, zero, suc, _+_, _-_, _*_, _/_, _^_, _≤_, _<_, min}
+use mathlib.Core.Path.{_≡_}
 use mathlib.Core.Bool.{Bool}
 use mathlib.Core.List.{List, [], _++_}
-use lib.ListN.{getD, take, drop}
+use lib.ListN.{length, getD, take, drop}
 use lib.Dec.{eqb}
 use Rattle.laws.specs.Choice.{both}
 use Rattle.laws.specs.Row.{row}
 use Rattle.vault.specs.declared.Header.{Header}
-use Rattle.vault.specs.Block.{unused, payloadOf, blockFor}
+use Rattle.vault.specs.Block.{unused, pictures, payloadOf, blockFor}
 
 -- "bits used, 1..4000, exactly 4000 unless last": how many parts that makes, and the bits used of each
 abbrev pub partCount : ℕ → ℕ
@@ -46,6 +47,26 @@ firstBlocks clip picture refresh bytes count (suc n) = firstBlocks clip picture 
 -- all blocks of a picture
 abbrev pub blocksOf : ℕ → ℕ → Bool → List ℕ → ℕ → List ℕ
 blocksOf clip picture refresh bytes count = firstBlocks clip picture refresh bytes count (partCount count)
+
+-- ---- what cutting a picture asks for
+-- a part of a picture of so many bits
+pub record PartIn (count part : ℕ) : Type 0 where
+  pub part-is : part < 66
+  pub short : count ≤ 262144
+  pub reached : 4000 * part ≤ count
+
+-- a block to write a part's payload into, and the bytes that hold the picture's bits
+pub record PayloadRoom (bytes : List ℕ) (count part : ℕ) (block : List ℕ) : Type 0 where
+  pub block-long : length block ≡ 512
+  pub part-is : part < 66
+  pub held : count ≤ 8 * length bytes
+
+-- a picture of a clip, the bytes that hold its bits, and room for all its blocks
+pub record BlocksRoom (picture : ℕ) (bytes : List ℕ) (count : ℕ) (out : List ℕ) : Type 0 where
+  pub numbered : picture < pictures
+  pub short : count ≤ 262144
+  pub held : count ≤ 8 * length bytes
+  pub room : 512 * partCount count ≤ length out
 
 -- "Taken copies 500 payload bytes to 500 times part in the collection buffer"
 unfoldable pub placed : List ℕ → ℕ → List ℕ → List ℕ

@@ -1,7 +1,7 @@
-// The vault's block of 512 bytes: judging one, and cutting a picture into them. The due time of a tick.
-use format::Format;
+// The vault's block of 512 bytes: judging one, and cutting a picture into them.
 use refusals::Reason;
 use refusals::Refusal;
+use size::Size;
 ghost use mathlib.Core.Path.{_≡_};
 ghost use mathlib.Core.List.{_++_};
 ghost use Prim.Native.Nat.{_+_, _-_, _*_, _/_, _^_, _≤_, _<_, min};
@@ -10,8 +10,7 @@ ghost use lib.ListN.{length, drop};
 ghost use lib.Seq.{sets, paste};
 ghost use Rattle.laws.specs.Choice.{both};
 ghost use Rattle.vault.specs.Block.{pairAt, pictureOf, headerOf, pictures, greatestPart, refreshRule, usedRule, ruled as ruledOf, unused, clear, payloadOf, follows as followsOf, sumOf, refusedBy, checkOf, judgeOf, marksFor, headBytes, twoBytes, blockFor};
-ghost use Rattle.vault.specs.Parts.{partCount, usedAt, keptByte, payloadAt, headerAt, blocksOf, placed};
-ghost use Rattle.vault.specs.Due.{dueOf};
+ghost use Rattle.vault.specs.Parts.{partCount, usedAt, keptByte, payloadAt, headerAt, blocksOf, PartIn, PayloadRoom, BlocksRoom, placed};
 
 // What a block says before its payload.
 pub struct Header {
@@ -79,12 +78,13 @@ fn sum(block: &[u8]) -> u32
 
 // ---- the rules of its fields
 
-fn greatest_part(format: Format) -> u8
-    ensures { λ r. ⌜ r ≡ greatestPart format ⌝ }
+fn greatest_part(size: Size) -> u8
+    ensures { λ r. ⌜ r ≡ greatestPart size ⌝ }
 {
-    match format {
-        Format::Qcif => 16,
-        Format::Cif => 65,
+    match size {
+        Size::SubQcif => 16,
+        Size::Qcif => 16,
+        Size::Cif => 65,
     }
 }
 
@@ -112,8 +112,8 @@ fn used_rule(header: Header) -> bool
     header.used == 4000
 }
 
-fn ruled(format: Format, header: Header) -> bool
-    ensures { λ r. ⌜ r ≡ ruledOf format header ⌝ }
+fn ruled(size: Size, header: Header) -> bool
+    ensures { λ r. ⌜ r ≡ ruledOf size header ⌝ }
 {
     if header.clip < 1 {
         return false;
@@ -121,7 +121,7 @@ fn ruled(format: Format, header: Header) -> bool
     if PICTURES <= header.picture {
         return false;
     }
-    if greatest_part(format) < header.part {
+    if greatest_part(size) < header.part {
         return false;
     }
     if !refresh_rule(header) {
@@ -162,12 +162,11 @@ fn unused_zero(block: &[u8], used: usize) -> bool
     true
 }
 
-fn follows(format: Format, block: &[u8]) -> bool
-    requires { ⌜ length (now block) ≡ 512 ⌝ }
-    ensures { λ r. ⌜ r ≡ followsOf format (now (block .entry)) ⌝ }
+fn follows(size: Size, header: Header, block: &[u8]) -> bool
+    requires { ⌜ (length (now block) ≡ 512) × (header ≡ headerOf (now block)) ⌝ }
+    ensures { λ r. ⌜ r ≡ followsOf size (now (block .entry)) ⌝ }
 {
-    let header = header_of(block);
-    if !ruled(format, header) {
+    if !ruled(size, header) {
         return false;
     }
     if 3 < block[5] {
@@ -188,8 +187,8 @@ fn refused(reason: Reason) -> Checked
 }
 
 // 1, 21, 22, or the block's header.
-pub fn check(format: Format, block: &[u8]) -> Checked
-    ensures { λ r. ⌜ r ≡ checkOf format (now (block .entry)) ⌝ }
+pub fn check(size: Size, block: &[u8]) -> Checked
+    ensures { λ r. ⌜ r ≡ checkOf size (now (block .entry)) ⌝ }
 {
     if block.len() != 512 {
         return refused(Reason::Length);
@@ -199,17 +198,18 @@ pub fn check(format: Format, block: &[u8]) -> Checked
     if summed != said as u32 {
         return refused(Reason::BlockCheck);
     }
-    if !follows(format, block) {
+    let header = header_of(block);
+    if !follows(size, header, block) {
         return refused(Reason::BlockField);
     }
-    Checked::Good(header_of(block))
+    Checked::Good(header)
 }
 
 // 1, 21, 22, 23, or the header of a block of this clip.
-pub fn judge(format: Format, clip: u16, block: &[u8]) -> Checked
-    ensures { λ r. ⌜ r ≡ judgeOf format clip (now (block .entry)) ⌝ }
+pub fn judge(size: Size, clip: u16, block: &[u8]) -> Checked
+    ensures { λ r. ⌜ r ≡ judgeOf size clip (now (block .entry)) ⌝ }
 {
-    match check(format, block) {
+    match check(size, block) {
         Checked::Good(header) => {
             if header.clip == clip {
                 Checked::Good(header)
@@ -285,7 +285,7 @@ fn whole_bytes(count: usize, from: usize) -> usize
 
 // Whole bytes are copied as they are; of the rest only the picture's bits are kept.
 fn write_payload(bytes: &[u8], count: usize, part: usize, block: &mut [u8])
-    requires { ⌜ (length (now block) ≡ 512) × (part < 66) × (count ≤ 8 * length (now bytes)) ⌝ }
+    requires { ⌜ PayloadRoom (now bytes) count part (now block) ⌝ }
     ensures { λ _. ⌜ now (block .exit) ≡ paste (now (block .entry)) 8 (payloadAt (now (bytes .entry)) count part) 500 ⌝ }
 {
     let from = 500 * part;
@@ -311,7 +311,7 @@ fn write_sum(block: &mut [u8])
 }
 
 fn write_block(header: Header, bytes: &[u8], count: usize, block: &mut [u8])
-    requires { ⌜ (length (now block) ≡ 512) × (header .picture < pictures) × (header .part < 66) × (count ≤ 8 * length (now bytes)) ⌝ }
+    requires { ⌜ (PayloadRoom (now bytes) count (header .part) (now block)) × (header .picture < pictures) ⌝ }
     ensures { λ _. ⌜ now (block .exit) ≡ blockFor header (payloadAt (now (bytes .entry)) count (header .part)) ⌝ }
 {
     let part = header.part as usize;
@@ -350,7 +350,7 @@ fn used_at(count: usize, part: usize) -> u16
 }
 
 fn header_at(clip: u16, picture: u32, refresh: bool, count: usize, part: usize) -> Header
-    requires { ⌜ (part < 66) × (count ≤ 262144) × (4000 * part ≤ count) ⌝ }
+    requires { ⌜ PartIn count part ⌝ }
     ensures { λ r. ⌜ r ≡ headerAt clip picture refresh count part ⌝ }
 {
     let parts = part_count(count);
@@ -373,7 +373,7 @@ pub fn blocks(
     count: usize,
     out: &mut [u8],
 ) -> usize
-    requires { ⌜ (picture < pictures) × (count ≤ 262144) × (count ≤ 8 * length (now bytes)) × (512 * partCount count ≤ length (now out)) ⌝ }
+    requires { ⌜ BlocksRoom picture (now bytes) count (now out) ⌝ }
     ensures { λ r. ⌜ r ≡ partCount count ⌝ }
     ensures { λ _. ⌜ now (out .exit) ≡ blocksOf clip picture refresh (now (bytes .entry)) count ++ drop (512 * partCount count) (now (out .entry)) ⌝ }
 {
@@ -399,15 +399,4 @@ pub fn place(block: &[u8], part: u8, collection: &mut [u8])
     let at = 500 * (part as usize);
     let end = at + 500;
     bytes::copy(&block[8..508], &mut collection[at..end]);
-}
-
-// ---- the due time
-
-// 1001 times any tick is below 2^53, so both numbers convert exactly.
-pub fn due(tick: u32) -> f64
-    ensures { λ r. ⌜ r ≡ dueOf tick ⌝ }
-    ensures exact { λ r. do ⌜ (tick ≡ 3750 → r ≡ (← ⟦125.125f64⟧ .entry)) ⌝ }
-{
-    let seconds = 1001 * (tick as u64);
-    (seconds as f64) / 30000.0
 }

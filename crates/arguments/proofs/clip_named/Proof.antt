@@ -22,12 +22,6 @@ returns c = sym (clip-none (c .before .before .args .word .now) (c .if1 .taken))
 loop-holds : tie.Need-loop-holds Inv-loop μ-loop
 loop-holds c = (omega arith, (omega arith, clip-start (c .before .before .args .word .now) (c .if1 .left)))
 
-shared-slice-read-c : tie.Need-shared-slice-read-c Inv-loop μ-loop
-shared-slice-read-c c = search needs
-
-is-digit-requires : tie.Need-is-digit-requires Inv-loop μ-loop
-is-digit-requires c κs = search needs
-
 returns-2 : tie.Need-returns-2 Inv-loop μ-loop
 returns-2 c = sym (c .before .before .before .before .loop .inv .1 .1 ∙ clip-other (c .before .before .before .before .before .before .before .args .word .now) (c .before .before .before .before .loop .n) (c .before .before .before .before .loop .i) (search needs) (c .before .is-digit .ensures) (not-true _ (c .if2 .taken)))
 
@@ -37,17 +31,8 @@ lengthen-requires c κs = (search needs, digit-from _ (c .before .is-digit .ensu
 returns-3 : tie.Need-returns-3 Inv-loop μ-loop
 returns-3 c = sym (c .before .before .before .before .before .before .loop .inv .1 .1 ∙ clip-above (c .before .before .before .before .before .before .before .before .before .args .word .now) (c .before .before .before .before .before .before .loop .n) (c .before .before .before .before .before .before .loop .i) (search needs) (c .before .before .before .is-digit .ensures) (not-false _ (c .before .before .if2 .left)) (c .before .lengthen .ensures) (c .if3 .taken))
 
-add-i : tie.Need-add-i Inv-loop μ-loop
-add-i c = search needs
-
-loop-less : tie.Need-loop-less Inv-loop μ-loop
-loop-less c = search needs
-
 loop-again : tie.Need-loop-again Inv-loop μ-loop
 loop-again c = (search needs, (search needs, c .before .before .before .before .before .before .loop .inv .1 .1 ∙ clip-more (c .before .before .before .before .before .before .before .before .before .args .word .now) (c .before .before .before .before .before .before .loop .n) (c .before .before .before .before .before .before .loop .i) (search needs) (c .before .before .before .is-digit .ensures) (not-false _ (c .before .before .if2 .left)) (c .before .lengthen .ensures) (c .if3 .left)))
-
-cast-t12 : tie.Need-cast-t12 Inv-loop μ-loop
-cast-t12 c = search needs
 
 returns-4 : tie.Need-returns-4 Inv-loop μ-loop
 returns-4 c = sym (c .before .loop .inv .1 .1 ∙ clip-end (c .before .before .before .before .args .word .now) (c .before .loop .n) (c .before .loop .i) (search needs))
@@ -55,18 +40,5 @@ returns-4 c = sym (c .before .loop .inv .1 .1 ∙ clip-end (c .before .before .b
 pub clip-named-spec : {M : Type 1} → statement M
 clip-named-spec =
     tie.close
-    (tie.spec
-    Inv-loop
-    μ-loop
-    returns
-    loop-holds
-    shared-slice-read-c
-    is-digit-requires
-    returns-2
-    lengthen-requires
-    returns-3
-    add-i
-    loop-less
-    loop-again
-    cast-t12
-    returns-4)
+    (tie.spec Inv-loop μ-loop returns loop-holds (λ c. search needs) (λ c κs. search needs) returns-2 lengthen-requires returns-3
+    (λ c. search needs) (λ c. search needs) loop-again (λ c. search needs) returns-4)

@@ -4,20 +4,8 @@ use Rattle.arguments.proofs.Left.{names-qcif, names-cif, names-none}
 use Rattle.arguments.proofs.format_named.Statement.{statement}
 use Rattle.arguments.proofs.format_named.Tie as tie
 
-slice-aggregate-same : tie.Need-slice-aggregate-same
-slice-aggregate-same c = search needs
-
-same-requires : tie.Need-same-requires
-same-requires c κs = search needs
-
 returns : tie.Need-returns
 returns c = names-qcif (c .before .before .before .before .args .word .now) (c .before .same .ensures) (c .if1 .taken)
-
-slice-aggregate-same-2 : tie.Need-slice-aggregate-same-2
-slice-aggregate-same-2 c = search needs
-
-same-requires-2 : tie.Need-same-requires-2
-same-requires-2 c κs = search needs
 
 returns-2 : tie.Need-returns-2
 returns-2 c = names-cif (c .before .before .before .before .before .before .before .args .word .now) (c .before .before .before .before .same .ensures) (c .before .before .before .if1 .left) (c .before .same2 .ensures) (c .if2 .taken)
@@ -28,11 +16,4 @@ returns-3 c = names-none (c .before .before .before .before .before .before .bef
 pub format-named-spec : {M : Type 1} → statement M
 format-named-spec =
     tie.close
-    (tie.spec
-    slice-aggregate-same
-    same-requires
-    returns
-    slice-aggregate-same-2
-    same-requires-2
-    returns-2
-    returns-3)
+    (tie.spec (λ c. search needs) (λ c κs. search needs) returns (λ c. search needs) (λ c κs. search needs) returns-2 returns-3)

@@ -1,6 +1,7 @@
 -- `bit_reader::new` meets its contract: a walk of its MIR. The struct is made of the slice and the two numbers, in the result's local. What a
 -- `&[u8]` owns is had twice: once for the parameter at exit, once inside the result.
 -- Assumes nothing.
+use Rattle.bit_reader.proofs.new.Key.{name as #key}
 use mathlib.Core.Path.{refl}
 use Prim.Native.Nat.{ℕ, _<_, _^_}
 use mathlib.Core.List.{List, [], _∷_}
@@ -37,7 +38,6 @@ use denote.Exit.{yes}
 use Rattle.bit_reader.specs.declared.BitReader.{BitReader}
 use Rattle.bit_reader.proofs.BitReader.Laws as T′
 use Rattle.bit_reader.proofs.Held.{D, L}
-use Rattle.bit_reader.proofs.new.Key.{name as #key}
 use Rattle.bit_reader.proofs.new as f
 use Rattle.bit_reader.proofs.new.Statement as stated
 use Rattle.bit_reader.proofs.new.Code as code

@@ -1,11 +1,12 @@
+-- `bits::field` meets its contract: the window's first bits, or too few are left.
 use mathlib.Core.Path.{_≡_, sym, ap, _∙_}
 use mathlib.Core.List.{List}
 use Prim.Native.Nat.{ℕ, _+_, _-_, _/_, _^_, _≤_}
 use native.Mathlib.Omega.{arith}
 use Rattle.bits.specs.Bits.{value, bitsLeft}
 use Rattle.bits.specs.Read.{Read, got, field}
-use Rattle.bits.specs.Value.{value-first}
-use Rattle.bits.specs.Fields.{field-at, field-short}
+use Rattle.bits.proofs.Value.{value-first}
+use Rattle.bits.proofs.Fields.{field-at, field-short}
 use borrow.Author.Needs.{needs}
 use Rattle.bits.proofs.field.Statement.{statement}
 use Rattle.bits.proofs.field.Tie as tie
@@ -15,24 +16,6 @@ got-is s n at k w h l e =
     let t : 24 ≡ k + (24 - k) = omega arith in
     let v : w / 2 ^ (24 - k) ≡ value s at k = ap (λ (x : ℕ). x / 2 ^ (24 - k)) (e ∙ ap (value s at) t) ∙ value-first s at k (24 - k) in
     ap (λ (x : ℕ). got x (bitsLeft s n (at + k)) (at + k)) v ∙ sym (field-at s n at k l)
-
-sub-if1 : tie.Need-sub-if1
-sub-if1 c = search needs
-
-sub-after : tie.Need-sub-after
-sub-after c = search needs
-
-window-requires : tie.Need-window-requires
-window-requires c κs = search needs
-
-cast-t10 : tie.Need-cast-t10
-cast-t10 c = search needs
-
-shr-t11 : tie.Need-shr-t11
-shr-t11 c = search needs
-
-add-t12 : tie.Need-add-t12
-add-t12 c = search needs
 
 returns : tie.Need-returns
 returns c =
@@ -46,4 +29,5 @@ returns-2 c =
 pub field-spec : {M : Type 1} → statement M
 field-spec =
     tie.close
-    (tie.spec sub-if1 sub-after window-requires cast-t10 shr-t11 add-t12 returns returns-2)
+    (tie.spec (λ c. search needs) (λ c. search needs) (λ c κs. search needs) (λ c. search needs) (λ c. search needs) (λ c. search needs)
+    returns returns-2)

@@ -1,3 +1,4 @@
+-- `bits::walk` meets its contract: by turns, each a step down the tree by the next bit.
 use mathlib.Core.Path.{_≡_}
 use Prim.Native.Nat.{ℕ, _-_, _≤_, _<_}
 use lib.ListN.{List·getD-eq-default}
@@ -12,12 +13,6 @@ Inv-loop tree root bytes count at bits left node₀ taken₀ node taken = (node 
 abbrev μ-loop : tie.MeasureT-loop
 μ-loop tree root bytes count at bits left node₀ taken₀ node taken = 16 - taken
 
-window-requires : tie.Need-window-requires Inv-loop μ-loop
-window-requires c κs = search needs
-
-sub-left : tie.Need-sub-left Inv-loop μ-loop
-sub-left c = search needs
-
 loop-holds : tie.Need-loop-holds Inv-loop μ-loop
 loop-holds c = (search needs, search needs, here-first _ _ _ _ _)
 
@@ -27,36 +22,12 @@ returns c =
     let l = c .before .before .loop in
     walk-end (a .tree .now) (a .bytes .now) (a .count) (a .root) (a .at) (l .node) (l .taken) (l .inv .2) (c .before .loop-test .taken) (c .if1 .taken)
 
-sub-after : tie.Need-sub-after Inv-loop μ-loop
-sub-after c = search needs
-
-cast-bit : tie.Need-cast-bit Inv-loop μ-loop
-cast-bit c = search needs
-
-shr-bit : tie.Need-shr-bit Inv-loop μ-loop
-shr-bit c = search needs
-
-cast-bit-2 : tie.Need-cast-bit-2 Inv-loop μ-loop
-cast-bit-2 c = search needs
-
-mul-i : tie.Need-mul-i Inv-loop μ-loop
-mul-i c = search needs
-
-add-i : tie.Need-add-i Inv-loop μ-loop
-add-i c = search needs
-
 returns-2 : tie.Need-returns-2 Inv-loop μ-loop
 returns-2 c =
     let a = c .before .before .before .before .before .before .before .args in
     let l = c .before .before .before .loop in
     let b = window-bit (a .bytes .now) (a .at) (c .before .before .before .before .window .result) (l .taken) (c .before .before .before .before .window .ensures) (search needs) in
     walk-none (a .tree .now) (a .bytes .now) (a .count) (a .root) (a .at) (l .node) (l .taken) (l .inv .2) (c .before .before .loop-test .taken) _ (c .before .if1 .left) b (List·getD-eq-default (a .tree .now) 0 (c .if2 .taken))
-
-mul-v : tie.Need-mul-v Inv-loop μ-loop
-mul-v c = search needs
-
-shared-slice-read-v : tie.Need-shared-slice-read-v Inv-loop μ-loop
-shared-slice-read-v c = search needs
 
 returns-3 : tie.Need-returns-3 Inv-loop μ-loop
 returns-3 c =
@@ -65,24 +36,12 @@ returns-3 c =
     let b = window-bit (a .bytes .now) (a .at) (c .before .before .before .before .before .before .window .result) (l .taken) (c .before .before .before .before .before .before .window .ensures) (search needs) in
     walk-none (a .tree .now) (a .bytes .now) (a .count) (a .root) (a .at) (l .node) (l .taken) (l .inv .2) (c .before .before .before .before .loop-test .taken) _ (c .before .before .before .if1 .left) b (c .if3 .taken)
 
-add-taken : tie.Need-add-taken Inv-loop μ-loop
-add-taken c = search needs
-
-add-t28 : tie.Need-add-t28 Inv-loop μ-loop
-add-t28 c = search needs
-
 returns-4 : tie.Need-returns-4 Inv-loop μ-loop
 returns-4 c =
     let a = c .before .before .before .before .before .before .before .before .before .before .args in
     let l = c .before .before .before .before .before .before .loop in
     let b = window-bit (a .bytes .now) (a .at) (c .before .before .before .before .before .before .before .window .result) (l .taken) (c .before .before .before .before .before .before .before .window .ensures) (search needs) in
     walk-leaf (a .tree .now) (a .bytes .now) (a .count) (a .root) (a .at) (l .node) (l .taken) (l .inv .2) (c .before .before .before .before .before .loop-test .taken) _ (c .before .before .before .before .if1 .left) b (c .before .if3 .left) (c .if4 .taken)
-
-cast-node : tie.Need-cast-node Inv-loop μ-loop
-cast-node c = search needs
-
-loop-less : tie.Need-loop-less Inv-loop μ-loop
-loop-less c = search needs
 
 loop-again : tie.Need-loop-again Inv-loop μ-loop
 loop-again c =
@@ -100,27 +59,6 @@ returns-5 c =
 pub walk-spec : {M : Type 1} → statement M
 walk-spec =
     tie.close
-    (tie.spec
-    Inv-loop
-    μ-loop
-    window-requires
-    sub-left
-    loop-holds
-    returns
-    sub-after
-    cast-bit
-    shr-bit
-    cast-bit-2
-    mul-i
-    add-i
-    returns-2
-    mul-v
-    shared-slice-read-v
-    returns-3
-    add-taken
-    add-t28
-    returns-4
-    cast-node
-    loop-less
-    loop-again
-    returns-5)
+    (tie.spec Inv-loop μ-loop (λ c κs. search needs) (λ c. search needs) loop-holds returns (λ c. search needs) (λ c. search needs)
+    (λ c. search needs) (λ c. search needs) (λ c. search needs) (λ c. search needs) returns-2 (λ c. search needs) (λ c. search needs)
+    returns-3 (λ c. search needs) (λ c. search needs) returns-4 (λ c. search needs) (λ c. search needs) loop-again returns-5)

@@ -4,18 +4,8 @@ use Rattle.checks.proofs.Turns.{checked-three}
 use Rattle.checks.proofs.check_description.Statement.{statement}
 use Rattle.checks.proofs.check_description.Tie as tie
 
-check-on-requires : tie.Need-check-on-requires
-check-on-requires c κs = search needs
-
-check-on-requires-2 : tie.Need-check-on-requires-2
-check-on-requires-2 c κs = search needs
-
-check-on-requires-3 : tie.Need-check-on-requires-3
-check-on-requires-3 c κs = search needs
-
 returns : tie.Need-returns
 returns c = checked-three _ _ _ (c .before .before .check-on .ensures .0) (c .before .check-on2 .ensures .0) (c .check-on3 .ensures .0)
 
 pub check-description-spec : {M : Type 1} → statement M
-check-description-spec =
-    tie.close (tie.spec check-on-requires check-on-requires-2 check-on-requires-3 returns)
+check-description-spec = tie.close (tie.spec (λ c κs. search needs) (λ c κs. search needs) (λ c κs. search needs) returns)

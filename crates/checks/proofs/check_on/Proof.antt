@@ -1,4 +1,4 @@
--- `checks::check_on` meets its contract. Assumes nothing.
+-- `checks::check_on` meets its contract. The loop's invariant: what the check makes of the rest is what h makes of all bytes. Assumes nothing.
 use Prim.Native.Nat.{_-_}
 use native.Mathlib.Omega.{arith}
 use lib.ListN.{length}
@@ -19,20 +19,8 @@ loop-holds c = checked-none _ _ (c .before .pre)
 mul-on : tie.Need-mul-on Inv-loop μ-loop
 mul-on c = omega (arith, c .before .loop .inv .low)
 
-shared-slice-read-wide : tie.Need-shared-slice-read-wide Inv-loop μ-loop
-shared-slice-read-wide c = search needs
-
-wide-requires : tie.Need-wide-requires Inv-loop μ-loop
-wide-requires c κs = search needs
-
 add-on : tie.Need-add-on Inv-loop μ-loop
 add-on c = omega (arith, c .wide .ensures .1, c .before .before .before .loop .inv .low)
-
-add-i : tie.Need-add-i Inv-loop μ-loop
-add-i c = search needs
-
-loop-less : tie.Need-loop-less Inv-loop μ-loop
-loop-less c = search needs
 
 loop-again : tie.Need-loop-again Inv-loop μ-loop
 loop-again c = checked-more _ (c .before .before .before .loop .inv) (c .before .before .loop-test .taken) (c .wide .ensures .0)
@@ -43,15 +31,5 @@ returns c = checked-all _ (c .before .loop .inv) (c .loop-test .left)
 pub check-on-spec : {M : Type 1} → statement M
 check-on-spec =
     tie.close
-    (tie.spec
-    Inv-loop
-    μ-loop
-    loop-holds
-    mul-on
-    shared-slice-read-wide
-    wide-requires
-    add-on
-    add-i
-    loop-less
-    loop-again
-    returns)
+    (tie.spec Inv-loop μ-loop loop-holds mul-on (λ c. search needs) (λ c κs. search needs) add-on (λ c. search needs) (λ c. search needs)
+    loop-again returns)

@@ -1,3 +1,4 @@
+-- `checks::format_of` meets its contract: 0 or another number. Assumes nothing.
 use borrow.Author.Tests.{eq-eqb, ne-eqb}
 use Rattle.checks.proofs.format_of.Statement.{statement}
 use Rattle.checks.proofs.format_of.Tie as tie

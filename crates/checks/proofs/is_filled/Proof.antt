@@ -1,9 +1,9 @@
--- `checks::is_filled` meets its contract. Assumes nothing.
+-- `checks::is_filled` meets its contract: the rest is filled where the whole is. Assumes nothing.
 use Prim.Native.Nat.{_-_}
 use mathlib.Core.Path.{sym, _∙_}
 use lib.ListN.{length, replicate, length-replicate, getD-replicate}
 use borrow.Author.Needs.{needs}
-use Rattle.checks.proofs.Turns.{AlikeSoFar, alike-none, alike-more, alike-all, other-byte}
+use Rattle.text.proofs.Compared.{AlikeSoFar, alike-none, alike-more, alike-all, other-byte}
 use Rattle.checks.proofs.is_filled.Statement.{statement}
 use Rattle.checks.proofs.is_filled.Tie as tie
 
@@ -16,17 +16,8 @@ abbrev μ-loop : tie.MeasureT-loop
 loop-holds : tie.Need-loop-holds Inv-loop μ-loop
 loop-holds c = alike-none _ _ (sym (length-replicate _ _))
 
-shared-slice-read-if1 : tie.Need-shared-slice-read-if1 Inv-loop μ-loop
-shared-slice-read-if1 c = search needs
-
 returns : tie.Need-returns Inv-loop μ-loop
 returns c = other-byte (c .before .before .before .loop .inv) (c .before .before .loop-test .taken) (λ e. c .if1 .taken (e ∙ getD-replicate _ _ _ 0 (c .before .before .loop-test .taken)))
-
-add-i : tie.Need-add-i Inv-loop μ-loop
-add-i c = search needs
-
-loop-less : tie.Need-loop-less Inv-loop μ-loop
-loop-less c = search needs
 
 loop-again : tie.Need-loop-again Inv-loop μ-loop
 loop-again c = alike-more (c .before .before .before .loop .inv) (c .before .before .loop-test .taken) (c .if1 .left ∙ sym (getD-replicate _ _ _ 0 (c .before .before .loop-test .taken)))
@@ -37,13 +28,4 @@ returns-2 c = alike-all (c .before .loop .inv) (c .loop-test .left)
 pub is-filled-spec : {M : Type 1} → statement M
 is-filled-spec =
     tie.close
-    (tie.spec
-    Inv-loop
-    μ-loop
-    loop-holds
-    shared-slice-read-if1
-    returns
-    add-i
-    loop-less
-    loop-again
-    returns-2)
+    (tie.spec Inv-loop μ-loop loop-holds (λ c. search needs) returns (λ c. search needs) (λ c. search needs) loop-again returns-2)

@@ -1,3 +1,4 @@
+-- `checks::lent` meets its contract: of a buffer that is too short the last byte is left out, if it has one. Assumes nothing.
 use mathlib.Core.Path.{_≡_, refl}
 use mathlib.Core.Bool.{Bool, true, false}
 use Prim.Native.Nat.{ℕ, _-_, _≤_}
@@ -12,17 +13,11 @@ none-less : (length : ℕ) (short : Bool) → length ≤ 0 → length ≡ pick s
 none-less length true l = omega arith
 none-less length false l = refl
 
-sub-result : tie.Need-sub-result
-sub-result c = search needs
-
 returns : tie.Need-returns
 returns c = (rw (c .before .if1 .taken), omega arith)
 
 returns-2 : tie.Need-returns-2
 returns-2 c = (none-less _ (c .before .before .args .short) (c .if2 .left), omega arith)
 
-returns-3 : tie.Need-returns-3
-returns-3 c = search needs
-
 pub lent-spec : {M : Type 1} → statement M
-lent-spec = tie.close (tie.spec sub-result returns returns-2 returns-3)
+lent-spec = tie.close (tie.spec (λ c. search needs) returns returns-2 (λ c. search needs))

@@ -1,90 +1,60 @@
-use mathlib.Core.Path.{_≡_, sym, ap, _∙_}
+-- `decoder::decode` meets its contract: the scratch has room for any kind, and the lengths are judged first. Assumes nothing.
+use borrow.Author.Needs.{needs}
+use mathlib.Core.Path.{sym, ap, _∙_}
 use native.Mathlib.Omega.{arith}
 use lib.ListN.{length}
-use Rattle.format.specs.Room.{part-long, groups-most}
-use Rattle.reader.specs.Blank.{blank-scratch}
-use Rattle.reader.specs.Described.{verdictOf}
-use Rattle.decoder.specs.Decoded.{storeAfter}
+use Rattle.size.specs.Size.{storeLength}
+use Rattle.size.proofs.Room.{part-long}
+use Rattle.coding.specs.Described.{verdictOn, foundOr}
+use Rattle.coding.proofs.Scratch.{head-most, macroblocks-most, levels-most, scratch-blank}
 use Rattle.decoder.proofs.Steps.{unfit-reference, unfit-store, fit}
-use borrow.Author.Needs.{needs}
 use Rattle.decoder.proofs.decode.Statement.{statement}
 use Rattle.decoder.proofs.decode.Tie as tie
-use Rattle.decoder.proofs.decode.Reads as reads
-use Rattle.decoder.proofs.decode.Lts as lts
-use Rattle.decoder.proofs.decode_in.Reads as decode-in-reads
-use Rattle.format.proofs.head_length.Reads as head-length-reads
-use Rattle.format.proofs.levels_length.Reads as levels-length-reads
-use Rattle.format.proofs.macroblocks_length.Reads as macroblocks-length-reads
-use Rattle.format.proofs.store_length.Reads as store-length-reads
 
--- src/lib.rt:47:9
-store-length-requires : tie.Need-store-length-requires
-store-length-requires c κs = search needs
-
--- src/lib.rt:53:9
 returns : tie.Need-returns
 returns c =
-    let start = c .before .before .before .before .before in
-    let store = start .args .store .now in
-    let e =
-    unfit-reference (start .args .format) (start .args .bytes .now) (start .args .count) (start .args .reference .now) (length store)
-    (λ h. c .if1 .taken (h ∙ sym (c .before .store-length .ensures))) in
-    (sym (ap verdictOf e), sym (ap (storeAfter store) e))
+    let at-store-length = c .before in
+    let at-size-of = at-store-length .before in
+    let start = at-size-of .before .before .before .before in
+    let e = unfit-reference (start .args .kind) (start .args .bytes .now) (start .args .count) (start .args .reference .now) (length (start .args .store .now)) (at-store-length .store-length .ensures ∙ ap storeLength (at-size-of .size-of .ensures)) (c .if1 .taken) in
+    (sym (ap verdictOn e), sym (ap (foundOr (start .args .store .now)) e))
 
--- src/lib.rt:56:9
 returns-2 : tie.Need-returns-2
 returns-2 c =
-    let at-store-length = c .before .before in
-    let start = at-store-length .before .before .before .before in
-    let store = start .args .store .now in
-    let e =
-    unfit-store (start .args .format) (start .args .bytes .now) (start .args .count) (start .args .reference .now) (length store)
-    (c .before .if1 .left ∙ at-store-length .store-length .ensures) (λ h. c .if2 .taken (h ∙ sym (at-store-length .store-length .ensures))) in
-    (sym (ap verdictOf e), sym (ap (storeAfter store) e))
+    let at-if1 = c .before in
+    let at-store-length = at-if1 .before in
+    let at-size-of = at-store-length .before in
+    let start = at-size-of .before .before .before .before in
+    let e = unfit-store (start .args .kind) (start .args .bytes .now) (start .args .count) (start .args .reference .now) (length (start .args .store .now)) (at-store-length .store-length .ensures ∙ ap storeLength (at-size-of .size-of .ensures)) (at-if1 .if1 .left) (c .if2 .taken) in
+    (sym (ap verdictOn e), sym (ap (foundOr (start .args .store .now)) e))
 
--- src/lib.rt:61:9
-head-length-requires : tie.Need-head-length-requires
-head-length-requires c κs = search needs
-
--- src/lib.rt:62:9
-macroblocks-length-requires : tie.Need-macroblocks-length-requires
-macroblocks-length-requires c κs = search needs
-
--- src/lib.rt:63:9
-levels-length-requires : tie.Need-levels-length-requires
-levels-length-requires c κs = search needs
-
--- src/lib.rt:68:9
 array-borrow-prefix-head : tie.Need-array-borrow-prefix-head
 array-borrow-prefix-head c =
-    let start = c .before .before .before .before .before .before .before .before .before in
-    omega (arith, c .before .before .head-length .ensures, groups-most (start .args .format))
+    let at-head-length = c .before .before in
+    let start = at-head-length .before .before .before .before .before .before .before .before in
+    omega (arith, at-head-length .head-length .ensures, head-most (start .args .kind))
 
--- src/lib.rt:68:9
 slice-aggregate-decode-in : tie.Need-slice-aggregate-decode-in
 slice-aggregate-decode-in c = part-long _ (array-borrow-prefix-head (c .before))
 
--- src/lib.rt:69:9
 array-borrow-prefix-macroblocks : tie.Need-array-borrow-prefix-macroblocks
 array-borrow-prefix-macroblocks c =
-    let start = c .before .before .before .before .before .before .before .before .before .before in
-    omega (arith, c .before .before .macroblocks-length .ensures, groups-most (start .args .format))
+    let at-macroblocks-length = c .before .before in
+    let start = at-macroblocks-length .before .before .before .before .before .before .before .before .before in
+    omega (arith, at-macroblocks-length .macroblocks-length .ensures, macroblocks-most (start .args .kind))
 
--- src/lib.rt:69:9
 slice-aggregate-decode-in-2 : tie.Need-slice-aggregate-decode-in-2
 slice-aggregate-decode-in-2 c = part-long _ (array-borrow-prefix-macroblocks (c .before))
 
--- src/lib.rt:70:9
 array-borrow-prefix-levels : tie.Need-array-borrow-prefix-levels
 array-borrow-prefix-levels c =
-    let start = c .before .before .before .before .before .before .before .before .before .before .before in
-    omega (arith, c .before .before .levels-length .ensures, groups-most (start .args .format))
+    let at-levels-length = c .before .before in
+    let start = at-levels-length .before .before .before .before .before .before .before .before .before .before in
+    omega (arith, at-levels-length .levels-length .ensures, levels-most (start .args .kind))
 
--- src/lib.rt:70:9
 slice-aggregate-decode-in-3 : tie.Need-slice-aggregate-decode-in-3
 slice-aggregate-decode-in-3 c = part-long _ (array-borrow-prefix-levels (c .before))
 
--- src/lib.rt:64:5
 decode-in-requires : tie.Need-decode-in-requires
 decode-in-requires c κs =
     let at-levels-length = c .before .before .before .before in
@@ -93,45 +63,28 @@ decode-in-requires c κs =
     let at-if2 = at-head-length .before in
     let at-if1 = at-if2 .before in
     let at-store-length = at-if1 .before in
-    let start = at-store-length .before .before .before .before in (
-      blank-scratch (start .args .format) (at-head-length .head-length .ensures) (at-macroblocks-length .macroblocks-length .ensures) (at-levels-length .levels-length .ensures),
-      at-if1 .if1 .left ∙ at-store-length .store-length .ensures,
-      at-if2 .if2 .left ∙ at-store-length .store-length .ensures,
-    )
+    let at-size-of = at-store-length .before in
+    let start = at-size-of .before .before .before .before in
+    record {
+      blank = scratch-blank (start .args .kind) (at-head-length .head-length .ensures) (at-macroblocks-length .macroblocks-length .ensures) (at-levels-length .levels-length .ensures);
+      reference-long = at-if1 .if1 .left ∙ (at-store-length .store-length .ensures ∙ ap storeLength (at-size-of .size-of .ensures));
+      store-long = at-if2 .if2 .left ∙ (at-store-length .store-length .ensures ∙ ap storeLength (at-size-of .size-of .ensures));
+    }
 
--- src/lib.rt:37:1
-same-length : tie.Need-same-length
-same-length c = search needs
-
--- src/lib.rt:37:1
 returns-3 : tie.Need-returns-3
 returns-3 c =
     let at-decode-in = c .before .before .before .before .before in
     let at-if2 = at-decode-in .before .before .before .before .before .before .before .before in
-    let at-store-length = at-if2 .before .before in
-    let start = at-store-length .before .before .before .before in
-    let store = start .args .store .now in
-    let e =
-    fit (start .args .format) (start .args .bytes .now) (start .args .count) (start .args .reference .now) (length store)
-    (at-if2 .before .if1 .left ∙ at-store-length .store-length .ensures) (at-if2 .if2 .left ∙ at-store-length .store-length .ensures) in
-    (at-decode-in .decode-in .ensures .0 ∙ sym (ap verdictOf e), at-decode-in .decode-in .ensures .1 ∙ sym (ap (storeAfter store) e))
+    let at-if1 = at-if2 .before in
+    let at-store-length = at-if1 .before in
+    let at-size-of = at-store-length .before in
+    let start = at-size-of .before .before .before .before in
+    let e = fit (start .args .kind) (start .args .bytes .now) (start .args .count) (start .args .reference .now) (length (start .args .store .now)) (at-store-length .store-length .ensures ∙ ap storeLength (at-size-of .size-of .ensures)) (at-if1 .if1 .left) (at-if2 .if2 .left) in
+    (at-decode-in .decode-in .ensures .0 ∙ sym (ap verdictOn e), at-decode-in .decode-in .ensures .1 ∙ sym (ap (foundOr (start .args .store .now)) e))
 
 pub decode-spec : {M : Type 1} → statement M
 decode-spec =
     tie.close
-    (tie.spec
-    store-length-requires
-    returns
-    returns-2
-    head-length-requires
-    macroblocks-length-requires
-    levels-length-requires
-    array-borrow-prefix-head
-    slice-aggregate-decode-in
-    array-borrow-prefix-macroblocks
-    slice-aggregate-decode-in-2
-    array-borrow-prefix-levels
-    slice-aggregate-decode-in-3
-    decode-in-requires
-    same-length
-    returns-3)
+    (tie.spec (λ c κs. search needs) (λ c κs. search needs) returns returns-2 (λ c κs. search needs) (λ c κs. search needs)
+    (λ c κs. search needs) array-borrow-prefix-head slice-aggregate-decode-in array-borrow-prefix-macroblocks slice-aggregate-decode-in-2
+    array-borrow-prefix-levels slice-aggregate-decode-in-3 decode-in-requires (λ c. search needs) returns-3)

@@ -1,26 +1,22 @@
-use mathlib.Core.Path.{_≡_, sym, ap, _∙_}
-use mathlib.Core.List.{List, []}
+-- `inverse::alone` meets its contract: the rounded number is cut as the definition says, and fills the block.
+use mathlib.Core.Path.{sym, ap, _∙_}
 use Prim.Native.Nat.{_+_}
 use native.Mathlib.Nat.{le-refl}
 use lib.Dec.{lit≤}
 use lib.IntN.{ℤ, pos, negsuc, _+ℤ_}
-use lib.ListN.{getD, replicate, getD-replicate}
 use lib.Signed.{shrZ}
 use mir.Syntax.{w32}
 use mir.Val.{SFits}
 use mir.Facts.{toZ-ofZ}
 use borrow.Author.Needs.{needs}
-use Rattle.laws.specs.Integer.{Low, low-fits, low-shr, low-add}
-use Rattle.laws.specs.Floor.{floor-shift}
-use Rattle.laws.specs.Block.{Is, shape-fill}
-use Rattle.transform.specs.Cut.{cut}
-use Rattle.transform.specs.Lines.{back32}
+use Rattle.laws.specs.Integer.{Low}
+use Rattle.laws.proofs.Integer.{low-fits, low-shr, low-add, result-is}
+use Rattle.laws.proofs.Floor.{floor-shift}
+use Rattle.laws.proofs.Block.{fill-is}
+use Rattle.quantiser.specs.Cut.{cut}
 use Rattle.inverse.specs.Alone.{flatAt}
 use Rattle.inverse.proofs.alone.Statement.{statement}
 use Rattle.inverse.proofs.alone.Tie as tie
-use Rattle.inverse.proofs.alone.Reads as reads
-use Rattle.inverse.proofs.alone.Lts as lts
-use Rattle.inverse.proofs.cut_output.Reads as cut-output-reads
 
 module _ (c : tie.Start) where
   low-sum : Low (2048 + 4) (c .args .z +ℤ pos 4)
@@ -35,24 +31,16 @@ module _ (c : tie.Start) where
 add-cut-output : tie.Need-add-cut-output
 add-cut-output c = simp (toZ-ofZ (c .fits .z)) (fits-sum c)
 
-cut-output-requires : tie.Need-cut-output-requires
-cut-output-requires c κs = search needs
-
-filled : {a b : ℤ} → a ≡ b → Is (pos 0) (λ y x. b) (replicate 8 (replicate 8 a))
-filled {a} e =
-    record {
-      shape = shape-fill a;
-      cells = λ y x p q. ap (λ (r : List ℤ). getD r x (pos 0)) (getD-replicate 8 y (replicate 8 a) [] p) ∙ getD-replicate 8 x a (pos 0) q ∙ e;
-    }
-
 returns : tie.Need-returns
 unfolding flatAt
 returns c =
     let s = c .before in
-    filled
-    (back32 (c .cut-output .result) (c .cut-output .ok) ∙ c .cut-output .ensures
+    fill-is _
+    (λ y x.
+    result-is w32 (c .cut-output .ok)
+    (c .cut-output .ensures
     ∙ simp (toZ-ofZ (s .fits .z), toZ-ofZ (fits-sum s), toZ-ofZ (fits-number s))
-    (ap (λ (z : ℤ). cut (negsuc 255) (pos 255) z) (sym (floor-shift (s .args .z +ℤ pos 4) 8))))
+    (ap (λ (z : ℤ). cut (negsuc 255) (pos 255) z) (sym (floor-shift (s .args .z +ℤ pos 4) 8)))))
 
 pub alone-spec : {M : Type 1} → statement M
-alone-spec = tie.close (tie.spec add-cut-output cut-output-requires returns)
+alone-spec = tie.close (tie.spec add-cut-output (λ c κs. search needs) returns)

@@ -1,21 +1,16 @@
+-- `inverse::columns` meets its contract. The loops' invariant: the columns before x, and the first y numbers of column x, are the definition's.
 use borrow.Author.Needs.{needs}
-use mathlib.Core.Path.{_≡_, refl, ap, sym, _∙_}
-use Prim.Native.Nat.{ℕ, _≤_, _-_, _+_, _*_}
-use lib.IntN.{ℤ, pos}
-use Rattle.laws.specs.Block.{shape-fill}
-use Rattle.transform.specs.Lines.{SmallRow, Columns, columns-none, columns-more, columns-next, columns-all, back32}
+use mathlib.Core.Path.{_∙_}
+use Prim.Native.Nat.{_≤_, _-_, _+_, _*_}
+use lib.IntN.{pos}
+use Rattle.laws.proofs.Block.{shape-fill}
+use Rattle.quantiser.specs.Lines.{SmallRow}
+use Rattle.quantiser.proofs.Lines.{Columns, columns-none, columns-more, columns-next, columns-all, back32}
 use Rattle.inverse.specs.Passes.{columnsAt, finished}
 use Rattle.inverse.proofs.Bounds.{column-small, highs-small, lows-small, pass-is, pass-low}
 use Rattle.inverse.proofs.Split.{column-finished}
 use Rattle.inverse.proofs.columns.Statement.{statement}
 use Rattle.inverse.proofs.columns.Tie as tie
-use Rattle.inverse.proofs.columns.Reads as reads
-use Rattle.inverse.proofs.columns.Lts as lts
-use Rattle.inverse.proofs.column.Reads as column-reads
-use Rattle.inverse.proofs.finish.Reads as finish-reads
-use Rattle.inverse.proofs.highs.Reads as highs-reads
-use Rattle.inverse.proofs.lows.Reads as lows-reads
-use Rattle.inverse.proofs.pass.Reads as pass-reads
 
 abbrev Inv-loop2 : tie.InvT-loop2
 Inv-loop2 t out₀ x h l y₀ out y = (y ≤ 8) × Columns (columnsAt t) (x * 8 + y) out
@@ -29,49 +24,26 @@ Inv-loop t out₀ x₀ out x = (x ≤ 8) × Columns (columnsAt t) (x * 8 + 0) ou
 abbrev μ-loop : tie.MeasureT-loop
 μ-loop t out₀ x₀ out x = 8 - x
 
--- src/inverse.rt:211:5
 loop-holds : tie.Need-loop-holds Inv-loop2 μ-loop2 Inv-loop μ-loop
 loop-holds c = (search needs, columns-none _ (shape-fill (pos 0)))
 
--- src/inverse.rt:212:13
 column-requires : tie.Need-column-requires Inv-loop2 μ-loop2 Inv-loop μ-loop
 column-requires c κs = (c .before .before .before .pre, search needs)
 
--- src/inverse.rt:213:22
 highs-requires : tie.Need-highs-requires Inv-loop2 μ-loop2 Inv-loop μ-loop
 highs-requires c κs = column-small _ (c .before .before .before .before .pre) (c .column .ensures)
 
--- src/inverse.rt:213:17
 pass-requires : tie.Need-pass-requires Inv-loop2 μ-loop2 Inv-loop μ-loop
 pass-requires c κs = highs-small (c .before .column .result) (column-small _ (c .before .before .before .before .before .pre) (c .before .column .ensures)) (c .highs .ensures)
 
--- src/inverse.rt:214:22
 lows-requires : tie.Need-lows-requires Inv-loop2 μ-loop2 Inv-loop μ-loop
 lows-requires c κs = column-small _ (c .before .before .before .before .before .before .pre) (c .before .before .column .ensures)
 
--- src/inverse.rt:214:17
 pass-requires-2 : tie.Need-pass-requires-2 Inv-loop2 μ-loop2 Inv-loop μ-loop
 pass-requires-2 c κs = lows-small (c .before .before .before .column .result) (c .lows .ensures)
 
--- src/inverse.rt:215:9
 loop2-holds : tie.Need-loop2-holds Inv-loop2 μ-loop2 Inv-loop μ-loop
 loop2-holds c = (search needs, c .before .before .before .before .before .before .before .loop .inv .1)
-
--- src/inverse.rt:216:32
-mul-finish : tie.Need-mul-finish Inv-loop2 μ-loop2 Inv-loop μ-loop
-mul-finish c = search needs
-
--- src/inverse.rt:216:32
-array-copy-out-finish : tie.Need-array-copy-out-finish Inv-loop2 μ-loop2 Inv-loop μ-loop
-array-copy-out-finish c = search needs
-
--- src/inverse.rt:216:38
-mul-finish-2 : tie.Need-mul-finish-2 Inv-loop2 μ-loop2 Inv-loop μ-loop
-mul-finish-2 c = search needs
-
--- src/inverse.rt:216:38
-array-copy-out-finish-2 : tie.Need-array-copy-out-finish-2 Inv-loop2 μ-loop2 Inv-loop μ-loop
-array-copy-out-finish-2 c = search needs
 
 -- the high parts, once both passes are made
 highs-s : (c : tie.After-pass2 Inv-loop2 μ-loop2 Inv-loop μ-loop) → SmallRow 16384 (c .before .before .before .highs .result)
@@ -79,37 +51,11 @@ highs-s c =
     highs-small (c .before .before .before .before .column .result) (column-small _ (c .before .before .before .before .before .before .before .before .pre) (c .before .before .before .before .column .ensures))
     (c .before .before .before .highs .ensures)
 
--- src/inverse.rt:216:25
 finish-requires : tie.Need-finish-requires Inv-loop2 μ-loop2 Inv-loop μ-loop
 finish-requires c κs =
     let p = c .before .before .before .before in
     (pass-low (p .before .before .before .highs .result) (highs-s p) (p .before .before .pass .ensures) (c .before .before .loop2-test .taken), pass-low (p .before .lows .result) (lows-small (p .before .before .before .before .column .result) (p .before .lows .ensures)) (p .pass2 .ensures) (c .before .before .loop2-test .taken))
 
--- src/inverse.rt:216:13
-mul-t24 : tie.Need-mul-t24 Inv-loop2 μ-loop2 Inv-loop μ-loop
-mul-t24 c = search needs
-
--- src/inverse.rt:216:13
-mul-t27 : tie.Need-mul-t27 Inv-loop2 μ-loop2 Inv-loop μ-loop
-mul-t27 c = search needs
-
--- src/inverse.rt:216:13
-index-1-out : tie.Need-index-1-out Inv-loop2 μ-loop2 Inv-loop μ-loop
-index-1-out c = search needs
-
--- src/inverse.rt:216:13
-index-2-out : tie.Need-index-2-out Inv-loop2 μ-loop2 Inv-loop μ-loop
-index-2-out c = search needs
-
--- src/inverse.rt:215:13
-add-y : tie.Need-add-y Inv-loop2 μ-loop2 Inv-loop μ-loop
-add-y c = search needs
-
--- src/inverse.rt:215:9
-loop2-less : tie.Need-loop2-less Inv-loop2 μ-loop2 Inv-loop μ-loop
-loop2-less c = search needs
-
--- src/inverse.rt:215:9
 loop2-again : tie.Need-loop2-again Inv-loop2 μ-loop2 Inv-loop μ-loop
 loop2-again c =
     let p = c .before .before .before .before .before in
@@ -123,50 +69,16 @@ loop2-again c =
           ∙ column-finished _ x y _ _ _ (p .before .before .before .before .column .ensures) (p .before .before .before .highs .ensures) (p .before .lows .ensures)),
     )
 
--- src/inverse.rt:211:9
-add-x : tie.Need-add-x Inv-loop2 μ-loop2 Inv-loop μ-loop
-add-x c = search needs
-
--- src/inverse.rt:211:5
-loop-less : tie.Need-loop-less Inv-loop2 μ-loop2 Inv-loop μ-loop
-loop-less c = search needs
-
--- src/inverse.rt:211:5
 loop-again : tie.Need-loop-again Inv-loop2 μ-loop2 Inv-loop μ-loop
 loop-again c = (search needs, columns-next _ _ _ (c .before .loop2 .inv .1) (search needs))
 
--- src/inverse.rt:205:1
 returns : tie.Need-returns Inv-loop2 μ-loop2 Inv-loop μ-loop
 returns c = columns-all _ _ (c .before .loop .inv .1) (search needs)
 
 pub columns-spec : {M : Type 1} → statement M
 columns-spec =
     tie.close
-    (tie.spec
-    Inv-loop2
-    μ-loop2
-    Inv-loop
-    μ-loop
-    loop-holds
-    column-requires
-    highs-requires
-    pass-requires
-    lows-requires
-    pass-requires-2
-    loop2-holds
-    mul-finish
-    array-copy-out-finish
-    mul-finish-2
-    array-copy-out-finish-2
-    finish-requires
-    mul-t24
-    mul-t27
-    index-1-out
-    index-2-out
-    add-y
-    loop2-less
-    loop2-again
-    add-x
-    loop-less
-    loop-again
-    returns)
+    (tie.spec Inv-loop2 μ-loop2 Inv-loop μ-loop loop-holds column-requires highs-requires pass-requires lows-requires pass-requires-2
+    loop2-holds (λ c. search needs) (λ c. search needs) (λ c. search needs) (λ c. search needs) finish-requires (λ c. search needs)
+    (λ c. search needs) (λ c. search needs) (λ c. search needs) (λ c. search needs) (λ c. search needs) loop2-again (λ c. search needs)
+    (λ c. search needs) loop-again returns)

@@ -1,3 +1,4 @@
+-- `inverse::cut_output` meets its contract: a number cut to 16 bits is cut to less as it was before.
 use mathlib.Core.Path.{_≡_, sym, ap, subst, _∙_}
 use lib.Dec.{lit≤}
 use lib.IntN.{ℤ, pos, negsuc}
@@ -5,21 +6,13 @@ use mir.Syntax.{w16, w32}
 use mir.Val.{SFits, toZ, ofZ}
 use mir.Facts.{toZ-ofZ}
 use borrow.Author.Needs.{needs}
-use Rattle.laws.specs.Integer.{Low, low-fits, back}
-use Rattle.transform.specs.Cut.{cut, short, short-cut, cut-low}
-use Rattle.transform.specs.Lines.{back16}
+use Rattle.laws.specs.Integer.{Low}
+use Rattle.laws.proofs.Integer.{low-fits, back}
+use Rattle.quantiser.specs.Cut.{cut, short}
+use Rattle.quantiser.proofs.CutLaws.{short-cut, cut-low}
+use Rattle.quantiser.proofs.Lines.{back16}
 use Rattle.inverse.proofs.cut_output.Statement.{statement}
 use Rattle.inverse.proofs.cut_output.Tie as tie
-use Rattle.inverse.proofs.cut_output.Reads as reads
-use Rattle.inverse.proofs.cut_output.Lts as lts
-use Rattle.transform.proofs.cut.cut16.Reads as cut16-reads
-use Rattle.transform.proofs.cut.short.Reads as short-reads
-
-short-requires : tie.Need-short-requires
-short-requires c κs = search needs
-
-cut16-requires : tie.Need-cut16-requires
-cut16-requires c κs = search needs
 
 abbrev output : ℤ → ℤ
 output z = cut (negsuc 255) (pos 255) z
@@ -41,4 +34,4 @@ returns : tie.Need-returns
 returns c = ap (λ (z : ℤ). toZ w32 (ofZ w32 z)) (result-is c) ∙ back w32 tt (low (c .before .before .args .z))
 
 pub cut-output-spec : {M : Type 1} → statement M
-cut-output-spec = tie.close (tie.spec short-requires cut16-requires cast-result returns)
+cut-output-spec = tie.close (tie.spec (λ c κs. search needs) (λ c κs. search needs) cast-result returns)

@@ -1,22 +1,22 @@
+-- `inverse::finish` meets its contract: a shift is a division rounded down, and each number on the way fits.
 use mathlib.Core.Path.{_≡_, sym, ap, _∙_}
 use Prim.Native.Nat.{_+_}
 use lib.Dec.{lit≤}
 use lib.IntN.{ℤ, pos, negsuc, _+ℤ_}
 use lib.Signed.{shrZ}
 use mir.Syntax.{w32}
-use mir.Val.{SFits, toZ, ofZ}
+use mir.Val.{SFits}
 use mir.Facts.{toZ-ofZ}
 use borrow.Author.Needs.{needs}
-use Rattle.laws.specs.Integer.{Low, low-fits, low-shr, low-add}
-use Rattle.laws.specs.Floor.{floorDivided, floor-shift}
-use Rattle.transform.specs.Cut.{cut}
+use Rattle.laws.specs.Integer.{Low}
+use Rattle.laws.proofs.Integer.{low-fits, low-shr, low-add}
+use Rattle.laws.specs.Floor.{floorDivided}
+use Rattle.laws.proofs.Floor.{floor-shift}
+use Rattle.quantiser.specs.Cut.{cut}
 use Rattle.inverse.specs.Passes.{finished}
-use Rattle.transform.specs.Lines.{back32}
+use Rattle.quantiser.proofs.Lines.{back32}
 use Rattle.inverse.proofs.finish.Statement.{statement}
 use Rattle.inverse.proofs.finish.Tie as tie
-use Rattle.inverse.proofs.finish.Reads as reads
-use Rattle.inverse.proofs.finish.Lts as lts
-use Rattle.inverse.proofs.cut_output.Reads as cut-output-reads
 
 module _ (c : tie.Start) where
   abbrev down : ℤ
@@ -45,9 +45,6 @@ module _ (c : tie.Start) where
 add-cut-output : tie.Need-add-cut-output
 add-cut-output c = simp (toZ-ofZ (c .fits .l), toZ-ofZ (fits-down c), toZ-ofZ (c .fits .h)) (fits-sum c)
 
-cut-output-requires : tie.Need-cut-output-requires
-cut-output-requires c κs = search needs
-
 returns : tie.Need-returns
 unfolding finished
 returns c =
@@ -57,4 +54,4 @@ returns c =
     (ap (λ (z : ℤ). cut (negsuc 255) (pos 255) z) (number-is s))
 
 pub finish-spec : {M : Type 1} → statement M
-finish-spec = tie.close (tie.spec add-cut-output cut-output-requires returns)
+finish-spec = tie.close (tie.spec add-cut-output (λ c κs. search needs) returns)

@@ -1,16 +1,15 @@
-use mathlib.Core.Path.{_≡_, sym, _∙_}
+-- `inverse::high` meets its contract: a shift is a division rounded down, and the quotient fits 16 bits.
+use mathlib.Core.Path.{sym}
 use lib.Dec.{lit≤}
-use lib.IntN.{ℤ}
 use lib.Signed.{shrZ}
 use mir.Syntax.{w16, w32}
 use mir.Val.{SFits}
 use mir.Facts.{toZ-ofZ}
-use Rattle.laws.specs.Integer.{Low, low-fits, low-shr}
-use Rattle.laws.specs.Floor.{floor-shift}
+use Rattle.laws.specs.Integer.{Low}
+use Rattle.laws.proofs.Integer.{low-fits, low-shr}
+use Rattle.laws.proofs.Floor.{floor-shift}
 use Rattle.inverse.proofs.high.Statement.{statement}
 use Rattle.inverse.proofs.high.Tie as tie
-use Rattle.inverse.proofs.high.Reads as reads
-use Rattle.inverse.proofs.high.Lts as lts
 
 module _ (c : tie.Start) where
   low-high : Low 5684 (shrZ (c .args .t) 8192)

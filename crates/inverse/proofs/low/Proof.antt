@@ -1,4 +1,5 @@
-use mathlib.Core.Path.{_≡_, sym, ap, subst, _∙_}
+-- `inverse::low` meets its contract: what the division leaves is below 8192, so that it fits 16 bits.
+use mathlib.Core.Path.{_≡_, sym, ap, subst}
 use native.Mathlib.Nat.{le-refl}
 use lib.Dec.{lit≤}
 use lib.IntN.{ℤ, pos, _-ℤ_, _*ℤ_}
@@ -6,12 +7,12 @@ use lib.Signed.{shrZ}
 use mir.Syntax.{w16, w32}
 use mir.Val.{SFits}
 use mir.Facts.{toZ-ofZ}
-use Rattle.laws.specs.Integer.{Low, low-fits, low-shr, low-mul}
-use Rattle.laws.specs.Floor.{floorDivided, floor-shift, left-low}
+use Rattle.laws.specs.Integer.{Low}
+use Rattle.laws.proofs.Integer.{low-fits, low-shr, low-mul}
+use Rattle.laws.specs.Floor.{floorDivided}
+use Rattle.laws.proofs.Floor.{floor-shift, left-low}
 use Rattle.inverse.proofs.low.Statement.{statement}
 use Rattle.inverse.proofs.low.Tie as tie
-use Rattle.inverse.proofs.low.Reads as reads
-use Rattle.inverse.proofs.low.Lts as lts
 
 module _ (c : tie.Start) where
   abbrev high : ℤ

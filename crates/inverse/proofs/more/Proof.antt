@@ -1,23 +1,21 @@
-use mathlib.Core.Path.{_≡_}
-use lib.IntN.{ℤ, _+ℤ_, _*ℤ_}
-use mir.Syntax.{w16, w32}
+-- `inverse::more` meets its contract: the number, the product and the sum fit 32 bits.
+use lib.IntN.{_+ℤ_, _*ℤ_}
+use mir.Syntax.{w32}
 use mir.Val.{SFits}
 use mir.Facts.{toZ-ofZ}
-use Rattle.laws.specs.Integer.{low-fits, low-mul, low-add}
+use Rattle.laws.proofs.Integer.{low-fits, low-mul, low-add}
 use Rattle.inverse.proofs.more.Statement.{statement}
 use Rattle.inverse.proofs.more.Tie as tie
-use Rattle.inverse.proofs.more.Reads as reads
-use Rattle.inverse.proofs.more.Lts as lts
 
 module _ (c : tie.Start) where
   wide : SFits w32 (c .args .number)
-  wide = low-fits tt (c .pre .1)
+  wide = low-fits tt (c .pre .1 .number-low)
 
   fits-mul : SFits w32 (c .args .number *ℤ c .args .factor)
-  fits-mul = low-fits tt (low-mul (c .pre .1) (c .pre .2))
+  fits-mul = low-fits tt (low-mul (c .pre .1 .number-low) (c .pre .1 .factor-low))
 
   fits-sum : SFits w32 (c .args .sum +ℤ c .args .number *ℤ c .args .factor)
-  fits-sum = low-fits tt (low-add (c .pre .0) (low-mul (c .pre .1) (c .pre .2)))
+  fits-sum = low-fits tt (low-add (c .pre .0) (low-mul (c .pre .1 .number-low) (c .pre .1 .factor-low)))
 
 cast-result : tie.Need-cast-result
 cast-result c = simp (toZ-ofZ (c .fits .number)) (wide c)

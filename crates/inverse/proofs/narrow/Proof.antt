@@ -1,10 +1,9 @@
+-- `inverse::narrow` meets its contract: a small number is the same in 16 bits.
 use mir.Facts.{toZ-ofZ}
 use mir.Syntax.{w16}
-use Rattle.laws.specs.Integer.{low-fits, back}
+use Rattle.laws.proofs.Integer.{low-fits, back}
 use Rattle.inverse.proofs.narrow.Statement.{statement}
 use Rattle.inverse.proofs.narrow.Tie as tie
-use Rattle.inverse.proofs.narrow.Reads as reads
-use Rattle.inverse.proofs.narrow.Lts as lts
 
 cast-result : tie.Need-cast-result
 cast-result c = simp (toZ-ofZ (c .fits .z)) (low-fits tt (c .pre))

@@ -1,29 +1,24 @@
+-- `inverse::rows` meets its contract. The loop's invariant: the first v rows are the sums of the block's rows.
 use borrow.Author.Needs.{needs}
 use mathlib.Core.Path.{refl}
 use Prim.Native.Nat.{_≤_, _-_, zero-le}
 use lib.Dec.{lit≤}
 use lib.IntN.{ℤ, pos}
 use lib.ListN.{replicate}
-use Rattle.laws.specs.Integer.{Low, low-up}
-use Rattle.laws.specs.Block.{is-each}
-use Rattle.transform.specs.Lines.{Small, Lines, line-low, lines-none, lines-more, lines-all}
+use Rattle.laws.specs.Integer.{Low}
+use Rattle.laws.proofs.Integer.{low-up}
+use Rattle.laws.proofs.Block.{is-each}
+use Rattle.quantiser.specs.Lines.{Small}
+use Rattle.quantiser.proofs.Lines.{Lines, line-low, lines-none, lines-more, lines-all}
 use Rattle.inverse.proofs.Split.{acrossAt, across-line, across-rows}
 use Rattle.inverse.proofs.rows.Statement.{statement}
 use Rattle.inverse.proofs.rows.Tie as tie
-use Rattle.inverse.proofs.rows.Reads as reads
-use Rattle.inverse.proofs.rows.Lts as lts
-use Rattle.inverse.proofs.line.Reads as line-reads
-use Rattle.inverse.proofs.pass.Reads as pass-reads
-use Rattle.inverse.proofs.turned.Reads as turned-reads
 
 abbrev Inv-loop : tie.InvT-loop
 Inv-loop n t₀ v₀ t v = (v ≤ 8) × Lines (acrossAt n) v t
 
 abbrev μ-loop : tie.MeasureT-loop
 μ-loop n t₀ v₀ t v = 8 - v
-
-turned-requires : tie.Need-turned-requires Inv-loop μ-loop
-turned-requires c κs = search needs
 
 loop-holds : tie.Need-loop-holds Inv-loop μ-loop
 loop-holds c = (search needs, lines-none _ {t = replicate 8 (replicate 8 (pos 0))} refl)
@@ -39,18 +34,6 @@ pass-requires : tie.Need-pass-requires Inv-loop μ-loop
 pass-requires c κs =
     line-low (c .line .ensures) (λ u. low-up 16384 (small (c .before .before .before .before) u (c .before .before .before .loop .v)) (lit≤ tt))
 
-mul-t : tie.Need-mul-t Inv-loop μ-loop
-mul-t c = search needs
-
-array-set-from-t : tie.Need-array-set-from-t Inv-loop μ-loop
-array-set-from-t c = search needs
-
-add-v : tie.Need-add-v Inv-loop μ-loop
-add-v c = search needs
-
-loop-less : tie.Need-loop-less Inv-loop μ-loop
-loop-less c = search needs
-
 loop-again : tie.Need-loop-again Inv-loop μ-loop
 loop-again c =
     let l = c .before .before .before .before .loop in
@@ -62,16 +45,5 @@ returns c = across-rows (c .before .before .before .args .f) _ _ (c .before .bef
 pub rows-spec : {M : Type 1} → statement M
 rows-spec =
     tie.close
-    (tie.spec
-    Inv-loop
-    μ-loop
-    turned-requires
-    loop-holds
-    line-requires
-    pass-requires
-    mul-t
-    array-set-from-t
-    add-v
-    loop-less
-    loop-again
-    returns)
+    (tie.spec Inv-loop μ-loop (λ c κs. search needs) loop-holds line-requires pass-requires (λ c. search needs) (λ c. search needs)
+    (λ c. search needs) (λ c. search needs) loop-again returns)

@@ -1,32 +1,44 @@
 -- `listing::find` meets its contract: by what the check found. Assumes nothing.
 use borrow.Author.Needs.{needs}
-use mathlib.Core.Path.{_≡_, sym, ap, _∙_}
+use mathlib.Core.Path.{_≡_, refl, sym, ap, _∙_}
+use mathlib.Core.List.{List}
+use Prim.Native.Nat.{ℕ}
+use Rattle.size.specs.declared.Size.{Size}
+use Rattle.coding.specs.declared.Kind.{Kind}
+use Rattle.coding.specs.Kind.{kindSize}
+use Rattle.vault.specs.declared.Checked.{Checked}
 use Rattle.vault.specs.Block.{checkOf}
+use Rattle.standing.specs.declared.Opened.{Opened}
 use Rattle.listing.specs.Listed.{openedBy, foundBy}
 use Rattle.listing.proofs.find.Statement.{statement}
 use Rattle.listing.proofs.find.Tie as tie
 
-check-requires : tie.Need-check-requires
-check-requires c κs = search needs
-
-enum-known-header : tie.Need-enum-known-header
-enum-known-header c = search needs
-
-open-requires : tie.Need-open-requires
-open-requires c κs = search needs
-
-enum-known-why : tie.Need-enum-known-why
-enum-known-why c = search needs
+-- what the check of a block in this size found opens the receiver
+opens : {size : Size} (kind : Kind) (block : List ℕ) {checked found : Checked} {opened : Opened} → size ≡ kindSize kind → checked ≡ checkOf size block → checked ≡ found
+    → opened ≡ openedBy kind found → opened ≡ foundBy kind block
+unfolding foundBy
+opens kind block sz e f o = o ∙ ap (openedBy kind) (sym f ∙ e ∙ ap (λ (z : Size). checkOf z block) sz)
 
 returns : tie.Need-returns
-unfolding openedBy foundBy
-returns c = c .«open» .ensures ∙ ap (openedBy (c .before .before .before .before .before .before .args .format)) (sym (c .before .before .header .given .1) ∙ c .before .before .before .before .check .ensures)
+unfolding openedBy
+returns c =
+    let at-header = c .before .before in
+    let at-check = at-header .before .before in
+    let at-size-of = at-check .before in
+    let start = at-size-of .before .before in
+    opens (start .args .kind) (start .args .block .now) (at-size-of .size-of .ensures) (at-check .check .ensures) (at-header .header .given .1) (c .«open» .ensures)
 
 returns-2 : tie.Need-returns-2
-unfolding openedBy foundBy
-returns-2 c = ap (openedBy (c .before .before .before .before .before .args .format)) (sym (c .before .why .given .1) ∙ c .before .before .before .check .ensures)
+unfolding openedBy
+returns-2 c =
+    let at-why = c .before in
+    let at-check = at-why .before .before in
+    let at-size-of = at-check .before in
+    let start = at-size-of .before .before in
+    opens (start .args .kind) (start .args .block .now) (at-size-of .size-of .ensures) (at-check .check .ensures) (at-why .why .given .1) refl
 
 pub find-spec : {M : Type 1} → statement M
 find-spec =
     tie.close
-    (tie.spec check-requires enum-known-header open-requires enum-known-why returns returns-2)
+    (tie.spec (λ c κs. search needs) (λ c κs. search needs) (λ c. search needs) (λ c κs. search needs) (λ c. search needs) returns
+    returns-2)

@@ -5,35 +5,11 @@ use borrow.Author.Needs.{needs}
 use Rattle.pack.proofs.put_blocks.Statement.{statement}
 use Rattle.pack.proofs.put_blocks.Tie as tie
 
-mul-end : tie.Need-mul-end
-mul-end c = search needs
-
 slice-aggregate-write-all : tie.Need-slice-aggregate-write-all
 slice-aggregate-write-all c = sym (length-take-le _ _ (c .before .if2 .taken))
-
-write-all-requires : tie.Need-write-all-requires
-write-all-requires c κs = search needs
-
-returns : tie.Need-returns
-returns c = search needs
-
-slice-aggregate-write-all-2 : tie.Need-slice-aggregate-write-all-2
-slice-aggregate-write-all-2 c = search needs
-
-write-all-requires-2 : tie.Need-write-all-requires-2
-write-all-requires-2 c κs = search needs
-
-returns-2 : tie.Need-returns-2
-returns-2 c = search needs
 
 pub put-blocks-spec : {M : Type 1} → statement M
 put-blocks-spec =
     tie.close
-    (tie.spec
-    mul-end
-    slice-aggregate-write-all
-    write-all-requires
-    returns
-    slice-aggregate-write-all-2
-    write-all-requires-2
-    returns-2)
+    (tie.spec (λ c. search needs) slice-aggregate-write-all (λ c κs. search needs) (λ c. search needs) (λ c. search needs)
+    (λ c κs. search needs) (λ c. search needs))

@@ -8,74 +8,63 @@ use Prim.Native.Nat.{ℕ}
 use lib.Dec.{eqb}
 use lib.ListN.{length}
 use Rattle.laws.specs.Choice.{both}
-use Rattle.format.specs.declared.Format.{Format}
-use Rattle.format.specs.Format.{blocksLength}
-use Rattle.description.specs.Flat.{Flat}
-use Rattle.description.specs.Fields.{flat}
-use Rattle.stores.specs.Stores.{sized}
-use Rattle.sender.specs.H261.{h261}
+use Rattle.size.specs.declared.Size.{Size}
+use Rattle.size.specs.Size.{blocksLength}
+use Rattle.coding.specs.declared.Kind.{Kind}
+use Rattle.layout.specs.Flat.{Flat, flat}
+use Rattle.coding.specs.Kind.{kindSize, codingOf}
+use Rattle.standing.specs.Stores.{sized}
 use Rattle.sender.specs.Send.{buffers, lengths}
 use Rattle.sender.proofs.named.Statement.{statement}
 use Rattle.sender.proofs.named.Tie as tie
 
-module _ {one : Bool} (f : Format) (d : Flat) (out first second : List ℕ) (is : one ≡ h261 f .named d) where
+module _ {one : Bool} (k : Kind) (d : Flat) (out first second : List ℕ) (is : one ≡ codingOf k .named d) where
   abbrev goal : Bool
-  goal = both (h261 f .named d) (lengths f (buffers out first second))
+  goal = both (codingOf k .named d) (lengths (kindSize k) (buffers out first second))
 
-  by-description : (b : Bool) → one ≡ b → both b (lengths f (buffers out first second)) ≡ goal
-  by-description b e = ap (λ (t : Bool). both t (lengths f (buffers out first second))) (sym e ∙ is)
+  by-description : (b : Bool) → one ≡ b → both b (lengths (kindSize k) (buffers out first second)) ≡ goal
+  by-description b e = ap (λ (t : Bool). both t (lengths (kindSize k) (buffers out first second))) (sym e ∙ is)
 
   not-one : one ≡ false → false ≡ goal
   not-one e = by-description false e
 
-  module _ (t : one ≡ true) {length₀ : ℕ} (n : length₀ ≡ blocksLength f) where
-    by-output : (b : Bool) → eqb (length out) (blocksLength f) ≡ b → both b (sized f (length first) (length second)) ≡ goal
-    by-output b e = ap (λ (t : Bool). both t (sized f (length first) (length second))) (sym e) ∙ by-description true t
+  module _ (t : one ≡ true) {size : Size} (sz : size ≡ kindSize k) {length₀ : ℕ} (n : length₀ ≡ blocksLength size) where
+    by-output : (b : Bool) → eqb (length out) (blocksLength size) ≡ b → both b (sized size (length first) (length second)) ≡ goal
+    by-output b e =
+        ap (λ (t : Bool). both t (sized size (length first) (length second))) (sym e) ∙ ap (λ (z : Size). lengths z (buffers out first second)) sz ∙ by-description true t
 
     unfit : (length out ≡ length₀ → ⊥) → false ≡ goal
-    unfit h = by-output false (ne-eqb (length out) (blocksLength f) (λ e. h (e ∙ sym n)))
+    unfit h = by-output false (ne-eqb (length out) (blocksLength size) (λ e. h (e ∙ sym n)))
 
-    fit : {right : Bool} → length out ≡ length₀ → right ≡ sized f (length first) (length second) → right ≡ goal
-    fit e h = h ∙ by-output true (eq-eqb (length out) (blocksLength f) (e ∙ n))
-
-one-format-requires : tie.Need-one-format-requires
-one-format-requires c κs = search needs
+    fit : {right : Bool} → length out ≡ length₀ → right ≡ sized size (length first) (length second) → right ≡ goal
+    fit e h = h ∙ by-output true (eq-eqb (length out) (blocksLength size) (e ∙ n))
 
 returns : tie.Need-returns
 returns c =
-    let start = c .before .before .before .before .before .before .before .before in
-    not-one (start .args .format) (flat (start .args .head .now) (start .args .macroblocks .now) (start .args .levels .now)) (start .args .out .now)
-    (start .args .first .now) (start .args .second .now) (c .before .one-format .ensures) (not-true _ (c .if1 .taken))
-
-blocks-length-requires : tie.Need-blocks-length-requires
-blocks-length-requires c κs = search needs
+    let at-named = c .before in
+    let start = at-named .before .before .before .before .before .before .before in
+    not-one (start .args .kind) (flat (start .args .head .now) (start .args .macroblocks .now) (start .args .levels .now)) (start .args .out .now) (start .args .first .now) (start .args .second .now) (at-named .named .ensures) (not-true _ (c .if1 .taken))
 
 returns-2 : tie.Need-returns-2
 returns-2 c =
-    let at-one-format = c .before .before .before in
-    let start = at-one-format .before .before .before .before .before .before .before in
-    unfit (start .args .format) (flat (start .args .head .now) (start .args .macroblocks .now) (start .args .levels .now)) (start .args .out .now)
-    (start .args .first .now) (start .args .second .now) (at-one-format .one-format .ensures) (not-false _ (c .before .before .if1 .left))
-    (c .before .blocks-length .ensures) (c .if2 .taken)
-
-sized-requires : tie.Need-sized-requires
-sized-requires c κs = search needs
+    let at-blocks-length = c .before in
+    let at-size-of = at-blocks-length .before in
+    let at-if1 = at-size-of .before in
+    let at-named = at-if1 .before in
+    let start = at-named .before .before .before .before .before .before .before in
+    unfit (start .args .kind) (flat (start .args .head .now) (start .args .macroblocks .now) (start .args .levels .now)) (start .args .out .now) (start .args .first .now) (start .args .second .now) (at-named .named .ensures) (not-false _ (at-if1 .if1 .left)) (at-size-of .size-of .ensures) (at-blocks-length .blocks-length .ensures) (c .if2 .taken)
 
 returns-3 : tie.Need-returns-3
 returns-3 c =
-    let at-if1 = c .before .before .before in
-    let start = at-if1 .before .before .before .before .before .before .before .before in
-    fit (start .args .format) (flat (start .args .head .now) (start .args .macroblocks .now) (start .args .levels .now)) (start .args .out .now)
-    (start .args .first .now) (start .args .second .now) (at-if1 .before .one-format .ensures) (not-false _ (at-if1 .if1 .left))
-    (c .before .before .blocks-length .ensures) (c .before .if2 .left) (c .sized .ensures)
+    let at-if2 = c .before in
+    let at-blocks-length = at-if2 .before in
+    let at-size-of = at-blocks-length .before in
+    let at-if1 = at-size-of .before in
+    let at-named = at-if1 .before in
+    let start = at-named .before .before .before .before .before .before .before in
+    fit (start .args .kind) (flat (start .args .head .now) (start .args .macroblocks .now) (start .args .levels .now)) (start .args .out .now) (start .args .first .now) (start .args .second .now) (at-named .named .ensures) (not-false _ (at-if1 .if1 .left)) (at-size-of .size-of .ensures) (at-blocks-length .blocks-length .ensures) (at-if2 .if2 .left) (c .sized .ensures)
 
 pub named-spec : {M : Type 1} → statement M
 named-spec =
     tie.close
-    (tie.spec
-    one-format-requires
-    returns
-    blocks-length-requires
-    returns-2
-    sized-requires
-    returns-3)
+    (tie.spec (λ c κs. search needs) returns (λ c κs. search needs) (λ c κs. search needs) returns-2 (λ c κs. search needs) returns-3)

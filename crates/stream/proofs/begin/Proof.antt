@@ -4,12 +4,6 @@ use Rattle.stream.proofs.Pushed.{begins-in, begins-out}
 use Rattle.stream.proofs.begin.Statement.{statement}
 use Rattle.stream.proofs.begin.Tie as tie
 
-put-requires : tie.Need-put-requires
-put-requires c κs = search needs
-
-same-length : tie.Need-same-length
-same-length c = search needs
-
 returns : tie.Need-returns
 returns c = begins-in (c .before .before .before .before .before .before .args .picture .now) (c .before .before .before .before .if1 .taken) (c .before .before .put .ensures)
 
@@ -17,4 +11,4 @@ returns-2 : tie.Need-returns-2
 returns-2 c = begins-out (c .before .before .args .picture .now) (c .if1 .left)
 
 pub begin-spec : {M : Type 1} → statement M
-begin-spec = tie.close (tie.spec put-requires same-length returns returns-2)
+begin-spec = tie.close (tie.spec (λ c κs. search needs) (λ c. search needs) returns returns-2)

@@ -4,18 +4,8 @@ use Rattle.stream.proofs.Pushed.{begun}
 use Rattle.stream.proofs.begun_by.Statement.{statement}
 use Rattle.stream.proofs.begun_by.Tie as tie
 
-one-more-requires : tie.Need-one-more-requires
-one-more-requires c κs = search needs
-
-window-after-requires : tie.Need-window-after-requires
-window-after-requires c κs = search needs
-
-offset-of-requires : tie.Need-offset-of-requires
-offset-of-requires c κs = search needs
-
 returns : tie.Need-returns
 returns c = begun (c .before .before .before .args .stream) (c .before .before .before .args .bit) (c .before .before .one-more .ensures) (c .before .window-after .ensures) (c .offset-of .ensures)
 
 pub begun-by-spec : {M : Type 1} → statement M
-begun-by-spec =
-    tie.close (tie.spec one-more-requires window-after-requires offset-of-requires returns)
+begun-by-spec = tie.close (tie.spec (λ c κs. search needs) (λ c κs. search needs) (λ c κs. search needs) returns)

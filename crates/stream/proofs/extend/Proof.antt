@@ -5,14 +5,8 @@ use Rattle.stream.proofs.Pushed.{bit-small, extends-in, extends-out}
 use Rattle.stream.proofs.extend.Statement.{statement}
 use Rattle.stream.proofs.extend.Tie as tie
 
-bit-number-requires : tie.Need-bit-number-requires
-bit-number-requires c κs = search needs
-
 put-requires : tie.Need-put-requires
 put-requires c κs = (omega arith, omega arith, bit-small (c .before .before .before .before .args .bit) (c .before .bit-number .ensures), omega (arith, c .before .before .if1 .taken))
-
-same-length : tie.Need-same-length
-same-length c = search needs
 
 returns : tie.Need-returns
 returns c = extends-in (c .before .before .before .before .before .before .before .args .picture .now) (c .before .before .before .before .before .before .before .args .count) (c .before .before .before .before .before .before .before .args .bit) (c .before .before .before .before .before .if1 .taken) (c .before .before .before .before .bit-number .ensures) (c .before .before .put .ensures)
@@ -21,4 +15,4 @@ returns-2 : tie.Need-returns-2
 returns-2 c = extends-out (c .before .before .args .picture .now) (c .before .before .args .count) (c .before .before .args .bit) (c .if1 .left)
 
 pub extend-spec : {M : Type 1} → statement M
-extend-spec = tie.close (tie.spec bit-number-requires put-requires same-length returns returns-2)
+extend-spec = tie.close (tie.spec (λ c κs. search needs) put-requires (λ c. search needs) returns returns-2)

@@ -1,12 +1,9 @@
 -- `stream::one_more` meets its contract. Assumes nothing.
 use borrow.Author.Needs.{needs}
-use Rattle.stream.specs.Stream.{more-below}
+use Rattle.stream.proofs.StreamLaws.{more-below}
 use Rattle.stream.proofs.Pushed.{more-last}
 use Rattle.stream.proofs.one_more.Statement.{statement}
 use Rattle.stream.proofs.one_more.Tie as tie
-
-add-result : tie.Need-add-result
-add-result c = search needs
 
 returns : tie.Need-returns
 returns c = more-below (c .before .args .n) (c .if1 .taken)
@@ -15,4 +12,4 @@ returns-2 : tie.Need-returns-2
 returns-2 c = more-last (c .before .args .n) (c .if1 .left)
 
 pub one-more-spec : {M : Type 1} → statement M
-one-more-spec = tie.close (tie.spec add-result returns returns-2)
+one-more-spec = tie.close (tie.spec (λ c. search needs) returns returns-2)

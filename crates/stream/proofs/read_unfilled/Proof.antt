@@ -1,34 +1,13 @@
 -- `stream::read_unfilled` meets its contract: by the second read. Assumes nothing.
 use borrow.Author.Needs.{needs}
 use borrow.Author.Tests.{not-true, not-false}
-use Rattle.description.specs.Fields.{flat}
+use Rattle.layout.specs.Flat.{flat}
 use Rattle.stream.proofs.Unfilled.{stays, whole, broken}
 use Rattle.stream.proofs.read_unfilled.Statement.{statement}
 use Rattle.stream.proofs.read_unfilled.Tie as tie
 
-among-zeros-requires : tie.Need-among-zeros-requires
-among-zeros-requires c κs = search needs
-
 returns : tie.Need-returns
 returns c = let a = c .before .before .before .before .before .before .args in stays (a .format) (a .bytes .now) (a .ones) (flat (a .head .now) (a .macroblocks .now) (a .levels .now)) (a .why) (c .before .among-zeros .ensures) (not-true _ (c .if1 .taken))
-
-read-requires : tie.Need-read-requires
-read-requires c κs = search needs
-
-enum-told : tie.Need-enum-told
-enum-told c = search needs
-
-enum-known-verdict : tie.Need-enum-known-verdict
-enum-known-verdict c = search needs
-
-same-length : tie.Need-same-length
-same-length c = search needs
-
-same-length-2 : tie.Need-same-length-2
-same-length-2 c = search needs
-
-same-length-3 : tie.Need-same-length-3
-same-length-3 c = search needs
 
 returns-2 : tie.Need-returns-2
 returns-2 c =
@@ -39,15 +18,6 @@ returns-2 c =
     let a = start .args in
     whole (a .format) (a .bytes .now) (a .ones) (flat (a .head .now) (a .macroblocks .now) (a .levels .now)) (a .why) (at-among-zeros .among-zeros .ensures)
     (not-false _ (at-if1 .if1 .left)) (at-read .read .ensures) (c .enum-told .given .1)
-
-same-length-4 : tie.Need-same-length-4
-same-length-4 c = search needs
-
-same-length-5 : tie.Need-same-length-5
-same-length-5 c = search needs
-
-same-length-6 : tie.Need-same-length-6
-same-length-6 c = search needs
 
 returns-3 : tie.Need-returns-3
 returns-3 c =
@@ -62,17 +32,5 @@ returns-3 c =
 pub read-unfilled-spec : {M : Type 1} → statement M
 read-unfilled-spec =
     tie.close
-    (tie.spec
-    among-zeros-requires
-    returns
-    read-requires
-    enum-told
-    enum-known-verdict
-    same-length
-    same-length-2
-    same-length-3
-    returns-2
-    same-length-4
-    same-length-5
-    same-length-6
-    returns-3)
+    (tie.spec (λ c κs. search needs) returns (λ c κs. search needs) (λ c. search needs) (λ c. search needs) (λ c. search needs)
+    (λ c. search needs) (λ c. search needs) returns-2 (λ c. search needs) (λ c. search needs) (λ c. search needs) returns-3)

@@ -6,11 +6,8 @@ use lib.Dec.{eqb}
 use Rattle.stream.proofs.starts.Statement.{statement}
 use Rattle.stream.proofs.starts.Tie as tie
 
-window-after-requires : tie.Need-window-after-requires
-window-after-requires c κs = search needs
-
 returns : tie.Need-returns
 returns c = ap (λ (w : ℕ). eqb w 16) (c .window-after .ensures)
 
 pub starts-spec : {M : Type 1} → statement M
-starts-spec = tie.close (tie.spec window-after-requires returns)
+starts-spec = tie.close (tie.spec (λ c κs. search needs) returns)

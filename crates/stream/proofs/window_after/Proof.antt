@@ -4,20 +4,11 @@ use Rattle.stream.proofs.Pushed.{window-one, window-zero}
 use Rattle.stream.proofs.window_after.Statement.{statement}
 use Rattle.stream.proofs.window_after.Tie as tie
 
-mul-result : tie.Need-mul-result
-mul-result c = search needs
-
-add-result : tie.Need-add-result
-add-result c = search needs
-
 returns : tie.Need-returns
 returns c = window-one (c .before .args .window) (c .if1 .taken)
-
-mul-result-2 : tie.Need-mul-result-2
-mul-result-2 c = search needs
 
 returns-2 : tie.Need-returns-2
 returns-2 c = window-zero (c .before .args .window) (c .if1 .left)
 
 pub window-after-spec : {M : Type 1} → statement M
-window-after-spec = tie.close (tie.spec mul-result add-result returns mul-result-2 returns-2)
+window-after-spec = tie.close (tie.spec (λ c. search needs) (λ c. search needs) returns (λ c. search needs) returns-2)

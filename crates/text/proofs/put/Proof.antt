@@ -29,28 +29,13 @@ module _ (words out : List ℕ) (at : ℕ) (l : at + length words ≤ length out
         ∙ sym (append-assoc (take at out) words (drop (at + length words) out));
   }
 
-add-end : tie.Need-add-end
-add-end c = search needs
-
-sub-copy : tie.Need-sub-copy
-sub-copy c = search needs
-
-part-copy-start : tie.Need-part-copy-start
-part-copy-start c = search needs
-
-part-copy-end : tie.Need-part-copy-end
-part-copy-end c = search needs
-
-copy-requires : tie.Need-copy-requires
-copy-requires c κs = search needs
-
-same-length : tie.Need-same-length
-same-length c = search needs
-
 returns : tie.Need-returns
-returns c = (refl, in-place (c .before .before .before .before .before .before .args .words .now) (c .before .before .before .before .before .before .args .out .now) (c .before .before .before .before .before .before .args .at) (c .before .before .before .before .before .before .pre) (c .before .before .copy .ensures .1))
+returns c =
+    let start = c .before .before .before .before .before .before in
+    (refl, in-place (start .args .words .now) (start .args .out .now) (start .args .at) (start .pre) (c .before .before .copy .ensures .1))
 
 pub put-spec : {M : Type 1} → statement M
 put-spec =
     tie.close
-    (tie.spec add-end sub-copy part-copy-start part-copy-end copy-requires same-length returns)
+    (tie.spec (λ c. search needs) (λ c. search needs) (λ c. search needs) (λ c. search needs) (λ c κs. search needs) (λ c. search needs)
+    returns)

@@ -1,27 +1,20 @@
 -- `text::put_number` meets its contract: the fewest digits that hold the number are its digits. Assumes nothing.
 use borrow.Author.Needs.{needs}
-use Prim.Native.Nat.{ℕ, _+_, _-_, _≤_}
 use native.Mathlib.Omega.{arith}
-use lib.ListN.{length, take, length-take}
-use Rattle.text.specs.Puts.{Puts, puts-as}
+use lib.ListN.{length-take}
+use Rattle.text.proofs.Puts.{puts-as}
 use Rattle.text.proofs.Digits.{twenty, spelled}
 use Rattle.text.proofs.put_number.Statement.{statement}
 use Rattle.text.proofs.put_number.Tie as tie
 
-decimal-requires : tie.Need-decimal-requires
-decimal-requires c κs = search needs
-
-array-share-prefix-digits : tie.Need-array-share-prefix-digits
-array-share-prefix-digits c = search needs
-
-slice-aggregate-put : tie.Need-slice-aggregate-put
-slice-aggregate-put c = search needs
-
 put-requires : tie.Need-put-requires
-put-requires c κs = omega (arith, length-take (c .before .before .decimal .result) (c .before .before .decimal .last .1 .0), twenty (c .before .before .before .before .before .fits .n .fits) (c .before .before .decimal .ensures .1 .0))
-
-same-length : tie.Need-same-length
-same-length c = search needs
+put-requires c κs =
+    let at-decimal = c .before .before in
+    omega (
+      arith,
+      length-take (at-decimal .decimal .result) (at-decimal .decimal .last .1 .0),
+      twenty (at-decimal .before .before .before .fits .n .fits) (at-decimal .decimal .ensures .1 .0),
+    )
 
 returns : tie.Need-returns
 returns c =
@@ -40,10 +33,4 @@ returns c =
 pub put-number-spec : {M : Type 1} → statement M
 put-number-spec =
     tie.close
-    (tie.spec
-    decimal-requires
-    array-share-prefix-digits
-    slice-aggregate-put
-    put-requires
-    same-length
-    returns)
+    (tie.spec (λ c κs. search needs) (λ c. search needs) (λ c. search needs) put-requires (λ c. search needs) returns)

@@ -10,7 +10,7 @@ use borrow.Rule.Slice.PartMut.{putMid}
 use Rattle.vault.specs.declared.Header.{Header}
 use Rattle.vault.specs.Block.{blockFor}
 use Rattle.vault.specs.Parts.{partCount, payloadAt, headerAt, blockAt, firstBlocks}
-use Rattle.vault.specs.Cut.{first-length, one-more}
+use Rattle.vault.proofs.Cut.{first-length, one-more}
 use Rattle.vault.proofs.blocks.Statement.{statement}
 use Rattle.vault.proofs.blocks.Tie as tie
 
@@ -61,9 +61,6 @@ Inv-loop clip picture refresh bytes count out₀ parts part₀ out part = Stored
 abbrev μ-loop : tie.MeasureT-loop
 μ-loop clip picture refresh bytes count out₀ parts part₀ out part = partCount count - part
 
-part-count-requires : tie.Need-part-count-requires Inv-loop μ-loop
-part-count-requires c κs = omega arith
-
 loop-holds : tie.Need-loop-holds Inv-loop μ-loop
 loop-holds c = none _ _ _ _ _ _
 
@@ -74,13 +71,9 @@ add-end : tie.Need-add-end Inv-loop μ-loop
 add-end c = omega (arith, (c .before .before .part-count .ensures))
 
 header-at-requires : tie.Need-header-at-requires Inv-loop μ-loop
-header-at-requires c κs = (omega (arith, (c .before .before .part-count .ensures)), omega arith, omega (arith, (c .before .before .part-count .ensures)))
-
-sub-write-block : tie.Need-sub-write-block Inv-loop μ-loop
-sub-write-block c = omega arith
-
-part-write-block-start : tie.Need-part-write-block-start Inv-loop μ-loop
-part-write-block-start c = omega arith
+header-at-requires c κs =
+    let parts-are = c .before .before .part-count .ensures in
+    record { part-is = omega (arith, parts-are); short = omega arith; reached = omega (arith, parts-are) }
 
 part-write-block-end : tie.Need-part-write-block-end Inv-loop μ-loop
 part-write-block-end c = omega (arith, (c .before .before .loop .inv .long), (c .before .before .before .part-count .ensures))
@@ -90,10 +83,12 @@ write-block-requires c κs =
     let at-header-at = c .before in
     let at-loop = at-header-at .before .before in
     let at-part-count = at-loop .before in (
-      lent _ (at-loop .loop .part) (omega (arith, (at-loop .loop .inv .long), (at-part-count .part-count .ensures))),
+      record {
+        block-long = lent _ (at-loop .loop .part) (omega (arith, (at-loop .loop .inv .long), (at-part-count .part-count .ensures)));
+        part-is = omega (arith, ap (λ (h : Header). h .part) (at-header-at .header-at .ensures), (at-part-count .part-count .ensures));
+        held = omega arith;
+      },
       omega (arith, ap (λ (h : Header). h .picture) (at-header-at .header-at .ensures)),
-      omega (arith, ap (λ (h : Header). h .part) (at-header-at .header-at .ensures), (at-part-count .part-count .ensures)),
-      omega arith,
     )
 
 add-part : tie.Need-add-part Inv-loop μ-loop
@@ -129,20 +124,5 @@ returns c =
 pub blocks-spec : {M : Type 1} → statement M
 blocks-spec =
     tie.close
-    (tie.spec
-    Inv-loop
-    μ-loop
-    part-count-requires
-    loop-holds
-    mul-at
-    add-end
-    header-at-requires
-    sub-write-block
-    part-write-block-start
-    part-write-block-end
-    write-block-requires
-    add-part
-    loop-less
-    loop-again
-    same-length
-    returns)
+    (tie.spec Inv-loop μ-loop (λ c κs. omega arith) loop-holds mul-at add-end header-at-requires (λ c. omega arith) (λ c. omega arith)
+    part-write-block-end write-block-requires add-part loop-less loop-again same-length returns)

@@ -8,69 +8,49 @@ use Rattle.vault.specs.Block.{ruled, clear, payloadOf, follows}
 use Rattle.vault.proofs.follows.Statement.{statement}
 use Rattle.vault.proofs.follows.Tie as tie
 
--- what a test of the header that was read came to, it comes to on the block's own
+-- what a test of the header came to, it comes to on the block's own
 of-header : {read own : Header} {told is : Bool} (test : Header → Bool) → told ≡ test read → read ≡ own → told ≡ is → test own ≡ is
 of-header test e h t = sym (e ∙ ap test h) ∙ t
-
-header-of-requires : tie.Need-header-of-requires
-header-of-requires c κs = search needs
-
-ruled-requires : tie.Need-ruled-requires
-ruled-requires c κs = search needs
 
 returns : tie.Need-returns
 unfolding follows
 returns c =
-    let start = c .before .before .before .before in
-    simp (of-header (ruled (start .args .format)) (c .before .ruled .ensures) (c .before .before .header-of .ensures) (not-true _ (c .if1 .taken)))
-
-shared-slice-read-if2 : tie.Need-shared-slice-read-if2
-shared-slice-read-if2 c = search needs
+    let start = c .before .before .before in
+    simp (of-header (ruled (start .args .size)) (c .before .ruled .ensures) (start .pre .1) (not-true _ (c .if1 .taken)))
 
 returns-2 : tie.Need-returns-2
 unfolding follows
 returns-2 c =
     let at-ruled = c .before .before .before in
-    let start = at-ruled .before .before .before in
+    let start = at-ruled .before .before in
     simp (
-      of-header (ruled (start .args .format)) (at-ruled .ruled .ensures) (at-ruled .before .header-of .ensures) (not-false _ (c .before .before .if1 .left)),
+      of-header (ruled (start .args .size)) (at-ruled .ruled .ensures) (start .pre .1) (not-false _ (c .before .before .if1 .left)),
       lt-leb _ _ (c .if2 .taken),
     )
-
-cast-unused-zero : tie.Need-cast-unused-zero
-cast-unused-zero c = search needs
-
-unused-zero-requires : tie.Need-unused-zero-requires
-unused-zero-requires c κs = search needs
 
 returns-3 : tie.Need-returns-3
 unfolding follows
 returns-3 c =
     let at-if2 = c .before .before .before in
     let at-ruled = at-if2 .before .before .before in
-    let at-header-of = at-ruled .before in
-    let start = at-header-of .before .before in
+    let start = at-ruled .before .before in
     simp (
-      of-header (ruled (start .args .format)) (at-ruled .ruled .ensures) (at-header-of .header-of .ensures) (not-false _ (at-if2 .before .before .if1 .left)),
+      of-header (ruled (start .args .size)) (at-ruled .ruled .ensures) (start .pre .1) (not-false _ (at-if2 .before .before .if1 .left)),
       le-leb _ _ (at-if2 .if2 .left),
-      of-header (λ (h : Header). clear (h .used) (payloadOf (start .args .block .now)) 500) (c .before .unused-zero .ensures) (at-header-of .header-of .ensures)
+      of-header (λ (h : Header). clear (h .used) (payloadOf (start .args .block .now)) 500) (c .before .unused-zero .ensures) (start .pre .1)
           (not-true _ (c .if3 .taken)),
     )
-
-pair-requires : tie.Need-pair-requires
-pair-requires c κs = search needs
 
 returns-4 : tie.Need-returns-4
 unfolding follows
 returns-4 c =
     let at-if2 = c .before .before .before .before in
     let at-ruled = at-if2 .before .before .before in
-    let at-header-of = at-ruled .before in
-    let start = at-header-of .before .before in
+    let start = at-ruled .before .before in
     simp (
-      of-header (ruled (start .args .format)) (at-ruled .ruled .ensures) (at-header-of .header-of .ensures) (not-false _ (at-if2 .before .before .if1 .left)),
+      of-header (ruled (start .args .size)) (at-ruled .ruled .ensures) (start .pre .1) (not-false _ (at-if2 .before .before .if1 .left)),
       le-leb _ _ (at-if2 .if2 .left),
-      of-header (λ (h : Header). clear (h .used) (payloadOf (start .args .block .now)) 500) (c .before .before .unused-zero .ensures) (at-header-of .header-of .ensures)
+      of-header (λ (h : Header). clear (h .used) (payloadOf (start .args .block .now)) 500) (c .before .before .unused-zero .ensures) (start .pre .1)
           (not-false _ (c .before .if3 .left)),
       c .pair .ensures,
     )
@@ -78,14 +58,5 @@ returns-4 c =
 pub follows-spec : {M : Type 1} → statement M
 follows-spec =
     tie.close
-    (tie.spec
-    header-of-requires
-    ruled-requires
-    returns
-    shared-slice-read-if2
-    returns-2
-    cast-unused-zero
-    unused-zero-requires
-    returns-3
-    pair-requires
-    returns-4)
+    (tie.spec (λ c κs. search needs) returns (λ c. search needs) returns-2 (λ c. search needs) (λ c κs. search needs) returns-3
+    (λ c κs. search needs) returns-4)

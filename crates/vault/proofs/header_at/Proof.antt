@@ -5,21 +5,6 @@ use lib.Dec.{eqb}
 use Rattle.vault.proofs.header_at.Statement.{statement}
 use Rattle.vault.proofs.header_at.Tie as tie
 
-part-count-requires : tie.Need-part-count-requires
-part-count-requires c κs = search needs
-
-cast-t7 : tie.Need-cast-t7
-cast-t7 c = search needs
-
-add-t8 : tie.Need-add-t8
-add-t8 c = search needs
-
-refresh-at-requires : tie.Need-refresh-at-requires
-refresh-at-requires c κs = search needs
-
-used-at-requires : tie.Need-used-at-requires
-used-at-requires c κs = search needs
-
 returns : tie.Need-returns
 returns c =
     let start = c .before .before .before in
@@ -37,4 +22,4 @@ returns c =
 pub header-at-spec : {M : Type 1} → statement M
 header-at-spec =
     tie.close
-    (tie.spec part-count-requires cast-t7 add-t8 refresh-at-requires used-at-requires returns)
+    (tie.spec (λ c κs. search needs) (λ c. search needs) (λ c. search needs) (λ c κs. search needs) (λ c κs. search needs) returns)

@@ -24,18 +24,6 @@ module _ {clip : ℕ} {found : Checked} where
       is : (header : Header) → (header .clip ≡ clip → ⊥) → ofClip clip (Good header) ≡ refusedBy OtherClip
       is header differs = rw (ne-eqb (header .clip) clip differs)
 
-check-requires : tie.Need-check-requires
-check-requires c κs = search needs
-
-enum-known-header : tie.Need-enum-known-header
-enum-known-header c = search needs
-
-refused-requires : tie.Need-refused-requires
-refused-requires c κs = search needs
-
-enum-known-refusal : tie.Need-enum-known-refusal
-enum-known-refusal c = search needs
-
 returns : tie.Need-returns
 unfolding judgeOf
 returns c = own _ (sym (c .before .before .before .header .given .1) ∙ (c .before .before .before .before .before .check .ensures)) (c .if1 .taken)
@@ -54,11 +42,4 @@ returns-3 c = ap (ofClip (c .before .before .before .before .before .args .clip)
 pub judge-spec : {M : Type 1} → statement M
 judge-spec =
     tie.close
-    (tie.spec
-    check-requires
-    enum-known-header
-    refused-requires
-    enum-known-refusal
-    returns
-    returns-2
-    returns-3)
+    (tie.spec (λ c κs. search needs) (λ c. search needs) (λ c κs. search needs) (λ c. search needs) returns returns-2 returns-3)

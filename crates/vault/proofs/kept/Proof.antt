@@ -7,18 +7,12 @@ use native.Mathlib.Nat.{div-mul-le-self}
 use lib.ListN.{getD}
 use lib.Pow.{pow-pos}
 use Rattle.vault.specs.Block.{unused}
-use Rattle.vault.specs.Kept.{kept-past}
+use Rattle.vault.proofs.KeptLaws.{kept-past}
 use Rattle.vault.proofs.kept.Statement.{statement}
 use Rattle.vault.proofs.kept.Tie as tie
 
 returns : tie.Need-returns
 returns c = sym (kept-past (c .before .before .args .bytes .now) (c .before .before .args .count) _ (c .if1 .taken))
-
-unused-weight-requires : tie.Need-unused-weight-requires
-unused-weight-requires c κs = search needs
-
-shared-slice-read-result : tie.Need-shared-slice-read-result
-shared-slice-read-result c = search needs
 
 cast-result : tie.Need-cast-result
 cast-result c = omega (arith, (c .shared-slice-known2 .given) (c .before .before .before .before .args .i))
@@ -44,12 +38,4 @@ returns-2 c = ap (λ (w : ℕ). getD (c .before .before .before .before .args .b
 pub kept-spec : {M : Type 1} → statement M
 kept-spec =
     tie.close
-    (tie.spec
-    returns
-    unused-weight-requires
-    shared-slice-read-result
-    cast-result
-    div-result
-    mul-result
-    cast-result-2
-    returns-2)
+    (tie.spec returns (λ c κs. search needs) (λ c. search needs) cast-result div-result mul-result cast-result-2 returns-2)

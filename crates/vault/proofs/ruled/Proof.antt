@@ -14,18 +14,12 @@ returns-2 : tie.Need-returns-2
 unfolding ruled
 returns-2 c = simp (le-leb _ _ (c .before .before .if1 .left), le-ltb _ _ (c .if2 .taken))
 
-greatest-part-requires : tie.Need-greatest-part-requires
-greatest-part-requires c κs = search needs
-
 returns-3 : tie.Need-returns-3
 unfolding ruled
 returns-3 c =
     let at-if2 = c .before .before .before in
     let at-if1 = at-if2 .before .before in
     simp (le-leb _ _ (at-if1 .if1 .left), lt-ltb _ _ (at-if2 .if2 .left), lt-leb _ _ (rw (c .before .before .greatest-part .ensures) at (c .if3 .taken)))
-
-refresh-rule-requires : tie.Need-refresh-rule-requires
-refresh-rule-requires c κs = search needs
 
 returns-4 : tie.Need-returns-4
 unfolding ruled
@@ -38,9 +32,6 @@ returns-4 c =
       le-leb _ _ (rw (at-greatest-part .greatest-part .ensures) at (c .before .before .if3 .left)),
       sym (c .before .refresh-rule .ensures) ∙ not-true _ (c .if4 .taken),
     )
-
-used-rule-requires : tie.Need-used-rule-requires
-used-rule-requires c κs = search needs
 
 returns-5 : tie.Need-returns-5
 unfolding ruled
@@ -59,12 +50,4 @@ returns-5 c =
 pub ruled-spec : {M : Type 1} → statement M
 ruled-spec =
     tie.close
-    (tie.spec
-    returns
-    returns-2
-    greatest-part-requires
-    returns-3
-    refresh-rule-requires
-    returns-4
-    used-rule-requires
-    returns-5)
+    (tie.spec returns returns-2 (λ c κs. search needs) returns-3 (λ c κs. search needs) returns-4 (λ c κs. search needs) returns-5)

@@ -35,15 +35,6 @@ loop-holds : tie.Need-loop-holds Inv-loop μ-loop
 unfolding weighted
 loop-holds c = (omega arith, refl, omega arith)
 
-cast-total : tie.Need-cast-total Inv-loop μ-loop
-cast-total c = omega arith
-
-add-total : tie.Need-add-total Inv-loop μ-loop
-add-total c = omega arith
-
-shared-slice-read-total : tie.Need-shared-slice-read-total Inv-loop μ-loop
-shared-slice-read-total c = omega arith
-
 cast-total-2 : tie.Need-cast-total-2 Inv-loop μ-loop
 cast-total-2 c = omega (arith, c .shared-slice-known .given (c .before .before .loop .i))
 
@@ -52,12 +43,6 @@ mul-total c = omega (arith, small c)
 
 add-total-2 : tie.Need-add-total-2 Inv-loop μ-loop
 add-total-2 c = omega (arith, small c)
-
-add-i : tie.Need-add-i Inv-loop μ-loop
-add-i c = omega arith
-
-loop-less : tie.Need-loop-less Inv-loop μ-loop
-loop-less c = omega arith
 
 loop-again : tie.Need-loop-again Inv-loop μ-loop
 loop-again c =
@@ -73,17 +58,5 @@ returns c =
 pub sum-spec : {M : Type 1} → statement M
 sum-spec =
     tie.close
-    (tie.spec
-    Inv-loop
-    μ-loop
-    loop-holds
-    cast-total
-    add-total
-    shared-slice-read-total
-    cast-total-2
-    mul-total
-    add-total-2
-    add-i
-    loop-less
-    loop-again
-    returns)
+    (tie.spec Inv-loop μ-loop loop-holds (λ c. omega arith) (λ c. omega arith) (λ c. omega arith) cast-total-2 mul-total add-total-2
+    (λ c. omega arith) (λ c. omega arith) loop-again returns)

@@ -4,7 +4,7 @@ use native.Mathlib.Omega.{arith}
 use mathlib.Core.Path.{_≡_, ap, _∙_}
 use Prim.Native.Nat.{ℕ, _+_, _-_, _*_, _%_, _^_, _≤_, _<_}
 use lib.Dec.{eqb, eqb→eq}
-use Rattle.laws.specs.Table.{all-at}
+use Rattle.laws.proofs.Table.{all-at}
 use Rattle.vault.specs.Block.{unused}
 use Rattle.vault.proofs.unused_weight.Statement.{statement}
 use Rattle.vault.proofs.unused_weight.Tie as tie
@@ -24,26 +24,11 @@ some used i l =
     let e : 8 * (i + 1) - used ≡ unused used i = omega arith in
     shifted (8 * (i + 1) - used) (omega arith) ∙ ap (λ (n : ℕ). 2 ^ n) e
 
-add-end : tie.Need-add-end
-add-end c = search needs
-
-mul-end : tie.Need-mul-end
-mul-end c = search needs
-
 returns : tie.Need-returns
 returns c = none (c .before .args .used) (c .before .args .i) (c .if1 .taken)
 
-sub-bits : tie.Need-sub-bits
-sub-bits c = search needs
-
 returns-2 : tie.Need-returns-2
 returns-2 c = all (c .before .before .args .used) (c .before .before .args .i) (c .if2 .taken)
-
-cast-result : tie.Need-cast-result
-cast-result c = search needs
-
-shl-result : tie.Need-shl-result
-shl-result c = search needs
 
 returns-3 : tie.Need-returns-3
 returns-3 c = some (c .before .before .args .used) (c .before .before .args .i) (c .if2 .left)
@@ -51,4 +36,5 @@ returns-3 c = some (c .before .before .args .used) (c .before .before .args .i) 
 pub unused-weight-spec : {M : Type 1} → statement M
 unused-weight-spec =
     tie.close
-    (tie.spec add-end mul-end returns sub-bits returns-2 cast-result shl-result returns-3)
+    (tie.spec (λ c. search needs) (λ c. search needs) returns (λ c. search needs) returns-2 (λ c. search needs) (λ c. search needs)
+    returns-3)

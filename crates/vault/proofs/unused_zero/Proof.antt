@@ -7,7 +7,7 @@ use mathlib.Core.List.{List}
 use lib.ListN.{getD}
 use lib.Seq.{getD-take, getD-drop}
 use lib.Pow.{pow-pos}
-use Rattle.vault.specs.Clear.{clear-start, clear-less, clear-fails, clear-more}
+use Rattle.vault.proofs.Clear.{clear-start, clear-less, clear-fails, clear-more}
 use Rattle.vault.specs.Block.{clear, payloadOf, unused}
 use Rattle.vault.proofs.unused_zero.Statement.{statement}
 use Rattle.vault.proofs.unused_zero.Tie as tie
@@ -26,15 +26,6 @@ abbrev μ-loop : tie.MeasureT-loop
 loop-holds : tie.Need-loop-holds Inv-loop μ-loop
 loop-holds c = clear-start _ _ _ (omega arith)
 
-unused-weight-requires : tie.Need-unused-weight-requires Inv-loop μ-loop
-unused-weight-requires c κs = omega arith
-
-add-if1 : tie.Need-add-if1 Inv-loop μ-loop
-add-if1 c = omega arith
-
-shared-slice-read-if1 : tie.Need-shared-slice-read-if1 Inv-loop μ-loop
-shared-slice-read-if1 c = omega arith
-
 cast-if1 : tie.Need-cast-if1 Inv-loop μ-loop
 cast-if1 c = omega (arith, (c .shared-slice-known2 .given) (8 + (c .before .before .before .loop .i)))
 
@@ -47,12 +38,6 @@ returns c =
     let start = at-loop .before .before in
     sym (clear-fails _ _ (at-loop .loop .i) 500 (omega arith)
     (λ e. c .if1 .taken (sym (weighed (start .args .block .now) _ _ _ (omega arith) (c .before .before .unused-weight .ensures)) ∙ e)))
-
-add-i : tie.Need-add-i Inv-loop μ-loop
-add-i c = omega arith
-
-loop-less : tie.Need-loop-less Inv-loop μ-loop
-loop-less c = omega arith
 
 loop-again : tie.Need-loop-again Inv-loop μ-loop
 loop-again c =
@@ -67,17 +52,5 @@ returns-2 c = sym (clear-less _ _ 500 (c .before .loop .i) (omega arith) (c .bef
 pub unused-zero-spec : {M : Type 1} → statement M
 unused-zero-spec =
     tie.close
-    (tie.spec
-    Inv-loop
-    μ-loop
-    loop-holds
-    unused-weight-requires
-    add-if1
-    shared-slice-read-if1
-    cast-if1
-    rem-if1
-    returns
-    add-i
-    loop-less
-    loop-again
-    returns-2)
+    (tie.spec Inv-loop μ-loop loop-holds (λ c κs. omega arith) (λ c. omega arith) (λ c. omega arith) cast-if1 rem-if1 returns
+    (λ c. omega arith) (λ c. omega arith) loop-again returns-2)

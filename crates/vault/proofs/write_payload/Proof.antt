@@ -9,7 +9,7 @@ use mathlib.Core.List.{List}
 use lib.ListN.{length, getD, set, length-set}
 use lib.Seq.{paste, paste-zero, paste-suc}
 use Rattle.vault.specs.Parts.{payloadAt}
-use Rattle.vault.specs.Kept.{kept-whole, payload-length, payload-byte}
+use Rattle.vault.proofs.KeptLaws.{kept-whole, payload-length, payload-byte}
 use Rattle.vault.proofs.write_payload.Statement.{statement}
 use Rattle.vault.proofs.write_payload.Tie as tie
 
@@ -56,32 +56,17 @@ Inv-loop2 bytes count part block₀ from whole j₀ block j =
 abbrev μ-loop2 : tie.MeasureT-loop2
 μ-loop2 bytes count part block₀ from whole j₀ block j = 500 - j
 
-mul-from : tie.Need-mul-from Inv-loop μ-loop Inv-loop2 μ-loop2
-mul-from c = omega arith
-
 whole-bytes-requires : tie.Need-whole-bytes-requires Inv-loop μ-loop Inv-loop2 μ-loop2
 whole-bytes-requires c κs = tt
 
 loop-holds : tie.Need-loop-holds Inv-loop μ-loop Inv-loop2 μ-loop2
 loop-holds c = none _ _ (omega arith)
 
-add-block : tie.Need-add-block Inv-loop μ-loop Inv-loop2 μ-loop2
-add-block c = omega arith
-
 shared-slice-read-block : tie.Need-shared-slice-read-block Inv-loop μ-loop Inv-loop2 μ-loop2
 shared-slice-read-block c = omega (arith, (c .before .before .before .whole-bytes .ensures))
 
-add-block-2 : tie.Need-add-block-2 Inv-loop μ-loop Inv-loop2 μ-loop2
-add-block-2 c = omega arith
-
 slice-write-block : tie.Need-slice-write-block Inv-loop μ-loop Inv-loop2 μ-loop2
 slice-write-block c = omega (arith, (c .before .before .before .whole-bytes .ensures), (c .before .before .loop .inv .long))
-
-add-j : tie.Need-add-j Inv-loop μ-loop Inv-loop2 μ-loop2
-add-j c = omega arith
-
-loop-less : tie.Need-loop-less Inv-loop μ-loop Inv-loop2 μ-loop2
-loop-less c = omega arith
 
 loop-again : tie.Need-loop-again Inv-loop μ-loop Inv-loop2 μ-loop2
 loop-again c =
@@ -93,23 +78,8 @@ loop-again c =
 loop2-holds : tie.Need-loop2-holds Inv-loop μ-loop Inv-loop2 μ-loop2
 loop2-holds c = λ entry h. h
 
-add-kept : tie.Need-add-kept Inv-loop μ-loop Inv-loop2 μ-loop2
-add-kept c = omega arith
-
-kept-requires : tie.Need-kept-requires Inv-loop μ-loop Inv-loop2 μ-loop2
-kept-requires c κs = omega arith
-
-add-block-3 : tie.Need-add-block-3 Inv-loop μ-loop Inv-loop2 μ-loop2
-add-block-3 c = omega arith
-
 slice-write-block-2 : tie.Need-slice-write-block-2 Inv-loop μ-loop Inv-loop2 μ-loop2
 slice-write-block-2 c = omega (arith, ((c .before .before .loop2 .inv) _ (c .before .before .before .before .loop .inv)) .long)
-
-add-j-2 : tie.Need-add-j-2 Inv-loop μ-loop Inv-loop2 μ-loop2
-add-j-2 c = omega arith
-
-loop2-less : tie.Need-loop2-less Inv-loop μ-loop Inv-loop2 μ-loop2
-loop2-less c = omega arith
 
 loop2-again : tie.Need-loop2-again Inv-loop μ-loop Inv-loop2 μ-loop2
 loop2-again c =
@@ -118,7 +88,7 @@ loop2-again c =
     ((c .kept .ensures) ∙ sym (payload-byte _ _ (start .args .part) _ (omega arith)))
 
 same-length : tie.Need-same-length Inv-loop μ-loop Inv-loop2 μ-loop2
-same-length c = ((c .before .loop2 .inv) _ (c .before .before .before .loop .inv)) .long ∙ sym (c .before .before .before .before .before .before .before .pre .0)
+same-length c = ((c .before .loop2 .inv) _ (c .before .before .before .loop .inv)) .long ∙ sym (c .before .before .before .before .before .before .before .pre .block-long)
 
 returns : tie.Need-returns Inv-loop μ-loop Inv-loop2 μ-loop2
 returns c =
@@ -130,28 +100,7 @@ returns c =
 pub write-payload-spec : {M : Type 1} → statement M
 write-payload-spec =
     tie.close
-    (tie.spec
-    Inv-loop
-    μ-loop
-    Inv-loop2
-    μ-loop2
-    mul-from
-    whole-bytes-requires
-    loop-holds
-    add-block
-    shared-slice-read-block
-    add-block-2
-    slice-write-block
-    add-j
-    loop-less
-    loop-again
-    loop2-holds
-    add-kept
-    kept-requires
-    add-block-3
-    slice-write-block-2
-    add-j-2
-    loop2-less
-    loop2-again
-    same-length
-    returns)
+    (tie.spec Inv-loop μ-loop Inv-loop2 μ-loop2 (λ c. omega arith) whole-bytes-requires loop-holds (λ c. omega arith)
+    shared-slice-read-block (λ c. omega arith) slice-write-block (λ c. omega arith) (λ c. omega arith) loop-again loop2-holds
+    (λ c. omega arith) (λ c κs. omega arith) (λ c. omega arith) slice-write-block-2 (λ c. omega arith) (λ c. omega arith) loop2-again
+    same-length returns)

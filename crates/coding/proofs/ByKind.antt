@@ -1,0 +1,90 @@
+-- What a function of H.261's says of the kind's format is what the kind's coding says. Assumes nothing.
+use mathlib.Core.Path.{_≡_, refl, sym, ap, subst, _∙_}
+use mathlib.Core.Bool.{Bool, true}
+use mathlib.Core.List.{List, []}
+use Prim.Native.Nat.{ℕ}
+use lib.Dec.{T}
+use lib.ListN.{length}
+use Rattle.laws.proofs.Choice.{true-T}
+use Rattle.refusals.specs.declared.Verdict.{Verdict}
+use Rattle.bits.specs.Read.{Read, got, endless, refused as unread}
+use Rattle.size.specs.Size.{storeLength, outputLength}
+use Rattle.h261_groups.specs.declared.Format.{Format}
+use Rattle.h261_groups.specs.Format.{sizeOf, macroblocksLength}
+use Rattle.layout.specs.Flat.{Flat, flat}
+use Rattle.h261_description.specs.Fields.{refresh}
+use Rattle.h261_description.specs.Valid.{valid}
+use Rattle.h261_description.proofs.Pictured.{valid-lists}
+use Rattle.h261_reader.specs.Described.{Blank, described, verdictOf, zeros, laidOr}
+use Rattle.h261_writer.specs.Output.{written, filledWithin}
+use Rattle.h261_render.specs.Sample.{rendered}
+use Rattle.coding.specs.declared.Kind.{Kind}
+use Rattle.coding.specs.Coding.{found}
+use Rattle.coding.specs.Kind.{formatOf, kindSize, codingOf}
+use Rattle.coding.specs.Described.{BlankFor, verdictOn, foundOr, outputWith, Writable, Drawable}
+
+verdict-of : {A : Type 0} (x : Read A) → verdictOf x ≡ verdictOn (found x)
+verdict-of (got a left at) = refl
+verdict-of (unread why) = refl
+verdict-of endless = refl
+
+laid-or : (f : Format) (before : Flat) → before ≡ zeros f → (x : Read Flat) → laidOr f x ≡ foundOr before (found x)
+laid-or f before e (got d left at) = refl
+laid-or f before e (unread why) = sym e
+laid-or f before e endless = sym e
+
+module _ (k : Kind) {f : Format} (is : f ≡ formatOf k) where
+  -- ---- reading
+  pub can-parse : {head macroblocks levels : List ℕ} → BlankFor k head macroblocks levels → Blank f head macroblocks levels
+  can-parse {head} {macroblocks} {levels} b = subst (λ (g : Format). Blank g head macroblocks levels) (sym is) b
+
+  module _ {head macroblocks levels : List ℕ} (b : BlankFor k head macroblocks levels) (bytes : List ℕ) (n : ℕ) where
+    pub parsed-verdict : {v : Verdict} → v ≡ verdictOf (described f bytes n) → v ≡ verdictOn (codingOf k .read bytes n)
+    unfolding codingOf
+    parsed-verdict e = e ∙ ap (λ (g : Format). verdictOf (described g bytes n)) is ∙ verdict-of (described (formatOf k) bytes n)
+
+    pub parsed-buffers : {d : Flat} → d ≡ laidOr f (described f bytes n) → d ≡ foundOr (flat head macroblocks levels) (codingOf k .read bytes n)
+    unfolding codingOf
+    parsed-buffers e =
+        e ∙ ap (λ (g : Format). laidOr g (described g bytes n)) is
+        ∙ laid-or (formatOf k) (flat head macroblocks levels) (λ i. flat (b .head-blank i) (b .ms-blank i) (b .ls-blank i)) (described (formatOf k) bytes n)
+
+  -- ---- judging
+  pub judged-valid : (d : Flat) {v : Bool} → v ≡ valid f d → v ≡ codingOf k .valid d
+  unfolding codingOf
+  judged-valid d e = e ∙ ap (λ (g : Format). valid g d) is
+
+  is-valid : (d : Flat) → codingOf k .valid d ≡ true → T (valid f d)
+  unfolding codingOf
+  is-valid d e = subst (λ (g : Format). T (valid g d)) (sym is) (true-T (valid (formatOf k) d) e)
+
+  pub can-refresh : (d : Flat) → codingOf k .valid d ≡ true → length (d .macroblocks) ≡ macroblocksLength f
+  can-refresh d e = valid-lists f d (is-valid d e) .macroblocks-length
+
+  -- the macroblocks' types alone decide
+  pub judged-refresh : (head macroblocks levels : List ℕ) {r : Bool} → r ≡ refresh f (flat [] macroblocks []) → r ≡ codingOf k .refresh (flat head macroblocks levels)
+  unfolding codingOf refresh
+  judged-refresh head macroblocks levels e = e ∙ ap (λ (g : Format). refresh g (flat head macroblocks levels)) is
+
+  -- ---- writing
+  pub can-write : (d : Flat) (out : List ℕ) → Writable k d out → (T (valid f d)) × (length out ≡ outputLength (sizeOf f))
+  can-write d out w = (is-valid d (w .valid-is), w .out-long ∙ sym (ap (λ (g : Format). outputLength (sizeOf g)) is))
+
+  pub wrote-count : (d : Flat) {count : ℕ} → count ≡ length (written f d) → count ≡ length (codingOf k .written d)
+  unfolding codingOf
+  wrote-count d e = e ∙ ap (λ (g : Format). length (written g d)) is
+
+  pub wrote-bytes : (d : Flat) (out : List ℕ) {after : List ℕ} → after ≡ filledWithin f d out → after ≡ outputWith (kindSize k) (codingOf k .written d) out
+  unfolding codingOf
+  wrote-bytes d out e = e ∙ ap (λ (g : Format). filledWithin g d out) is
+
+  -- ---- drawing
+  pub can-render : (d : Flat) (reference store : List ℕ) → Drawable k d reference store
+      → (T (valid f d)) × (length reference ≡ storeLength (sizeOf f)) × (length store ≡ storeLength (sizeOf f))
+  can-render d reference store r =
+      let size = sym (ap (λ (g : Format). storeLength (sizeOf g)) is) in
+      (is-valid d (r .valid-is), r .reference-long ∙ size, r .store-long ∙ size)
+
+  pub drew : (d : Flat) (reference : List ℕ) {store : List ℕ} → store ≡ rendered f d reference → store ≡ codingOf k .render d reference
+  unfolding codingOf
+  drew d reference e = e ∙ ap (λ (g : Format). rendered g d reference) is

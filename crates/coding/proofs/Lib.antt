@@ -1,0 +1,4 @@
+pub mod H261
+pub mod Told
+pub mod Scratch
+mod ByKind

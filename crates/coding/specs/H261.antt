@@ -1,0 +1,27 @@
+-- H.261 as a coding: the grammar, the layout, the writer, the refresh rule and the samples of the crates below. Assumes nothing.
+use Rattle.laws.specs.Choice.{either}
+use Rattle.h261_groups.specs.declared.Format.{Format}
+use Rattle.h261_groups.specs.declared.Format.the-variants.{Qcif, Cif}
+use Rattle.h261_groups.specs.Format.{sizeOf}
+use Rattle.layout.specs.Flat.{Flat}
+use Rattle.h261_description.specs.Valid.{lengthsOf, valid}
+use Rattle.h261_description.specs.Fields.{refresh}
+use Rattle.h261_reader.specs.Described.{described}
+use Rattle.h261_writer.specs.Output.{written}
+use Rattle.h261_render.specs.Sample.{rendered}
+use Rattle.coding.specs.Coding.{Coding, found}
+use Rattle.coding.specs.Lawful.{Lawful}
+
+-- the three slices have the lengths of one format; another than opened is no valid description
+abbrev pub h261 : Format → Coding Flat
+h261 f = record {
+  read = λ bytes n. found (described f bytes n);
+  named = λ d. either (lengthsOf Qcif d) (lengthsOf Cif d);
+  valid = valid f;
+  refresh = refresh f;
+  written = written f;
+  render = rendered f;
+}
+
+abbrev pub H261Lawful : Type 0
+H261Lawful = (f : Format) → Lawful (sizeOf f) (h261 f)

@@ -1,0 +1,5 @@
+pub mod Coding
+pub mod Lawful
+pub mod H261
+pub mod Kind
+pub mod Described

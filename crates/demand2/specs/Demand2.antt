@@ -1,0 +1,92 @@
+-- Demand 2 as predicates over any decoder and any writer, their meanings as functions on values: ours meet them, and the wrong programs that document 01 names
+-- under "What the promises decide" do not. Assumes nothing.
+use Prim.Native.Nat.{ℕ, _≤_, _<_}
+use mathlib.Core.Path.{_≡_}
+use mathlib.Core.Bool.{true, false}
+use mathlib.Core.List.{List, []}
+use lib.Dec.{T}
+use lib.ListN.{length}
+use Rattle.refusals.specs.declared.Refusal.{Refusal}
+use Rattle.refusals.specs.declared.Reason.the-variants.{Length, Invalid, AboveLimit}
+use Rattle.refusals.specs.Number.{refusal}
+use Rattle.bits.specs.Bits.{Bit}
+use Rattle.bits.specs.Read.{got}
+use Rattle.h261_groups.specs.declared.Format.{Format}
+use Rattle.h261_groups.specs.Format.{sizeOf}
+use Rattle.size.specs.Size.{limit, storeLength, outputLength}
+use Rattle.h261_description.specs.Value.{Picture, laid}
+use Rattle.layout.specs.Flat.{Flat}
+use Rattle.h261_description.specs.Valid.{valid}
+use Rattle.h261_layers.specs.Grammar.{picture, reading}
+use Rattle.h261_reader.specs.Described.{described}
+use Rattle.h261_render.specs.Sample.{rendered}
+use Rattle.coding.specs.declared.Kind.{Kind}
+use Rattle.coding.specs.Coding.{Found, accepted}
+use Rattle.coding.specs.Kind.{formatOf, kindSize}
+use Rattle.decoder.specs.Decoded.{decoded}
+use Rattle.h261_writer.specs.declared.Written.{Written}
+use Rattle.h261_writer.specs.declared.Written.the-variants.{Bits, Refused}
+use Rattle.h261_writer.specs.Output.{written, lengths, writeOf, outputOf}
+
+-- ---- a decoder: the first N bits of bytes and a reference store to a store, or a refusal
+abbrev pub Decoder : Type 0
+Decoder = Kind → List ℕ → ℕ → List ℕ → Found (List ℕ)
+
+-- what `decode`'s promise says, for stores of their length
+abbrev pub decode : Decoder
+decode k bytes n reference = decoded k bytes n reference (storeLength (kindSize k))
+
+-- "follows H.261 as document 01 fixes it"
+pub record Follows (k : Kind) (bytes : List ℕ) (n : ℕ) : Type 0 where
+  pub picture : Picture
+  pub left : List Bit
+  pub at : ℕ
+  pub reads : reading (formatOf k) bytes n ≡ got picture left at
+
+pub record Accepts (x : Found (List ℕ)) : Type 0 where
+  pub store : List ℕ
+  pub is : x ≡ accepted store
+
+-- "A picture is accepted exactly when it follows H.261 as document 01 fixes it"
+pub record AcceptedExactly (d : Decoder) : Type 0 where
+  pub then : (k : Kind) (bytes : List ℕ) (n : ℕ) (reference : List ℕ) → length reference ≡ storeLength (kindSize k) → Follows k bytes n → Accepts (d k bytes n reference)
+  pub only : (k : Kind) (bytes : List ℕ) (n : ℕ) (reference : List ℕ) → length reference ≡ storeLength (kindSize k) → Accepts (d k bytes n reference) → Follows k bytes n
+
+-- "and then every sample is the one the rules give"
+pub record EverySample (d : Decoder) : Type 0 where
+  pub samples : (k : Kind) (bytes : List ℕ) (n : ℕ) (reference store : List ℕ) (follows : Follows k bytes n) → length reference ≡ storeLength (kindSize k)
+      → d k bytes n reference ≡ accepted store → store ≡ rendered (formatOf k) (laid (formatOf k) (follows .picture)) reference
+
+abbrev pub DecodeExactly : Type 0
+DecodeExactly = AcceptedExactly decode
+
+abbrev pub DecodeSamples : Type 0
+DecodeSamples = EverySample decode
+
+-- ---- a writer: a description and what the output holds before, to the answer and what it holds after
+pub record Output : Type 0 where
+  pub answer : Written
+  pub output : List ℕ
+
+abbrev pub Writer : Type 0
+Writer = Format → Flat → List ℕ → Output
+
+-- what `write`'s promise says
+abbrev pub write : Writer
+write f d out = record { answer = writeOf f d (length out); output = outputOf f d out }
+
+-- "What our writer writes for a valid description is read back as that description"; "reading back takes exactly N bits"
+pub record ReadsBack (w : Writer) : Type 0 where
+  pub back : (f : Format) (d : Flat) (out : List ℕ) (n : ℕ) → T (valid f d) → length out ≡ outputLength (sizeOf f) → w f d out .answer ≡ Bits n → described f (w f d out .output) n ≡ got d [] n
+
+-- "31 and 32, given exactly then"
+pub record RefusedExactly (w : Writer) : Type 0 where
+  pub invalid : (f : Format) (d : Flat) (out : List ℕ) → lengths f d (length out) ≡ true → valid f d ≡ false → w f d out .answer ≡ Refused (refusal Invalid 0)
+  pub above : (f : Format) (d : Flat) (out : List ℕ) → lengths f d (length out) ≡ true → valid f d ≡ true → limit (sizeOf f) < length (written f d) → w f d out .answer ≡ Refused (refusal AboveLimit 0)
+  pub else : (f : Format) (d : Flat) (out : List ℕ) (why : Refusal) → T (valid f d) → length (written f d) ≤ limit (sizeOf f) → length out ≡ outputLength (sizeOf f) → w f d out .answer ≡ Refused why → ⊥
+
+abbrev pub WriteBack : Type 0
+WriteBack = ReadsBack write
+
+abbrev pub WriteRefused : Type 0
+WriteRefused = RefusedExactly write

@@ -1,0 +1,10 @@
+pub mod Calls
+pub mod CatchingUp
+pub mod Filled
+pub mod Finished
+pub mod Meets
+pub mod Held
+pub mod InStep
+pub mod Sent
+pub mod Step
+pub mod WholeClip

@@ -1,0 +1,4 @@
+pub mod Clip
+pub mod Arrives
+pub mod Demand3
+pub mod Theorems

@@ -1,0 +1,1 @@
+// Theorems alone: demand 3, over any coding. Assumes nothing.

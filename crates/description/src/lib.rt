@@ -1,1 +1,0 @@
-// A description of a picture in three lent slices: its layout and its validity.

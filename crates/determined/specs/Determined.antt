@@ -1,0 +1,139 @@
+-- Document 01, "What the promises decide": "Show that any two outcomes allowed by it are equal". One statement for each relation that promises cite; docs/PROMISES.md
+-- says which functions cite which. Assumes nothing.
+use Prim.Native.Nat.{ℕ, _≤_, _<_}
+use mathlib.Core.Path.{_≡_}
+use mathlib.Core.List.{List}
+use lib.ListN.{length}
+use Rattle.laws.specs.Block.{Is}
+use Rattle.laws.specs.Rows.{Put}
+use Rattle.bits.specs.Bits.{Bit}
+use Rattle.bits.specs.Read.{Read}
+use Rattle.bits.specs.Answer.{asField, asWord}
+use Rattle.bits.specs.declared.FieldRead.{FieldRead}
+use Rattle.bits.specs.declared.WordRead.{WordRead}
+use Rattle.h261_words.specs.Words.{Event}
+use Rattle.h261_words.specs.Answer.{asCoefficient}
+use Rattle.h261_words.specs.Written.{Writes}
+use Rattle.h261_words.specs.declared.CoefficientRead.{CoefficientRead}
+use Rattle.h261_groups.specs.declared.Format.{Format}
+use Rattle.size.specs.declared.Size.{Size}
+use Rattle.size.specs.Size.{storeLength}
+use Rattle.h261_layers.specs.Grammar.{Mba, Header}
+use Rattle.layout.specs.Value.{Vector}
+use Rattle.layout.specs.Flat.{Flat}
+use Rattle.h261_layers.specs.Answer.{asMba, asHeader, asVector, asMacroblock, Sent}
+use Rattle.fields.specs.Answer.{leaving}
+use Rattle.h261_layers.specs.declared.MbaRead.{MbaRead}
+use Rattle.fields.specs.declared.PairRead.{PairRead}
+use Rattle.h261_layers.specs.declared.Behind.{Behind}
+use Rattle.h261_layers.specs.declared.MacroblockRead.{MacroblockRead}
+use Rattle.h261_layers.specs.declared.MacroblockRead.the-variants.{Got}
+use Rattle.fields.specs.declared.PlaceRead.{PlaceRead}
+use Rattle.fields.specs.declared.PlaceRead.the-variants.{At}
+use Rattle.h261_reader.specs.ReadOf.{ReadSays, ReadLeaves}
+use Rattle.h261_writer.specs.Put.{Wrote as WroteBits}
+use Rattle.h261_writer.specs.Output.{WriteSays, WriteLeaves}
+use Rattle.samples.specs.Content.{Values}
+use Rattle.samples.specs.Wrote.{Wrote, Macroblock}
+use Rattle.coding.specs.declared.Kind.{Kind}
+use Rattle.decoder.specs.Decoded.{DecodeSays, DecodeLeaves}
+use Rattle.standing.specs.declared.Receiver.{Receiver}
+use Rattle.receiver.specs.Receiving.{ReceiveDoes}
+use Rattle.sender.specs.declared.Sender.{Sender}
+use Rattle.sender.specs.Sending.{SendDoes}
+use Rattle.text.specs.Puts.{Puts}
+use Rattle.standing.specs.Receive as R
+use Rattle.sender.specs.Send as S
+
+-- any two that a promise allows are equal
+abbrev pub Once : {A : Type 0} → (A → Type 0) → Type 0
+Once {A} R = (x y : A) → R x → R y → x ≡ y
+
+-- ---- an equation with the answer, with a buffer, or with both
+abbrev pub EquationOnce : Type 1
+EquationOnce = (A : Type 0) (a : A) → Once (λ (x : A). x ≡ a)
+
+-- ---- the entry points: what each promises of its answer, of the buffers that it leaves, or of both at once
+abbrev pub ReadSaysOnce : Type 0
+ReadSaysOnce = (f : Format) (bytes : List ℕ) (n : ℕ) (before : Flat) → Once (ReadSays f bytes n before)
+
+abbrev pub ReadLeavesOnce : Type 0
+ReadLeavesOnce = (f : Format) (bytes : List ℕ) (n : ℕ) (before : Flat) → Once (ReadLeaves f bytes n before)
+
+abbrev pub DecodeSaysOnce : Type 0
+DecodeSaysOnce = (k : Kind) (bytes : List ℕ) (n : ℕ) (reference store : List ℕ) → Once (DecodeSays k bytes n reference store)
+
+abbrev pub DecodeLeavesOnce : Type 0
+DecodeLeavesOnce = (k : Kind) (bytes : List ℕ) (n : ℕ) (reference store : List ℕ) → Once (DecodeLeaves k bytes n reference store)
+
+abbrev pub WriteSaysOnce : Type 0
+WriteSaysOnce = (f : Format) (d : Flat) (out : List ℕ) → Once (WriteSays f d out)
+
+abbrev pub WriteLeavesOnce : Type 0
+WriteLeavesOnce = (f : Format) (d : Flat) (out : List ℕ) → Once (WriteLeaves f d out)
+
+abbrev pub ReceiveOnce : Type 0
+ReceiveOnce = (r : Receiver) (block : List ℕ) (b : R.Buffers) → Once (ReceiveDoes r block b)
+
+abbrev pub SendOnce : Type 0
+SendOnce = (s : Sender) (d : Flat) (b : S.Buffers) → Once (SendDoes s d b)
+
+-- ---- an equation with what the answer says: nothing of the answer is lost by that
+abbrev pub FieldOnce : Type 0
+FieldOnce = (s : List ℕ) (n : ℕ) (b : Read ℕ) → Once (λ (x : FieldRead). asField s n x ≡ b)
+
+abbrev pub WordOnce : Type 0
+WordOnce = (s : List ℕ) (n : ℕ) (b : Read ℕ) → Once (λ (x : WordRead). asWord s n x ≡ b)
+
+abbrev pub CoefficientOnce : Type 0
+CoefficientOnce = (s : List ℕ) (n : ℕ) (b : Read Event) → Once (λ (x : CoefficientRead). asCoefficient s n x ≡ b)
+
+abbrev pub HeaderOnce : Type 0
+HeaderOnce = (s : List ℕ) (n : ℕ) (b : Read Header) → Once (λ (x : PairRead). asHeader s n x ≡ b)
+
+abbrev pub MbaOnce : Type 0
+MbaOnce = (s : List ℕ) (n : ℕ) (b : Read Mba) → Once (λ (x : MbaRead). asMba s n x ≡ b)
+
+abbrev pub VectorOnce : Type 0
+VectorOnce = (s : List ℕ) (n : ℕ) (b : Read Vector) → Once (λ (x : PairRead). asVector s n x ≡ b)
+
+-- a layer's answer, and where it is a place, what it left in the buffers
+abbrev pub MacroblockReadOnce : Type 0
+MacroblockReadOnce = (s : List ℕ) (n : ℕ) (b : Read Sent) (x y : MacroblockRead) (m l k j : List ℕ) → asMacroblock s n x m l ≡ b → asMacroblock s n y k j ≡ b → x ≡ y
+
+abbrev pub MacroblockLeftOnce : Type 0
+MacroblockLeftOnce = (s : List ℕ) (n : ℕ) (b : Read Sent) (c d : Behind) (p q : ℕ) (m l k j : List ℕ) → asMacroblock s n (Got c p) m l ≡ b → asMacroblock s n (Got d q) k j ≡ b
+    → (m ≡ k) × (l ≡ j)
+
+abbrev pub PlaceOnce : Type 1
+PlaceOnce = (A : Type 0) (s : List ℕ) (n : ℕ) (b : Read A) (x y : PlaceRead) (t u : A) → leaving s n x t ≡ b → leaving s n y u ≡ b → x ≡ y
+
+abbrev pub LeftOnce : Type 1
+LeftOnce = (A : Type 0) (s : List ℕ) (n : ℕ) (b : Read A) (p q : ℕ) (t u : A) → leaving s n (At p) t ≡ b → leaving s n (At q) u ≡ b → t ≡ u
+
+-- ---- a block whose 64 numbers are said
+abbrev pub BlockOnce : Type 1
+BlockOnce = (A : Type 0) (d : A) (g : ℕ → ℕ → A) → Once (Is d g)
+
+-- ---- a codeword: its bits, and how many
+abbrev pub CodewordOnce : Type 0
+CodewordOnce = (w : List Bit) → Once (Writes w)
+
+-- ---- bits after bits
+abbrev pub BitsWroteOnce : Type 0
+BitsWroteOnce = (most at p q : ℕ) (w : List Bit) (before t u : List ℕ) → WroteBits most w before at t p → WroteBits most w before at u q → (t ≡ u) × (p ≡ q)
+
+-- ---- stores: every sample is said, or is as it was
+abbrev pub BlockWroteOnce : Type 0
+BlockWroteOnce = (size : Size) (p y x : ℕ) (g : ℕ → ℕ → ℕ) (s : List ℕ) → length s ≡ storeLength size → Once (Wrote size p y x g s)
+
+abbrev pub MacroblockOnce : Type 0
+MacroblockOnce = (size : Size) (r c : ℕ) (g : Values) (s : List ℕ) → length s ≡ storeLength size → Once (Macroblock size r c g s)
+
+-- ---- rows a stride apart
+abbrev pub RowsOnce : Type 0
+RowsOnce = (h w start stride : ℕ) (g : ℕ → ℕ → ℕ) (s : List ℕ) → 0 < stride → w ≤ stride → Once (Put h w start stride g s)
+
+-- ---- text put into a buffer
+abbrev pub TextOnce : Type 0
+TextOnce = (text : List ℕ) (at p q : ℕ) (out t u : List ℕ) → Puts text at out t p → Puts text at out u q → (t ≡ u) × (p ≡ q)

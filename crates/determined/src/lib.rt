@@ -1,0 +1,1 @@
+// Theorems alone: two outcomes that a promise allows are equal. Assumes nothing.

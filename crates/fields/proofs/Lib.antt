@@ -1,0 +1,5 @@
+pub mod Meaning
+pub mod Told
+pub mod Row
+pub mod RuleTurn
+pub mod RuleReads

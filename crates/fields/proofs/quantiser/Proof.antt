@@ -1,0 +1,24 @@
+-- `fields::quantiser` meets its contract: the field is refused, or it is 0, or it is the quantiser.
+use mathlib.Core.Path.{ap}
+use Rattle.bits.specs.Read.{refused}
+use Rattle.bits.proofs.Told.{no-field, is-field}
+use Rattle.fields.proofs.RuleTurn.{quantiser-yes, quantiser-no}
+use borrow.Author.Needs.{needs}
+use Rattle.fields.proofs.quantiser.Statement.{statement}
+use Rattle.fields.proofs.quantiser.Tie as tie
+
+returns : tie.Need-returns
+returns c =
+    let at-field = c .before .before .before in
+    rw (no-field _ _ (at-field .field-at .result) (c .before .before .match .keys2) (at-field .field-at .ensures)) (ap refused (c .field-refusal .ensures))
+
+returns-2 : tie.Need-returns-2
+returns-2 c = let at-read = c .before .before in quantiser-no _ _ _ _ _ (is-field _ _ _ _ _ (at-read .before .before .field-at .ensures) (at-read .read .given .1)) (c .if1 .taken)
+
+returns-3 : tie.Need-returns-3
+returns-3 c = let at-read = c .before .before in quantiser-yes _ _ _ _ _ (is-field _ _ _ _ _ (at-read .before .before .field-at .ensures) (at-read .read .given .1)) (c .if1 .left)
+
+pub quantiser-spec : {M : Type 1} → statement M
+quantiser-spec =
+    tie.close
+    (tie.spec (λ c κs. search needs) (λ c. search needs) (λ c. search needs) (λ c κs. search needs) returns returns-2 returns-3)

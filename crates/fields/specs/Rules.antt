@@ -1,0 +1,34 @@
+-- Fields under a rule: a value that is expected, a quantiser, spares; and a read that may be left out. Assumes nothing.
+-- Refusals 4, 6 and 7 of document 01's table are given by a rule here, 3 by `field`.
+use Prim.Native.Nat.{ℕ, zero, suc}
+use mathlib.Core.Bool.{Bool, true, false}
+use lib.Dec.{eqb}
+use Rattle.laws.specs.Choice.{pick}
+use Rattle.refusals.specs.declared.Reason.{Reason}
+use Rattle.refusals.specs.declared.Reason.the-variants.{QuantiserZero}
+use Rattle.bits.specs.Read.{Reader, _>>=_, done, field, fine, against, judged, loop, never}
+
+-- a field of k bits that must hold v, else a refusal for this reason
+abbrev pub expect : ℕ → ℕ → Reason → Reader ℕ
+expect k v reason = judged (field k) (λ x. pick (eqb x v) (fine x) (against reason))
+
+-- refusal 7: "quantiser 0"
+abbrev pub quantiser : Reader ℕ
+quantiser = judged (field 5) (λ q. pick (eqb q 0) (against QuantiserZero) (fine q))
+
+-- "PEI, then 8 dropped bits and another PEI while PEI is 1"; so too GEI
+abbrev pub sparesAfter : Reader ℕ → ℕ → Reader ℕ
+sparesAfter more zero = done 0
+sparesAfter more (suc n) = field 8 >>= λ spare. more
+
+unfoldable pub sparesFrom : ℕ → Reader ℕ
+sparesFrom zero = never
+sparesFrom (suc turns) = field 1 >>= sparesAfter (sparesFrom turns)
+
+unfoldable pub spares : Reader ℕ
+spares = loop sparesFrom
+
+-- a read that the type may leave out
+abbrev pub optional : {A : Type 0} → Bool → A → Reader A → Reader A
+optional true a r = r
+optional false a r = done a

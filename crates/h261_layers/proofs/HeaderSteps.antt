@@ -1,0 +1,42 @@
+-- The headers of a group and of a picture as rows of reads: what is left of them after each. Assumes nothing.
+use mathlib.Core.Path.{refl}
+use mathlib.Core.List.{List}
+use Prim.Native.Nat.{ℕ}
+use Rattle.refusals.specs.declared.Reason.the-variants.{NoStartCode, OtherGroup}
+use Rattle.bits.specs.Bits.{bitsLeft}
+use Rattle.bits.specs.Read.{Reader, _>>=_, done, field, judged}
+use Rattle.bits.specs.Answer.{Within}
+use Rattle.fields.specs.Rules.{expect, quantiser, spares}
+use Rattle.fields.proofs.Row.{Row}
+use Rattle.h261_groups.specs.declared.Format.{Format}
+use Rattle.h261_layers.specs.Grammar.{ptypeOf, groupHead, header, Header}
+
+-- ---- a group's
+abbrev pub afterQuantiser : ℕ → Reader ℕ
+afterQuantiser gquant = spares >>= λ dropped. done gquant
+
+abbrev pub afterNumber : Reader ℕ
+afterNumber = quantiser >>= afterQuantiser
+
+pub group-begun : (number : ℕ) (s : List ℕ) (n p : ℕ) → Within s n p
+    → Row (groupHead number (bitsLeft s n p) p) s n (expect 4 number OtherGroup >>= λ gn. afterNumber) p
+unfolding groupHead
+group-begun number s n p w = record { within = w; same = refl }
+
+-- ---- a picture's
+abbrev pub afterSpares : ℕ → ℕ → Reader Header
+afterSpares tr ptype = expect 16 1 NoStartCode >>= λ gbsc. done (record { tr = tr; ptype = ptype })
+
+abbrev pub afterPtype : ℕ → ℕ → Reader Header
+afterPtype tr ptype = spares >>= λ dropped. afterSpares tr ptype
+
+abbrev pub afterTr : Format → ℕ → Reader Header
+afterTr f tr = judged (field 6) (ptypeOf f) >>= afterPtype tr
+
+abbrev pub afterStart : Format → Reader Header
+afterStart f = field 5 >>= afterTr f
+
+pub header-begun : (f : Format) (s : List ℕ) (n p : ℕ) → Within s n p
+    → Row (header f (bitsLeft s n p) p) s n (expect 20 16 NoStartCode >>= λ psc. afterStart f) p
+unfolding header
+header-begun f s n p w = record { within = w; same = refl }

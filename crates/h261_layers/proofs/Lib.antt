@@ -1,0 +1,10 @@
+pub mod Told
+pub mod HeadTurn
+pub mod HeaderSteps
+pub mod CoefficientsTurn
+pub mod IntraSteps
+pub mod BlocksTurn
+pub mod VectorSteps
+pub mod MacroblockSteps
+pub mod MacroblockWhole
+pub mod Layers

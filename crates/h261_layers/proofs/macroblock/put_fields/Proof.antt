@@ -1,0 +1,31 @@
+-- `h261_layers::macroblock::put_fields` meets its contract: four stores, each at its place.
+use native.Mathlib.Omega.{arith}
+use lib.ListN.{length-set}
+use Rattle.h261_layers.proofs.MacroblockWhole.{fields-are}
+use borrow.Author.Needs.{needs}
+use Rattle.h261_layers.proofs.macroblock.put_fields.Statement.{statement}
+use Rattle.h261_layers.proofs.macroblock.put_fields.Tie as tie
+
+slice-write-macroblocks-2 : tie.Need-slice-write-macroblocks-2
+slice-write-macroblocks-2 c = simp length-set (omega (arith, c .before .pre .0))
+
+component-byte-requires : tie.Need-component-byte-requires
+component-byte-requires c κs = c .before .pre .1 .horizontally
+
+slice-write-macroblocks-3 : tie.Need-slice-write-macroblocks-3
+slice-write-macroblocks-3 c = simp length-set (omega (arith, c .before .before .pre .0))
+
+component-byte-requires-2 : tie.Need-component-byte-requires-2
+component-byte-requires-2 c κs = c .before .before .pre .1 .vertically
+
+slice-write-macroblocks-4 : tie.Need-slice-write-macroblocks-4
+slice-write-macroblocks-4 c = simp length-set (omega (arith, c .before .before .before .pre .0))
+
+returns : tie.Need-returns
+returns c = fields-are (c .before .before .before .args .macroblocks .now) (c .before .before .before .args .at) (c .before .before .before .args .mtype) (c .before .before .before .args .quantiser) _ _ _ _ (c .before .component-byte .ensures) (c .component-byte2 .ensures)
+
+pub put-fields-spec : {M : Type 1} → statement M
+put-fields-spec =
+    tie.close
+    (tie.spec (λ c. search needs) (λ c. search needs) slice-write-macroblocks-2 component-byte-requires (λ c. search needs)
+    slice-write-macroblocks-3 component-byte-requires-2 (λ c. search needs) slice-write-macroblocks-4 (λ c. search needs) returns)

@@ -1,0 +1,4 @@
+pub mod Vector
+pub mod Grammar
+pub mod Answer
+pub mod Ready

@@ -1,0 +1,275 @@
+-- The nested loops over groups and macroblocks: what holds at each turn, and each way out. Assumes nothing.
+use mathlib.Core.Path.{_≡_, refl, sym, ap, subst, _∙_}
+use mathlib.Core.Bool.{Bool, true, false}
+use mathlib.Core.List.{List, [], _∷_}
+use mathlib.Core.Logic.{_⊎_, inl, inr}
+use Prim.Native.Nat.{ℕ, suc, _+_, _*_, _≤_, _<_}
+use native.Mathlib.Omega.{arith}
+use native.Mathlib.Nat.{le-antisymm}
+use native.Mathlib.Numerals.{add-one}
+use lib.Dec.{T, eqb}
+use lib.ListN.{length, getD, set, drop, length-set}
+use denote.Enum.Declared.{tagOf}
+use Rattle.laws.specs.Choice.{alike}
+use Rattle.laws.proofs.Choice.{alike-same}
+use Rattle.laws.proofs.Rows.{lt-or-ge}
+use Rattle.laws.specs.Table.{allB}
+use Rattle.laws.proofs.Table.{all-at}
+use Rattle.laws.proofs.Lists.{drop-on}
+use Rattle.refusals.specs.declared.Refusal.{Refusal}
+use Rattle.bits.specs.Bits.{Bit, bitsLeft}
+use Rattle.bits.proofs.Value.{left-none}
+use Rattle.bits.specs.Read.{Read, got, refused, judged}
+use Rattle.bits.specs.Code.{word}
+use Rattle.h261_words.specs.Tables.{table1}
+use Rattle.h261_words.specs.Words.{isMC}
+use Rattle.h261_groups.specs.Format.{groupCount, groupNumbers}
+use Rattle.h261_groups.proofs.Room.{groups-listed}
+use Rattle.h261_groups.specs.declared.Format.{Format}
+use Rattle.h261_groups.specs.declared.Format.the-variants.{Qcif, Cif}
+use Rattle.layout.specs.Value.{Vector, zeroVector, Macroblock}
+use Rattle.h261_description.specs.Vector.{Before, atStart}
+use Rattle.h261_description.specs.Value.{after, shape}
+use Rattle.layout.specs.Flat.{Flat, putMacroblocks, putGroups, flat}
+use Rattle.layout.specs.Proper.{If}
+use Rattle.h261_description.specs.Proper.{ProperVector}
+use Rattle.layout.specs.Numbers.{isQuantiser}
+use Rattle.h261_layers.specs.Answer.{KeptBehind, beforeOf, asMba, asMacroblock, Sent, putSent, macroblockRefusal}
+use Rattle.fields.specs.Answer.{mapRead}
+use Rattle.h261_layers.specs.declared.Behind.{Behind}
+use Rattle.h261_layers.specs.declared.MbaRead.{MbaRead}
+use Rattle.h261_layers.specs.declared.MbaRead.the-variants.{Step, Stuffing, Ended, Refused as NoMba}
+use Rattle.h261_layers.specs.declared.MacroblockRead.{MacroblockRead}
+use Rattle.h261_layers.specs.declared.MacroblockRead.the-variants.{Got, Refused}
+use Rattle.h261_layers.proofs.MacroblockRead.{the-type as macroblock-type}
+use Rattle.h261_layers.proofs.Layers.{Met, mba-reads, macroblock-reads, group-head-reads}
+use Rattle.h261_layers.specs.Grammar.{Mba, step, stuffed, ended, mbaOf, mba, macroblock, none, groupHead, groupsRead}
+use Rattle.fields.proofs.Meaning.{was-got, onward}
+use Rattle.h261_layers.proofs.MacroblockWhole.{vector-kept}
+use Rattle.h261_layers.proofs.MacroblockSteps.{opened}
+use Rattle.h261_reader.proofs.MacroblocksTurn.{MacroblocksSoFar, macroblocks-first, macroblocks-refused, macroblocks-ended, macroblocks-stuffed, macroblocks-inside, macroblocks-more}
+use Rattle.h261_reader.proofs.GroupsTurn.{macroblocksAt, quantised, GroupsSoFar, groups-done, groups-head, groups-inside, groups-more}
+
+-- ---- the order of groups, by one test of each format
+abbrev lastOf : Format → ℕ → Bool
+lastOf f g = alike (eqb (suc g) (groupCount f)) (none (drop (suc g) (groupNumbers f)))
+
+all-last : (f : Format) → T (allB (groupCount f) (lastOf f))
+all-last Qcif = tt
+all-last Cif = tt
+
+module _ (f : Format) (g : ℕ) (l : g < groupCount f) where
+  last-is : eqb (g + 1) (groupCount f) ≡ none (drop (g + 1) (groupNumbers f))
+  last-is =
+      let e : g + 1 ≡ suc g = add-one g in
+      rw e (alike-same (eqb (suc g) (groupCount f)) (none (drop (suc g) (groupNumbers f))) (all-at (groupCount f) (lastOf f) (all-last f) g l))
+
+drop-all : (f : Format) (g : ℕ) → g ≤ groupCount f → groupCount f ≤ g → drop g (groupNumbers f) ≡ []
+drop-all f g l m = ap (λ (k : ℕ). drop k (groupNumbers f)) (le-antisymm l m) ∙ none-left f
+  where
+    none-left : (f : Format) → drop (groupCount f) (groupNumbers f) ≡ []
+    none-left Qcif = refl
+    none-left Cif = refl
+
+-- ---- where an MBA place leads
+pub record Led (last : Bool) (address n p : ℕ) (x : Mba) (q : ℕ) : Type 0 where
+  pub ahead : p < q
+  pub inside : q ≤ n
+  pub met : Met last address x
+
+module _ (address : ℕ) (s : List ℕ) (n p : ℕ) (l : p ≤ n) (x : Mba) (q : ℕ) where
+  word-led : (last : Bool) → judged (word table1) (mbaOf last address) (bitsLeft s n p) p ≡ got x (bitsLeft s n q) q → Led last address n p x q
+  word-led last e = let o = onward s n p x q (mba-reads last address) l e in record { ahead = omega (arith, o .ahead); inside = o .inside; met = o .good }
+
+  pub mba-led : (last : Bool) → mba last address (bitsLeft s n p) p ≡ got x (bitsLeft s n q) q → (x ≡ ended → ⊥) → Led last address n p x q
+  unfolding mba
+  mba-led false e h = word-led false e
+  mba-led true e h = go (lt-or-ge p n)
+    where
+      go : (p < n) ⊎ (n ≤ p) → Led true address n p x q
+      go (inl m) = word-led true (opened s n address p m ∙ e)
+      go (inr m) = let z : got ended [] p ≡ got x (bitsLeft s n q) q = sym (ap (λ (bs : List Bit). mba true address bs p) (left-none s n p m)) ∙ e in absurd (h (let w : ended ≡ x = cc in sym w))
+
+  pub mba-inside : (last : Bool) → mba last address (bitsLeft s n p) p ≡ got x (bitsLeft s n q) q → q ≤ n
+  unfolding mba
+  mba-inside false e = word-led false e .inside
+  mba-inside true e = go (lt-or-ge p n)
+    where
+      go : (p < n) ⊎ (n ≤ p) → q ≤ n
+      go (inl m) = word-led true (opened s n address p m ∙ e) .inside
+      go (inr m) = let z : got ended [] p ≡ got x (bitsLeft s n q) q = sym (ap (λ (bs : List Bit). mba true address bs p) (left-none s n p m)) ∙ e in let w : p ≡ q = cc in omega arith
+
+-- ---- inside a group
+pub record InGroup (s : List ℕ) (n : ℕ) (f : Format) (last : Bool) (number g : ℕ) (head ms₀ ls₀ : List ℕ) (from : ℕ) (ms ls : List ℕ) (b : Behind) (p : ℕ) : Type 0 where
+  pub inside : p ≤ n
+  pub address : b .address ≤ 33
+  pub kept : KeptBehind b
+  pub ms-long : length ms ≡ length ms₀
+  pub ls-long : length ls ≡ length ls₀
+  pub so-far : MacroblocksSoFar (mapRead (putMacroblocks 33 g (flat head ms₀ ls₀)) (macroblocksAt f last number (bitsLeft s n from) from)) s n f last number g (flat head ms ls) (beforeOf b) p
+
+pub group-first : (s : List ℕ) (n : ℕ) (f : Format) (last : Bool) (number g : ℕ) (head ms ls : List ℕ) (p : ℕ) → p ≤ n
+    → InGroup s n f last number g head ms ls p ms ls (record { address = 0; horizontal = 16; vertical = 16 }) p
+group-first s n f last number g head ms ls p l = record {
+  inside = l;
+  address = omega arith;
+  kept = record { horizontally = record { low = omega arith; high = omega arith }; vertically = record { low = omega arith; high = omega arith } };
+  ms-long = refl;
+  ls-long = refl;
+  so-far = macroblocks-first s n f last number g (flat head ms ls) atStart p;
+}
+
+module _ {s : List ℕ} {n : ℕ} {f : Format} {last : Bool} {number g : ℕ} {head ms₀ ls₀ : List ℕ} {from : ℕ} {ms ls : List ℕ} {b : Behind} {p : ℕ} (h : InGroup s n f last number g head ms₀ ls₀ from ms ls b p) where
+  is-found : (r x : MbaRead) → asMba s n r ≡ mba last (b .address) (bitsLeft s n p) p → r ≡ x → asMba s n x ≡ mba last (b .address) (bitsLeft s n p) p
+  is-found r x w e = sym (ap (asMba s n) e) ∙ w
+
+  pub stuffing-led : (r : MbaRead) (q : ℕ) → asMba s n r ≡ mba last (b .address) (bitsLeft s n p) p → r ≡ Stuffing q → (p < q) × (q ≤ n)
+  stuffing-led r q w e = let o = mba-led (b .address) s n p (h .inside) stuffed q last (sym (is-found r (Stuffing q) w e)) (λ z. let y : _≡_ {A = ℕ} 0 1 = cc in omega arith) in (o .ahead, o .inside)
+
+  pub group-stuffed : (r : MbaRead) (q : ℕ) → asMba s n r ≡ mba last (b .address) (bitsLeft s n p) p → r ≡ Stuffing q → InGroup s n f last number g head ms₀ ls₀ from ms ls b q
+  group-stuffed r q w e =
+      let o = stuffing-led r q w e in
+      record { inside = o .1; address = h .address; kept = h .kept; ms-long = h .ms-long; ls-long = h .ls-long; so-far = macroblocks-stuffed (h .so-far) q (is-found r (Stuffing q) w e) (o .0) (o .1) }
+
+  pub step-led : (r : MbaRead) (k q : ℕ) → asMba s n r ≡ mba last (b .address) (bitsLeft s n p) p → r ≡ Step k q → Led last (b .address) n p (step k) q
+  step-led r k q w e = mba-led (b .address) s n p (h .inside) (step k) q last (sym (is-found r (Step k q) w e)) (λ z. let y : _≡_ {A = ℕ} 0 1 = cc in omega arith)
+
+  module _ (r : MbaRead) (k q : ℕ) (w : asMba s n r ≡ mba last (b .address) (bitsLeft s n p) p) (e : r ≡ Step k q) (t : MacroblockRead) (ms′ ls′ : List ℕ)
+      (v : asMacroblock s n t ms′ ls′ ≡ mapRead (putSent g ms ls) (macroblock f number (beforeOf b) k (bitsLeft s n q) q)) where
+    sent-is : (c : Behind) (z : ℕ) → t ≡ Got c z → got (record { macroblocks = ms′; levels = ls′; before = beforeOf c }) (bitsLeft s n z) z ≡ mapRead (putSent g ms ls) (macroblock f number (beforeOf b) k (bitsLeft s n q) q)
+    sent-is c z d = sym (ap (λ (y : MacroblockRead). asMacroblock s n y ms′ ls′) d) ∙ v
+
+    module _ (c : Behind) (z : ℕ) (d : t ≡ Got c z) where
+      was : (m : Macroblock) × (macroblock f number (beforeOf b) k (bitsLeft s n q) q ≡ got m (bitsLeft s n z) z) × (putSent g ms ls m ≡ record { macroblocks = ms′; levels = ls′; before = beforeOf c })
+      was = was-got (putSent g ms ls) (macroblock f number (beforeOf b) k (bitsLeft s n q) q) (record { macroblocks = ms′; levels = ls′; before = beforeOf c }) (bitsLeft s n z) z (sym (sent-is c z d))
+
+      led : Led last (b .address) n p (step k) q
+      led = step-led r k q w e
+
+      pub macroblock-led : (p < z) × (z ≤ n)
+      macroblock-led =
+          let o = onward s n q (was .0) z (macroblock-reads f number (beforeOf b) k) (led .inside) (was .1) in
+          (omega (arith, o .ahead, led .ahead), o .inside)
+
+      left-behind : after (was .0) ≡ beforeOf c
+      left-behind = ap (λ (y : Sent). y .before) (was .2)
+
+      pub group-more : length ms′ ≡ length ms → length ls′ ≡ length ls → InGroup s n f last number g head ms₀ ls₀ from ms′ ls′ c z
+      group-more lm ll =
+          let o = onward s n q (was .0) z (macroblock-reads f number (beforeOf b) k) (led .inside) (was .1) in
+          let a : c .address ≡ b .address + k = sym (ap (λ (y : Before). y .address) left-behind) ∙ o .good .0 in
+          let pv = subst (λ (y : Vector). If (isMC (was .0 .type)) (ProperVector f number (was .0 .address) y) (y ≡ zeroVector)) (ap (λ (y : Before). y .vector) left-behind) (o .good .1 .pointed) in
+          let kv = vector-kept (isMC (was .0 .type)) f number (was .0 .address) (c .horizontal) (c .vertical) pv in
+          record {
+            inside = macroblock-led .1;
+            address = omega (arith, led .met .1, a);
+            kept = record { horizontally = kv .0; vertically = kv .1 };
+            ms-long = lm ∙ h .ms-long;
+            ls-long = ll ∙ h .ls-long;
+            so-far = macroblocks-more (h .so-far) (is-found r (Step k q) w e) (record { macroblocks = ms′; levels = ls′; before = beforeOf c }) z (sent-is c z d) (macroblock-led .0) (macroblock-led .1);
+          }
+
+    pub group-no-macroblock : tagOf macroblock-type t ≡ 1 → refused (macroblockRefusal t) ≡ mapRead (putMacroblocks 33 g (flat head ms₀ ls₀)) (macroblocksAt f last number (bitsLeft s n from) from)
+    group-no-macroblock y = macroblocks-inside (h .so-far) (is-found r (Step k q) w e) (macroblockRefusal t) (no t y ∙ v)
+      where
+        no : (t : MacroblockRead) → tagOf macroblock-type t ≡ 1 → refused (macroblockRefusal t) ≡ asMacroblock s n t ms′ ls′
+        no (Got c z) y = absurd (omega arith)
+        no (Refused r) y = refl
+
+  pub group-no-mba : (r : MbaRead) (y : Refusal) → asMba s n r ≡ mba last (b .address) (bitsLeft s n p) p → r ≡ NoMba y → refused y ≡ mapRead (putMacroblocks 33 g (flat head ms₀ ls₀)) (macroblocksAt f last number (bitsLeft s n from) from)
+  group-no-mba r y w e = macroblocks-refused (h .so-far) y (is-found r (NoMba y) w e)
+
+  pub group-ended : (r : MbaRead) (q : ℕ) → asMba s n r ≡ mba last (b .address) (bitsLeft s n p) p → r ≡ Ended q
+      → (got (flat head ms ls) (bitsLeft s n q) q ≡ mapRead (putMacroblocks 33 g (flat head ms₀ ls₀)) (macroblocksAt f last number (bitsLeft s n from) from)) × (q ≤ n)
+  group-ended r q w e =
+      (macroblocks-ended (h .so-far) q (is-found r (Ended q) w e), mba-inside (b .address) s n p (h .inside) ended q last (sym (is-found r (Ended q) w e)))
+
+-- ---- between groups
+pub record PictureSoFar (start : Read Flat) (s : List ℕ) (n : ℕ) (f : Format) (head ms ls : List ℕ) (g p : ℕ) : Type 0 where
+  pub inside : p ≤ n
+  pub most : g ≤ groupCount f
+  pub head-long : length head ≡ 3 + groupCount f
+  pub ms-long : length ms ≡ groupCount f * 132
+  pub ls-long : length ls ≡ groupCount f * 12672
+  pub same : GroupsSoFar start s n f (drop g (groupNumbers f)) (flat head ms ls) g p
+
+pub picture-first : (s : List ℕ) (n : ℕ) (f : Format) (head ms ls : List ℕ) (p : ℕ) → p ≤ n → length head ≡ 3 + groupCount f → length ms ≡ groupCount f * 132 → length ls ≡ groupCount f * 12672
+    → PictureSoFar (mapRead (putGroups (shape f) 0 (flat head ms ls)) (groupsRead f (groupNumbers f) (bitsLeft s n p) p)) s n f head ms ls 0 p
+picture-first s n f head ms ls p l a b c = record { inside = l; most = omega arith; head-long = a; ms-long = b; ls-long = c; same = record { same = refl } }
+
+module _ {start : Read Flat} {s : List ℕ} {n : ℕ} {f : Format} {head ms ls : List ℕ} {g p : ℕ} (h : PictureSoFar start s n f head ms ls g p) where
+  pub picture-done : groupCount f ≤ g → got (flat head ms ls) (bitsLeft s n p) p ≡ start
+  picture-done l = groups-done (subst (λ (xs : List ℕ). GroupsSoFar start s n f xs (flat head ms ls) g p) (drop-all f g (h .most) l) (h .same))
+
+  module _ (l : g < groupCount f) where
+    on : GroupsSoFar start s n f (getD (groupNumbers f) g 0 ∷ drop (g + 1) (groupNumbers f)) (flat head ms ls) g p
+    on = subst (λ (xs : List ℕ). GroupsSoFar start s n f xs (flat head ms ls) g p) (drop-on (groupNumbers f) g (omega (arith, l, groups-listed f))) (h .same)
+
+    pub picture-no-head : (number : ℕ) (r : Refusal) → number ≡ getD (groupNumbers f) g 0 → groupHead number (bitsLeft s n p) p ≡ refused r → refused r ≡ start
+    picture-no-head number r e d = groups-head on r (sym d ∙ ap (λ (k : ℕ). groupHead k (bitsLeft s n p) p) e)
+
+    module _ (number gquant q : ℕ) (e : number ≡ getD (groupNumbers f) g 0) (d : groupHead number (bitsLeft s n p) p ≡ got gquant (bitsLeft s n q) q) where
+      pub head-led : (q ≤ n) × T (isQuantiser gquant)
+      head-led = let o = onward s n p gquant q (group-head-reads number) (h .inside) d in (o .inside, o .good)
+
+      head-is : got gquant (bitsLeft s n q) q ≡ groupHead (getD (groupNumbers f) g 0) (bitsLeft s n p) p
+      head-is = sym d ∙ ap (λ (k : ℕ). groupHead k (bitsLeft s n p) p) e
+
+      inner-is : (x : Read Flat) → x ≡ mapRead (putMacroblocks 33 g (flat (set head (3 + g) gquant) ms ls)) (macroblocksAt f (eqb (g + 1) (groupCount f)) number (bitsLeft s n q) q)
+          → x ≡ mapRead (putMacroblocks 33 g (quantised g (flat head ms ls) gquant)) (macroblocksAt f (none (drop (g + 1) (groupNumbers f))) (getD (groupNumbers f) g 0) (bitsLeft s n q) q)
+      inner-is x w = w ∙ (λ i. mapRead (putMacroblocks 33 g (flat (set head (3 + g) gquant) ms ls)) (macroblocksAt f (last-is f g l i) (e i) (bitsLeft s n q) q))
+
+      pub picture-inside : (r : Refusal) → refused r ≡ mapRead (putMacroblocks 33 g (flat (set head (3 + g) gquant) ms ls)) (macroblocksAt f (eqb (g + 1) (groupCount f)) number (bitsLeft s n q) q) → refused r ≡ start
+      picture-inside r w = groups-inside on head-is r (inner-is (refused r) w)
+
+      pub picture-more : (ms′ ls′ : List ℕ) (z : ℕ) → length ms′ ≡ length ms → length ls′ ≡ length ls → z ≤ n
+          → got (flat (set head (3 + g) gquant) ms′ ls′) (bitsLeft s n z) z ≡ mapRead (putMacroblocks 33 g (flat (set head (3 + g) gquant) ms ls)) (macroblocksAt f (eqb (g + 1) (groupCount f)) number (bitsLeft s n q) q)
+          → PictureSoFar start s n f (set head (3 + g) gquant) ms′ ls′ (g + 1) z
+      picture-more ms′ ls′ z lm ll i w = record {
+        inside = i;
+        most = omega arith;
+        head-long = length-set head (3 + g) gquant ∙ h .head-long;
+        ms-long = lm ∙ h .ms-long;
+        ls-long = ll ∙ h .ls-long;
+        same = groups-more on head-is (flat (set head (3 + g) gquant) ms′ ls′) z (inner-is _ w);
+      }
+
+-- ---- small steps between the code's numbers and the format's
+pub less-count : (g all c : ℕ) → g < all → all ≡ c → g < c
+less-count g all c l e = omega arith
+
+pub last-found : (s : List ℕ) (n : ℕ) (r : MbaRead) (g all c address : ℕ) (bs : List Bit) (p : ℕ) → asMba s n r ≡ mba (eqb (g + 1) all) address bs p → all ≡ c → asMba s n r ≡ mba (eqb (g + 1) c) address bs p
+last-found s n r g all c address bs p w e = w ∙ ap (λ (k : ℕ). mba (eqb (g + 1) k) address bs p) e
+
+-- where the ways out meet: a refusal with groups left, or all groups
+pub record Left (start : Read Flat) (s : List ℕ) (n c g : ℕ) (head₀ ms₀ ls₀ head ms ls : List ℕ) (p : ℕ) (r : Refusal) : Type 0 where
+  pub head-long : length head ≡ length head₀
+  pub ms-long : length ms ≡ length ms₀
+  pub ls-long : length ls ≡ length ls₀
+  pub no : g < c → refused r ≡ start
+  pub yes : c ≤ g → got (flat head ms ls) (bitsLeft s n p) p ≡ start
+
+pub left-as : {start : Read Flat} {s : List ℕ} {n c g : ℕ} {head₀ ms₀ ls₀ head ms ls head′ ms′ ls′ : List ℕ} {p p′ : ℕ} {r r′ : Refusal} → Left start s n c g head₀ ms₀ ls₀ head ms ls p r
+    → head′ ≡ head → ms′ ≡ ms → ls′ ≡ ls → p′ ≡ p → r′ ≡ r → Left start s n c g head₀ ms₀ ls₀ head′ ms′ ls′ p′ r′
+left-as {s = s} {n} h a b c d e = record {
+  head-long = ap length a ∙ h .head-long;
+  ms-long = ap length b ∙ h .ms-long;
+  ls-long = ap length c ∙ h .ls-long;
+  no = λ l. ap (λ (x : Refusal). refused x) e ∙ h .no l;
+  yes = λ l. (λ i. got (flat (a i) (b i) (c i)) (bitsLeft s n (d i)) (d i)) ∙ h .yes l;
+}
+
+-- left by a refusal, with groups to come
+pub left-refused : (start : Read Flat) (s : List ℕ) (n c g : ℕ) (head₀ ms₀ ls₀ head ms ls : List ℕ) (p : ℕ) (r : Refusal) → g < c → length head ≡ length head₀ → length ms ≡ length ms₀ → length ls ≡ length ls₀ → refused r ≡ start
+    → Left start s n c g head₀ ms₀ ls₀ head ms ls p r
+left-refused start s n c g head₀ ms₀ ls₀ head ms ls p r l a b d e = record { head-long = a; ms-long = b; ls-long = d; no = λ m. e; yes = λ m. absurd (never c g l m) }
+  where
+    never : (c g : ℕ) → g < c → c ≤ g → ⊥
+    never c g l m = omega arith
+
+pub left-done : (start : Read Flat) (s : List ℕ) (n c g : ℕ) (head₀ ms₀ ls₀ head ms ls : List ℕ) (p : ℕ) (r : Refusal) → c ≤ g → length head ≡ length head₀ → length ms ≡ length ms₀ → length ls ≡ length ls₀
+    → got (flat head ms ls) (bitsLeft s n p) p ≡ start → Left start s n c g head₀ ms₀ ls₀ head ms ls p r
+left-done start s n c g head₀ ms₀ ls₀ head ms ls p r l a b d e = record { head-long = a; ms-long = b; ls-long = d; no = λ m. absurd (never c g l m); yes = λ m. e }
+  where
+    never : (c g : ℕ) → c ≤ g → g < c → ⊥
+    never c g l m = omega arith

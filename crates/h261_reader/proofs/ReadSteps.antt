@@ -1,0 +1,79 @@
+-- Parsing into scratch and copying on acceptance, on plain values. Assumes nothing.
+use mathlib.Core.Path.{_≡_, refl, sym, ap, _∙_}
+use mathlib.Core.Bool.{Bool, true, false}
+use mathlib.Core.List.{List, _++_, append-nil}
+use Prim.Native.Nat.{ℕ, _+_, _*_, _≤_}
+use native.Mathlib.Omega.{arith}
+use lib.Dec.{T, eqb, eqb→eq}
+use lib.ListN.{length, take, drop, drop-of-length-le}
+use lib.Seq.{take-length}
+use denote.Enum.Declared.{tagOf}
+use Rattle.laws.specs.Choice.{pick, both}
+use Rattle.laws.proofs.Choice.{both-left, both-right, true-T}
+use Rattle.refusals.specs.declared.Reason.the-variants.{Length}
+use Rattle.refusals.specs.declared.Refusal.{Refusal}
+use Rattle.refusals.specs.Number.{refusal}
+use Rattle.bits.specs.Read.{Read, got, refused, endless, bad}
+use Rattle.h261_groups.specs.Format.{groupCount}
+use Rattle.h261_groups.specs.declared.Format.{Format}
+use Rattle.layout.specs.Flat.{Flat, flat}
+use Rattle.h261_description.specs.Valid.{lengthsOf}
+use Rattle.h261_reader.specs.Described.{Lengths, described, verdictOf, laidOr}
+use Rattle.h261_reader.specs.ReadOf.{readOf, flatAfter}
+use Rattle.refusals.specs.declared.Verdict.{Verdict}
+use Rattle.refusals.specs.declared.Verdict.the-variants.{Accepted, Refused}
+use Rattle.refusals.proofs.Verdict.{the-type as verdict-type}
+
+pub accepted-tag : (v : Verdict) → tagOf verdict-type v ≡ 0 → v ≡ Accepted
+accepted-tag Accepted t = refl
+accepted-tag (Refused r) t = absurd (omega arith)
+
+-- ---- copying a whole slice over another of its length
+pub copied : (from to out : List ℕ) → length from ≡ length to → out ≡ take (length from) from ++ drop (length from) to → out ≡ from
+copied from to out e c =
+    let short : length to ≤ length from = omega arith in
+    c ∙ rw (take-length, drop-of-length-le to short, append-nil)
+
+-- ---- what the three buffers are in the end
+module _ (f : Format) (s : List ℕ) (n : ℕ) {v : Verdict} (w : v ≡ verdictOf (described f s n)) where
+  taken : (x : Read Flat) (d before : Flat) → v ≡ Accepted → v ≡ verdictOf x → d ≡ laidOr f x → d ≡ flatAfter before x
+  taken (got e bs at) d before a w b = b
+  taken (refused r) d before a w b = let z : Accepted ≡ Refused r = sym a ∙ w in let o : _≡_ {A = ℕ} 0 1 = cc in absurd (omega arith)
+  taken endless d before a w b = let z : Accepted ≡ Refused (refusal Length 0) = sym a ∙ w in let o : _≡_ {A = ℕ} 0 1 = cc in absurd (omega arith)
+
+  kept : (x : Read Flat) (r : Refusal) (before : Flat) → v ≡ Refused r → v ≡ verdictOf x → before ≡ flatAfter before x
+  kept (got e bs at) r before a w = let z : Refused r ≡ Accepted = sym a ∙ w in let o : _≡_ {A = ℕ} 0 1 = cc in absurd (omega arith)
+  kept (refused q) r before a w = refl
+  kept endless r before a w = refl
+
+  pub accepted-buffers : {head macroblocks levels : List ℕ} → flat head macroblocks levels ≡ laidOr f (described f s n) → v ≡ Accepted → (before : Flat) (h m l : List ℕ)
+      → h ≡ head → m ≡ macroblocks → l ≡ levels → flat h m l ≡ flatAfter before (described f s n)
+  accepted-buffers b a before h m l eh em el = (λ i. flat (eh i) (em i) (el i)) ∙ taken (described f s n) _ before a w b
+
+  pub refused-unchanged : (r : Refusal) → v ≡ Refused r → (before : Flat) → before ≡ flatAfter before (described f s n)
+  refused-unchanged r a before = kept (described f s n) r before a w
+
+-- ---- the lengths
+pub lengths-are : (f : Format) (before : Flat) {o : Bool} → o ≡ lengthsOf f before → o ≡ true → Lengths f (before .head) (before .macroblocks) (before .levels)
+lengths-are f before e h =
+    let all : T (lengthsOf f before) = true-T _ (sym e ∙ h) in
+    let a : Bool = eqb (length (before .head)) (3 + groupCount f) in
+    let b : Bool = eqb (length (before .macroblocks)) (groupCount f * 132) in
+    let c : Bool = eqb (length (before .levels)) (groupCount f * 12672) in
+    record {
+      head-long = eqb→eq _ _ (both-left a (both b c) all);
+      ms-long = eqb→eq _ _ (both-left b c (both-right a (both b c) all));
+      ls-long = eqb→eq _ _ (both-right b c (both-right a (both b c) all));
+    }
+
+module _ (f : Format) (s : List ℕ) (n : ℕ) (before : Flat) {o : Bool} (e : o ≡ lengthsOf f before) where
+  on : (b : Bool) → o ≡ b → readOf f s n before ≡ pick b (described f s n) (bad Length 0)
+  unfolding readOf
+  on b h = ap (λ (b : Bool). pick b (described f s n) (bad Length 0)) (sym e ∙ h)
+
+  pub unfit : o ≡ false → (Refused (refusal Length 0) ≡ verdictOf (readOf f s n before)) × (before ≡ flatAfter before (readOf f s n before))
+  unfit h = (sym (ap verdictOf (on false h)), sym (ap (flatAfter before) (on false h)))
+
+  pub fit : o ≡ true → {v : Verdict} {after : Flat} → v ≡ verdictOf (described f s n) → after ≡ flatAfter before (described f s n)
+      → (v ≡ verdictOf (readOf f s n before)) × (after ≡ flatAfter before (readOf f s n before))
+  fit h w b = (w ∙ sym (ap verdictOf (on true h)), b ∙ sym (ap (flatAfter before) (on true h)))

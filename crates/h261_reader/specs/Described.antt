@@ -1,0 +1,48 @@
+-- The description that bits give, and the answers of reading them. Assumes nothing.
+use Prim.Native.Nat.{ℕ, _+_, _*_}
+use mathlib.Core.Path.{_≡_}
+use mathlib.Core.List.{List}
+use lib.ListN.{length, replicate}
+use Rattle.refusals.specs.declared.Reason.the-variants.{Length}
+use Rattle.refusals.specs.Number.{refusal}
+use Rattle.bits.specs.Read.{Read, got, refused, endless}
+use Rattle.h261_groups.specs.Format.{groupCount}
+use Rattle.h261_groups.specs.declared.Format.{Format}
+use Rattle.layout.specs.Flat.{Flat, flat}
+use Rattle.h261_description.specs.Value.{laid}
+use Rattle.fields.specs.Answer.{mapRead}
+use Rattle.h261_layers.specs.Grammar.{reading}
+use Rattle.refusals.specs.declared.Verdict.{Verdict}
+use Rattle.refusals.specs.declared.Verdict.the-variants.{Accepted, Refused}
+
+-- the three slices have the lengths of the format
+pub record Lengths (f : Format) (head macroblocks levels : List ℕ) : Type 0 where
+  pub head-long : length head ≡ 3 + groupCount f
+  pub ms-long : length macroblocks ≡ groupCount f * 132
+  pub ls-long : length levels ≡ groupCount f * 12672
+
+-- the three slices are zeros in the lengths of the format
+pub record Blank (f : Format) (head macroblocks levels : List ℕ) : Type 0 where
+  pub head-blank : head ≡ replicate (3 + groupCount f) 0
+  pub ms-blank : macroblocks ≡ replicate (groupCount f * 132) 0
+  pub ls-blank : levels ≡ replicate (groupCount f * 12672) 0
+
+-- the description of the picture that N bits of a slice are
+unfoldable pub described : Format → List ℕ → ℕ → Read Flat
+described f bytes n = mapRead (laid f) (reading f bytes n)
+
+-- reading is never endless (never-endless, Verdict.antt), so what stands there is never given
+abbrev pub verdictOf : {A : Type 0} → Read A → Verdict
+verdictOf (got a bs at) = Accepted
+verdictOf (refused r) = Refused r
+verdictOf endless = Refused (refusal Length 0)
+
+-- zeros in the format's lengths
+abbrev pub zeros : Format → Flat
+zeros f = flat (replicate (3 + groupCount f) 0) (replicate (groupCount f * 132) 0) (replicate (groupCount f * 12672) 0)
+
+-- the description, or zeros
+abbrev pub laidOr : Format → Read Flat → Flat
+laidOr f (got d bs at) = d
+laidOr f (refused r) = zeros f
+laidOr f endless = zeros f

@@ -1,0 +1,3 @@
+pub mod Described
+pub mod ReadOf
+pub mod Verdict

@@ -1,0 +1,77 @@
+// A picture's bits to its description, or the refusal: the picture and its groups, over the layers below.
+use h261_groups::Format;
+use refusals::Reason;
+use refusals::Refusal;
+use refusals::Verdict;
+ghost use mathlib.Core.Path.{_≡_};
+ghost use Rattle.h261_reader.specs.Described.{Lengths, Blank, described, verdictOf};
+ghost use Rattle.h261_reader.specs.ReadOf.{flatAfter, ReadSays, ReadLeaves};
+ghost use Rattle.layout.specs.Flat.{flat};
+
+pub mod parse;
+mod picture;
+
+// The description is parsed into lent scratch, and copied once it is accepted.
+fn read_in(
+    bytes: &[u8],
+    count: usize,
+    format: Format,
+    header: &mut [u8],
+    fields: &mut [u8],
+    coefficients: &mut [u8],
+    head: &mut [u8],
+    macroblocks: &mut [u8],
+    levels: &mut [u8],
+) -> Verdict
+    requires { ⌜ (Blank format (now header) (now fields) (now coefficients)) × (Lengths format (now head) (now macroblocks) (now levels)) ⌝ }
+    ensures verdict { λ r. ⌜ r ≡ verdictOf (described format (now (bytes .entry)) count) ⌝ }
+    ensures buffers { λ _. ⌜ flat (now (head .exit)) (now (macroblocks .exit)) (now (levels .exit)) ≡ flatAfter (flat (now (head .entry)) (now (macroblocks .entry)) (now (levels .entry))) (described format (now (bytes .entry)) count) ⌝ }
+{
+    let verdict = parse::parse(bytes, count, format, header, fields, coefficients);
+    match verdict {
+        Verdict::Refused(why) => Verdict::Refused(why),
+        Verdict::Accepted => {
+            bytes::copy(header, head);
+            bytes::copy(fields, macroblocks);
+            bytes::copy(coefficients, levels);
+            Verdict::Accepted
+        }
+    }
+}
+
+// The verdict of the rules. On acceptance the three buffers hold the description; on a refusal they are unchanged.
+pub fn read(
+    bytes: &[u8],
+    count: usize,
+    format: Format,
+    head: &mut [u8],
+    macroblocks: &mut [u8],
+    levels: &mut [u8],
+) -> Verdict
+    ensures verdict { λ r. ⌜ ReadSays format (now (bytes .entry)) count (flat (now (head .entry)) (now (macroblocks .entry)) (now (levels .entry))) r ⌝ }
+    ensures buffers { λ _. ⌜ ReadLeaves format (now (bytes .entry)) count (flat (now (head .entry)) (now (macroblocks .entry)) (now (levels .entry))) (flat (now (head .exit)) (now (macroblocks .exit)) (now (levels .exit))) ⌝ }
+{
+    if !h261_validity::lengths(head, macroblocks, levels, format) {
+        return Verdict::Refused(Refusal {
+            reason: Reason::Length,
+            place: 0,
+        });
+    }
+    let mut header = [0u8; 15];
+    let mut fields = [0u8; 1584];
+    let mut coefficients = [0u8; 152064];
+    let header_length = h261_groups::head_length(format);
+    let fields_length = h261_groups::macroblocks_length(format);
+    let coefficients_length = h261_groups::levels_length(format);
+    read_in(
+        bytes,
+        count,
+        format,
+        &mut header[..header_length],
+        &mut fields[..fields_length],
+        &mut coefficients[..coefficients_length],
+        head,
+        macroblocks,
+        levels,
+    )
+}

@@ -1,0 +1,87 @@
+// A picture's bits to its description, or the refusal, in buffers of the format's lengths that are lent as zeros.
+use crate::picture::groups;
+use fields::PairRead;
+use fields::PlaceRead;
+use fields::pair_refusal;
+use fields::place_refusal;
+use h261_groups::Format;
+use h261_layers::head::header;
+use refusals::Reason;
+use refusals::Refusal;
+use refusals::Verdict;
+ghost use mathlib.Core.Path.{_≡_};
+ghost use Prim.Native.Nat.{_+_, _*_};
+ghost use lib.Dec.{ltb};
+ghost use lib.ListN.{length, replicate};
+ghost use Rattle.laws.specs.Choice.{either};
+ghost use Rattle.size.specs.Size.{limit};
+ghost use Rattle.h261_groups.specs.Format.{sizeOf};
+ghost use Rattle.layout.specs.Flat.{flat};
+ghost use Rattle.h261_reader.specs.Described.{Blank, described, verdictOf, laidOr};
+
+// Whether N is above 8 times the slice, or above the format's limit.
+fn above(length: usize, count: usize, format: Format) -> bool
+    ensures { λ r. ⌜ r ≡ either (ltb (8 * length) count) (ltb (limit (sizeOf format)) count) ⌝ }
+{
+    let started = count / 8 + (count % 8 + 7) / 8;
+    if length < started {
+        return true;
+    }
+    h261_groups::limit(format) < count
+}
+
+fn clear(buffer: &mut [u8])
+    ensures { λ _. ⌜ now (buffer .exit) ≡ replicate (length (now (buffer .entry))) 0 ⌝ }
+{
+    let mut i: usize = 0;
+    while i < buffer.len() {
+        buffer[i] = 0;
+        i += 1;
+    }
+}
+
+// The verdict of the rules. On acceptance the buffers hold the description, on a refusal zeros.
+pub fn parse(
+    bytes: &[u8],
+    count: usize,
+    format: Format,
+    head: &mut [u8],
+    macroblocks: &mut [u8],
+    levels: &mut [u8],
+) -> Verdict
+    requires { ⌜ Blank format (now head) (now macroblocks) (now levels) ⌝ }
+    ensures verdict { λ r. ⌜ r ≡ verdictOf (described format (now (bytes .entry)) count) ⌝ }
+    ensures buffers { λ _. ⌜ flat (now (head .exit)) (now (macroblocks .exit)) (now (levels .exit)) ≡ laidOr format (described format (now (bytes .entry)) count) ⌝ }
+{
+    if above(bytes.len(), count, format) {
+        return Verdict::Refused(Refusal {
+            reason: Reason::Count,
+            place: 0,
+        });
+    }
+    let opened = header(bytes, count, 0, format);
+    let PairRead::Got(tr, ptype, next) = opened else {
+        return Verdict::Refused(pair_refusal(opened));
+    };
+    head[0] = tr;
+    head[1] = ptype;
+    head[2] = h261_groups::bit(format);
+    let tables = h261_words::tables();
+    let read = groups(
+        &tables,
+        bytes,
+        count,
+        next,
+        format,
+        head,
+        macroblocks,
+        levels,
+    );
+    let PlaceRead::At(_) = read else {
+        clear(head);
+        clear(macroblocks);
+        clear(levels);
+        return Verdict::Refused(place_refusal(read));
+    };
+    Verdict::Accepted
+}

@@ -1,0 +1,5 @@
+pub mod Component
+pub mod Predicted
+pub mod Picture
+pub mod Rendered
+pub mod Reference

@@ -1,0 +1,6 @@
+pub mod Outcomes
+pub mod Codewords
+pub mod TypeSays
+pub mod Back
+pub mod Coefficients
+pub mod WordReads

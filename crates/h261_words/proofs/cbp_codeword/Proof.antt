@@ -1,0 +1,15 @@
+-- `h261_words::cbp_codeword` meets its contract: the entry by the meaning spells the codeword.
+use borrow.Author.Needs.{needs}
+use Rattle.h261_words.specs.Tables.{table4}
+use Rattle.h261_words.specs.Lookup.{cbpWordsAt}
+use Rattle.h261_words.proofs.Back.{has-cbp}
+use Rattle.h261_words.proofs.Codewords.{entry-writes}
+use Rattle.h261_words.proofs.cbp_codeword.Statement.{statement}
+use Rattle.h261_words.proofs.cbp_codeword.Tie as tie
+
+returns : tie.Need-returns
+returns c =
+    let s = c .before in entry-writes (s .args .tables .now) cbpWordsAt 64 table4 (s .pre .0 .cbpWords) (s .args .pattern) _ _ (search needs) (has-cbp _ (s .pre .1) (s .pre .2)) (c .spelt .ensures .0) (c .spelt .ensures .1)
+
+pub cbp-codeword-spec : {M : Type 1} → statement M
+cbp-codeword-spec = tie.close (tie.spec (λ c. search needs) (λ c κs. search needs) returns)

@@ -1,0 +1,15 @@
+-- `h261_words::mba_codeword` meets its contract: the entry by the meaning spells the codeword.
+use borrow.Author.Needs.{needs}
+use Rattle.h261_words.specs.Tables.{table1}
+use Rattle.h261_words.specs.Lookup.{mbaWordsAt}
+use Rattle.h261_words.proofs.Back.{has-mba}
+use Rattle.h261_words.proofs.Codewords.{entry-writes}
+use Rattle.h261_words.proofs.mba_codeword.Statement.{statement}
+use Rattle.h261_words.proofs.mba_codeword.Tie as tie
+
+returns : tie.Need-returns
+returns c =
+    let s = c .before in entry-writes (s .args .tables .now) mbaWordsAt 36 table1 (s .pre .0 .mbaWords) (s .args .step) _ _ (search needs) (has-mba _ (s .pre .1) (s .pre .2)) (c .spelt .ensures .0) (c .spelt .ensures .1)
+
+pub mba-codeword-spec : {M : Type 1} → statement M
+mba-codeword-spec = tie.close (tie.spec (λ c. search needs) (λ c κs. search needs) returns)

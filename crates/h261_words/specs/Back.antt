@@ -1,0 +1,13 @@
+-- What is written for a meaning is read as that meaning, whatever follows: for each of the five tables. Assumes nothing.
+use mathlib.Core.Path.{_≡_}
+use mathlib.Core.Bool.{false}
+use Prim.Native.Nat.{_<_, _≤_}
+use Rattle.layout.specs.Value.{Coefficient}
+use Rattle.layout.specs.Numbers.{forbidden}
+
+-- ---- Table 5
+-- a coefficient that can be sent: "Levels 0 and -128 .. are forbidden."
+pub record Sendable (c : Coefficient) : Type 0 where
+  pub run : c .run ≤ 63
+  pub byte : c .code < 256
+  pub level : forbidden (c .code) ≡ false

@@ -1,0 +1,6 @@
+pub mod Tables
+pub mod Words
+pub mod Answer
+pub mod Lookup
+pub mod Back
+pub mod Written

@@ -1,0 +1,79 @@
+-- What the codewords of Tables 2 and 5 mean, and the codeword of a coefficient. Assumes nothing.
+use Prim.Native.Nat.{ℕ, zero, suc, _-_, _/_, _%_}
+use mathlib.Core.Bool.{Bool}
+use mathlib.Core.List.{List, [], _∷_, _++_}
+use lib.Dec.{ltb, eqb}
+use Rattle.laws.specs.Choice.{pick, both, oneOf}
+use Rattle.refusals.specs.declared.Reason.the-variants.{Forbidden}
+use Rattle.bits.specs.Bits.{Bit, bitsOf}
+use Rattle.bits.specs.Read.{Reader, _>>=_, done, field, whole, Judged, fine, against, judged}
+use Rattle.bits.specs.Code.{Entry, word, wordOf, has}
+use Rattle.layout.specs.Value.{Coefficient, coefficient}
+use Rattle.layout.specs.Numbers.{forbidden}
+use Rattle.h261_words.specs.Tables.{pair, endOfBlock, escape}
+
+-- ---- Table 2: 1, 2 are Intra; 3, 4 Inter; 5, 6, 7 Inter+MC; 8, 9, 10 Inter+MC+FIL
+abbrev pub isIntra : ℕ → Bool
+isIntra type = oneOf (1 ∷ 2 ∷ []) type
+
+-- "Every MC type has MVD."
+abbrev pub isMC : ℕ → Bool
+isMC type = oneOf (5 ∷ 6 ∷ 7 ∷ 8 ∷ 9 ∷ 10 ∷ []) type
+
+abbrev pub isFiltered : ℕ → Bool
+isFiltered type = oneOf (8 ∷ 9 ∷ 10 ∷ []) type
+
+abbrev pub hasMQUANT : ℕ → Bool
+hasMQUANT type = oneOf (2 ∷ 4 ∷ 7 ∷ 10 ∷ []) type
+
+abbrev pub hasCBP : ℕ → Bool
+hasCBP type = oneOf (3 ∷ 4 ∷ 6 ∷ 7 ∷ 9 ∷ 10 ∷ []) type
+
+-- ---- Table 5
+-- a codeword of Table 5: a coefficient, or EOB
+pub data Event : Type 0 where
+  sent : Coefficient → Event
+  over : Event
+
+-- "The last bit "s" denotes the sign of the level, "0" for positive and "1" for negative" (H.261)
+abbrev pub signed : ℕ → ℕ → ℕ
+signed zero level = level
+signed (suc s) level = 256 - level
+
+-- "Escape is 000001, run 6, level 8 (signed)."
+abbrev pub escaped : Reader Event
+escaped = do
+  run ← field 6
+  code ← field 8
+  done (sent (coefficient run code))
+
+abbrev pub paired : ℕ → Reader Event
+paired m = do
+  s ← field 1
+  done (sent (coefficient (m / 16) (signed s (m % 16))))
+
+-- "An escape is one codeword of 20 bits.", and so is a pair with its sign
+unfoldable pub tcoeff : List Entry → Reader Event
+tcoeff table = whole (word table >>= λ m. pick (eqb m endOfBlock) (done over) (pick (eqb m escape) escaped (paired m)))
+
+-- refusal 10
+abbrev pub allowed : Event → Judged Event
+allowed (sent c) = pick (forbidden (c .code)) (against Forbidden) (fine (sent c))
+allowed over = fine over
+
+-- a codeword of Table 5 with an allowed level
+unfoldable pub coefficientRead : List Entry → Reader Event
+coefficientRead table = judged (tcoeff table) allowed
+
+-- ---- and back: "a table code wherever Table 5 has one"
+abbrev pub negative : ℕ → ℕ
+negative code = pick (ltb code 128) 0 1
+
+abbrev pub size : ℕ → ℕ
+size code = pick (ltb code 128) code (256 - code)
+
+unfoldable pub tcoeffOf : List Entry → Coefficient → List Bit
+tcoeffOf table c =
+    pick (both (ltb (size (c .code)) 16) (has table (pair (c .run) (size (c .code)))))
+    (wordOf table (pair (c .run) (size (c .code))) ++ bitsOf 1 (negative (c .code)))
+    (wordOf table escape ++ (bitsOf 6 (c .run) ++ bitsOf 8 (c .code)))

@@ -1,0 +1,5 @@
+pub mod BlockTurn
+pub mod MacroblockSteps
+pub mod GroupTurn
+pub mod WriteSteps
+pub mod Put

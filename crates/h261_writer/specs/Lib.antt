@@ -1,0 +1,5 @@
+pub mod Write
+pub mod Put
+pub mod Sound
+pub mod Asked
+pub mod Output

@@ -1,0 +1,62 @@
+-- What `write` answers and leaves in its output. Assumes nothing.
+use Prim.Native.Nat.{ℕ}
+use mathlib.Core.Path.{_≡_}
+use mathlib.Core.Bool.{Bool}
+use mathlib.Core.List.{List, _++_}
+use lib.Dec.{ltb, eqb}
+use lib.ListN.{length, drop}
+use Rattle.laws.specs.Choice.{pick, both, either}
+use Rattle.refusals.specs.Number.{refusal}
+use Rattle.refusals.specs.declared.Reason.the-variants.{Length, Invalid, AboveLimit}
+use Rattle.bits.specs.Bits.{Bit}
+use Rattle.bits.specs.Write.{started, bytesOf}
+use Rattle.h261_groups.specs.Format.{sizeOf}
+use Rattle.size.specs.Size.{limit, outputLength}
+use Rattle.h261_groups.specs.declared.Format.{Format}
+use Rattle.h261_groups.specs.declared.Format.the-variants.{Qcif, Cif}
+use Rattle.layout.specs.Flat.{Flat}
+use Rattle.h261_description.specs.Value.{pictureIn}
+use Rattle.h261_description.specs.Valid.{lengthsOf, valid}
+use Rattle.h261_writer.specs.Write.{pictureOf}
+use Rattle.h261_writer.specs.declared.Written.{Written}
+use Rattle.h261_writer.specs.declared.Written.the-variants.{Bits, Refused}
+
+-- the bits of the picture that a description describes
+unfoldable pub written : Format → Flat → List Bit
+written f d = pictureOf f (pictureIn d)
+
+-- "1: a lent buffer hasn't its named length": the three slices those of one format's description, the output its own of the opened format
+abbrev pub lengths : Format → Flat → ℕ → Bool
+lengths f d room = both (either (lengthsOf Qcif d) (lengthsOf Cif d)) (eqb room (outputLength (sizeOf f)))
+
+-- 1, then 31, then 32; else the number of bits
+unfoldable pub writeOf : Format → Flat → ℕ → Written
+writeOf f d room =
+    pick (lengths f d room)
+    (pick (valid f d)
+    (pick (ltb (limit (sizeOf f)) (length (written f d))) (Refused (refusal AboveLimit 0)) (Bits (length (written f d))))
+    (Refused (refusal Invalid 0)))
+    (Refused (refusal Length 0))
+
+-- "It fills the output's last started byte with zeros and touches nothing after."
+abbrev pub filled : List ℕ → List Bit → List ℕ
+filled out bits = bytesOf (started (length bits)) bits ++ drop (started (length bits)) out
+
+-- what a valid description's bits leave there: above the limit, nothing is touched
+abbrev pub filledWithin : Format → Flat → List ℕ → List ℕ
+filledWithin f d out = pick (ltb (limit (sizeOf f)) (length (written f d))) out (filled out (written f d))
+
+-- a refusal touches nothing at all
+unfoldable pub leaves : List ℕ → List Bit → Written → List ℕ
+leaves out bits (Bits n) = filled out bits
+leaves out bits (Refused r) = out
+
+abbrev pub outputOf : Format → Flat → List ℕ → List ℕ
+outputOf f d out = leaves out (written f d) (writeOf f d (length out))
+
+-- what `write` promises of its answer, and of what it leaves in the output
+abbrev pub WriteSays : Format → Flat → List ℕ → Written → Type 0
+WriteSays f d out answer = answer ≡ writeOf f d (length out)
+
+abbrev pub WriteLeaves : Format → Flat → List ℕ → List ℕ → Type 0
+WriteLeaves f d out left = left ≡ outputOf f d out

@@ -1,0 +1,13 @@
+pub mod Block
+pub mod Choice
+pub mod Floor
+pub mod Integer
+pub mod Linear
+pub mod Lists
+pub mod Row
+pub mod Rows
+pub mod Splice
+pub mod Sum
+pub mod Table
+pub mod Tabulate
+pub mod Zeros

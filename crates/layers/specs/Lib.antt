@@ -1,4 +1,0 @@
-pub mod Vector
-pub mod Grammar
-pub mod Answer
-pub mod Layers

@@ -1,0 +1,9 @@
+pub mod Levels
+pub mod Spread
+pub mod Blocks
+pub mod Walk
+pub mod Described
+pub mod Pictured
+pub mod LaidOut
+pub mod Relaid
+pub mod EveryAt

@@ -1,1 +1,0 @@
-// What all of it comes to: theorems alone, about the definitions that the promises of the crates below cite.

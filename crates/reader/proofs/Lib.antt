@@ -1,5 +1,0 @@
-pub mod MacroblocksTurn
-pub mod GroupsTurn
-pub mod PictureTurn
-pub mod ParseSteps
-pub mod ReadSteps

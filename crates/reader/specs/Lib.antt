@@ -1,4 +1,0 @@
-pub mod Blank
-pub mod Described
-pub mod ReadOf
-pub mod Verdict

@@ -1,0 +1,65 @@
+-- What is known of a block that passed the checks, and of what it comes to. Assumes nothing.
+use Prim.Native.Nat.{ℕ, _+_, _*_, _≤_}
+use mathlib.Core.Path.{_≡_, refl, ap, _∙_}
+use mathlib.Core.Bool.{Bool, true, false}
+use mathlib.Core.List.{List}
+use native.Mathlib.Omega.{arith}
+use borrow.Author.Tests.{eqb-true}
+use lib.Dec.{eqb}
+use lib.ListN.{length}
+use Rattle.laws.specs.Choice.{pick, alike}
+use Rattle.laws.proofs.Choice.{two-of}
+use Rattle.refusals.specs.declared.Reason.the-variants.{UntrueMark}
+use Rattle.refusals.specs.Number.{refusal}
+use Rattle.size.specs.declared.Size.{Size}
+use Rattle.size.specs.declared.Size.the-variants.{SubQcif, Qcif, Cif}
+use Rattle.size.specs.Size.{storeLength, collectionLength}
+use Rattle.coding.specs.declared.Kind.{Kind}
+use Rattle.coding.specs.Coding.{Found, accepted, refused, Coding}
+use Rattle.coding.specs.Kind.{kindSize}
+use Rattle.vault.specs.declared.Header.{Header}
+use Rattle.vault.specs.declared.Checked.the-variants.{Good}
+use Rattle.vault.specs.Block.{greatestPart, judgeOf}
+use Rattle.vault.proofs.Judged.{Sound, judged-good, good-sound}
+use Rattle.vault.specs.Parts.{placed}
+use Rattle.standing.specs.declared.Receiver.{Receiver}
+use Rattle.standing.specs.Receive.{markOf, failed, finished, named, ended, collected}
+use Rattle.receiver.specs.Receiving.{Ready}
+
+greatest : (size : Size) (part : ℕ) → part ≤ greatestPart size → (part ≤ 65) × (500 * part + 500 ≤ collectionLength size)
+greatest SubQcif part l = (omega arith, omega arith)
+greatest Qcif part l = (omega arith, omega arith)
+greatest Cif part l = (omega arith, omega arith)
+
+pub ready : {size : Size} (kind : Kind) (clip : ℕ) (header : Header) (block collection first second : List ℕ) → size ≡ kindSize kind
+    → named size (length collection) (length first) (length second) ≡ true → judgeOf size clip block ≡ Good header → Ready kind header block collection first second
+ready {size} kind clip header block collection first second is l g =
+    let sound : Sound size block header = good-sound size block header (judged-good size clip block header g .0) in
+    let longs = two-of (eqb (length collection) (collectionLength size)) _ l in
+    let both-long = two-of (eqb (length first) (storeLength size)) (eqb (length second) (storeLength size)) (longs .1) in
+    let c : length collection ≡ collectionLength size = eqb-true _ _ (longs .0) in
+    let stored : storeLength size ≡ storeLength (kindSize kind) = ap storeLength is in
+    let most = greatest size (header .part) (sound .part-is) in
+    record {
+      block-long = sound .long;
+      room = omega (arith, most .1, c);
+      fitting = record {
+        picture-is = sound .picture-is;
+        part-is = most .0;
+        used-is = sound .used-most;
+        first-long = eqb-true _ _ (both-long .0) ∙ stored;
+        second-long = eqb-true _ _ (both-long .1) ∙ stored;
+      };
+    }
+
+module _ {D : Type 0} (coding : Kind → Coding D) where
+  -- a last part is collected, whatever is found
+  pub ended-collects : (r : Receiver) (header : Header) (block collection : List ℕ) (found : Found D)
+      → collected block collection (ended coding r header found) ≡ placed block (header .part) collection
+  unfolding ended
+  ended-collects r header block collection (refused why) = refl
+  ended-collects r header block collection (accepted d) = either-way (alike (coding (r .kind) .refresh d) (markOf (r .progress) header))
+    where
+      either-way : (b : Bool) → collected block collection (pick b (finished header d) (failed header (refusal UntrueMark 0))) ≡ placed block (header .part) collection
+      either-way true = refl
+      either-way false = refl

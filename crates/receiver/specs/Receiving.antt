@@ -1,0 +1,51 @@
+-- What `receive` promises, and what is known on the way: of a block that passed the checks, and of what a last part comes to. Assumes nothing.
+use Prim.Native.Nat.{ℕ, _+_, _*_, _≤_, _<_}
+use mathlib.Core.Path.{_≡_}
+use mathlib.Core.Bool.{true}
+use mathlib.Core.List.{List}
+use lib.ListN.{length}
+use Rattle.size.specs.Size.{storeLength}
+use Rattle.coding.specs.declared.Kind.{Kind}
+use Rattle.coding.specs.Coding.{Coding}
+use Rattle.layout.specs.Flat.{Flat}
+use Rattle.coding.specs.Kind.{kindSize, codingOf}
+use Rattle.coding.specs.Described.{BlankFor}
+use Rattle.vault.specs.declared.Header.{Header}
+use Rattle.standing.specs.Stores.{Stores}
+use Rattle.standing.specs.declared.Receiver.{Receiver}
+use Rattle.standing.specs.declared.Received.{Received}
+use Rattle.standing.specs.Receive.{Event, Buffers, Outcome, answerOf, advance, storedBy, received, step}
+
+-- what `receive` promises of a call: what it gives back and leaves in the buffers
+abbrev pub ReceiveDoes : Receiver → List ℕ → Buffers → Outcome → Type 0
+ReceiveDoes r block b x = x ≡ step codingOf r block b
+
+-- the header of a good block, and two stores of their named length
+pub record Fitting (kind : Kind) (header : Header) (first second : List ℕ) : Type 0 where
+  pub picture-is : header .picture < 4096
+  pub part-is : header .part ≤ 65
+  pub used-is : header .used ≤ 4000
+  pub first-long : length first ≡ storeLength (kindSize kind)
+  pub second-long : length second ≡ storeLength (kindSize kind)
+
+-- a good block of the clip, and buffers of their named lengths: the part has its room
+pub record Ready (kind : Kind) (header : Header) (block collection first second : List ℕ) : Type 0 where
+  pub block-long : length block ≡ 512
+  pub room : 500 * header .part + 500 ≤ length collection
+  pub fitting : Fitting kind header first second
+
+-- a last part, and scratch to read its picture into
+pub record Readable (kind : Kind) (header : Header) (head macroblocks levels first second : List ℕ) : Type 0 where
+  pub blank : BlankFor kind head macroblocks levels
+  pub fitting : Fitting kind header first second
+
+-- a last part whose picture is accepted
+pub record Settleable (kind : Kind) (header : Header) (d : Flat) (first second : List ℕ) : Type 0 where
+  pub valid-is : codingOf kind .valid d ≡ true
+  pub fitting : Fitting kind header first second
+
+module _ {D : Type 0} (coding : Kind → Coding D) where
+  -- what a last part gives back and leaves in the stores
+  pub record Settles (r : Receiver) (s : Stores) (e : Event D) (x : Received) (t : Stores) : Type 0 where
+    pub gave : x ≡ received (answerOf e) (advance r e)
+    pub left : t ≡ storedBy coding r s e

@@ -1,0 +1,4 @@
+pub mod Content
+pub mod Wrote
+pub mod Ready
+pub mod Reference

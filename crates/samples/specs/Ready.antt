@@ -1,0 +1,46 @@
+-- What drawing wants of its caller: room in the lent slices, and numbers in their ranges. Assumes nothing.
+use mathlib.Core.Path.{_≡_}
+use mathlib.Core.List.{List}
+use Prim.Native.Nat.{ℕ, _+_, _≤_, _<_}
+use lib.IntN.{ℤ}
+use Rattle.laws.specs.Rows.{Room}
+use Rattle.size.specs.declared.Size.{Size}
+use Rattle.size.specs.Size.{storeLength}
+use Rattle.size.specs.Place.{macroblocksAcross, macroblocksDown, wide, high}
+use Rattle.quantiser.specs.Lines.{Small}
+use Rattle.quantiser.specs.Sample.{Samples}
+
+-- row y, column x of plane p is one of the picture
+pub record Inside (f : Size) (p y x : ℕ) : Type 0 where
+  pub plane : p < 3
+  pub row : y < high f p
+  pub column : x < wide f p
+
+-- n rows of n samples, a stride apart, can be put at `to` in a store of this length: they lie in it, and none meets another
+pub record Fits (n to stride size : ℕ) : Type 0 where
+  pub apart : n ≤ stride
+  pub room : Room n n to stride size
+
+-- n rows of n samples can be copied from one place to another
+pub record Copies (n from read to written stride : ℕ) : Type 0 where
+  pub most : n ≤ 16
+  pub source : Room n n from stride read
+  pub target : Fits n to stride written
+
+-- two blocks whose sums are samples once they are cut
+pub record Addends (prediction difference : List (List ℤ)) : Type 0 where
+  pub samples : Samples prediction
+  pub small : Small 256 difference
+
+-- so many levels from `at` on, of a slice of this length, under a quantiser
+pub record Coded (count at quantiser size : ℕ) : Type 0 where
+  pub room : at + count ≤ size
+  pub least : 1 ≤ quantiser
+  pub most : quantiser ≤ 31
+
+-- a reference and a store of these lengths, and a row and a column of macroblocks
+pub record Ready (f : Size) (r c n m : ℕ) : Type 0 where
+  pub reference : n ≡ storeLength f
+  pub store : m ≡ storeLength f
+  pub row : r < macroblocksDown f
+  pub column : c < macroblocksAcross f

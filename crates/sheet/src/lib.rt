@@ -1,0 +1,1 @@
+// Theorems alone: the proof sheet of document 01. Assumes nothing.

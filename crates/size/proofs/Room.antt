@@ -1,0 +1,18 @@
+-- Parts of arrays that have room for every size. Assumes nothing.
+use mathlib.Core.Path.{_≡_, sym}
+use mathlib.Core.List.{List}
+use Prim.Native.Nat.{ℕ, _≤_}
+use native.Mathlib.Omega.{arith}
+use lib.ListN.{length, take}
+use lib.Seq.{length-take-le}
+use Rattle.size.specs.declared.Size.{Size}
+use Rattle.size.specs.declared.Size.the-variants.{SubQcif, Qcif, Cif}
+use Rattle.size.specs.Size.{storeLength}
+
+pub part-long : {n : ℕ} (array : List ℕ) → n ≤ length array → n ≡ length (take n array)
+part-long {n} array l = sym (length-take-le n array l)
+
+pub store-most : (f : Size) → storeLength f ≤ 152064
+store-most SubQcif = omega arith
+store-most Qcif = omega arith
+store-most Cif = omega arith

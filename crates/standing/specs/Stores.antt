@@ -1,0 +1,51 @@
+-- The two lent stores of a receiver or a sender. Document 01: "A finished picture goes into the store that doesn't hold the last finished one, at first into the first
+-- store; the other is the reference." Assumes nothing.
+use Prim.Native.Nat.{ℕ}
+use mathlib.Core.Bool.{Bool}
+use mathlib.Core.List.{List, []}
+use lib.Dec.{eqb}
+use lib.ListN.{length}
+use Rattle.laws.specs.Choice.{pick, both}
+use Rattle.size.specs.declared.Size.{Size}
+use Rattle.size.specs.Size.{storeLength}
+use Rattle.standing.specs.declared.Holder.{Holder}
+use Rattle.standing.specs.declared.Holder.the-variants.{Neither, First, Second}
+
+pub record Stores : Type 0 where
+  pub first : List ℕ
+  pub second : List ℕ
+
+abbrev pub stores : List ℕ → List ℕ → Stores
+stores first second = record { first = first; second = second }
+
+-- both have their named length
+abbrev pub sized : Size → ℕ → ℕ → Bool
+sized size first second = both (eqb first (storeLength size)) (eqb second (storeLength size))
+
+-- "goes into the store that doesn't hold the last finished one, at first into the first store"
+abbrev pub goesInto : Holder → Holder
+goesInto Neither = First
+goesInto First = Second
+goesInto Second = First
+
+-- "the other is the reference"
+abbrev pub reference : Holder → Stores → List ℕ
+reference Neither s = s .second
+reference First s = s .first
+reference Second s = s .second
+
+-- the stores once this picture is finished
+abbrev pub kept : Holder → List ℕ → Stores → Stores
+kept Neither picture s = stores picture (s .second)
+kept First picture s = stores (s .first) picture
+kept Second picture s = stores picture (s .second)
+
+-- the last finished picture
+abbrev pub last : Holder → Stores → List ℕ
+last Neither s = []
+last First s = s .first
+last Second s = s .second
+
+-- what is handed back of it: nothing where a store hasn't its named length
+abbrev pub shown : Size → Holder → Stores → List ℕ
+shown size holder s = pick (sized size (length (s .first)) (length (s .second))) (last holder s) []

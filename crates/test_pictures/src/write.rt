@@ -1,0 +1,118 @@
+// Pictures written: a record goes on with the output's length in four bytes and the description. Every byte of the output is 165 before. Lines: "written N CHECK" and
+// "refused NUMBER CHECK" with the check of the output; "not read back" where reading N bits of it doesn't give the description again.
+use crate::BEFORE;
+use checks::Description;
+use checks::part;
+use h261_groups::Format;
+use h261_writer::Written;
+use refusals::Verdict;
+
+// Whether the bits are read as this description, into lent scratch.
+fn gives(
+    bytes: &[u8],
+    count: usize,
+    format: Format,
+    head: &[u8],
+    macroblocks: &[u8],
+    levels: &[u8],
+    head_read: &mut [u8],
+    macroblocks_read: &mut [u8],
+    levels_read: &mut [u8],
+) -> bool {
+    let verdict = h261_reader::read(
+        bytes,
+        count,
+        format,
+        head_read,
+        macroblocks_read,
+        levels_read,
+    );
+    match verdict {
+        Verdict::Refused(_) => false,
+        Verdict::Accepted => {
+            text::same(head, head_read)
+                && text::same(macroblocks, macroblocks_read)
+                && text::same(levels, levels_read)
+        }
+    }
+}
+
+fn reads_back(
+    bytes: &[u8],
+    count: usize,
+    format: Format,
+    head: &[u8],
+    macroblocks: &[u8],
+    levels: &[u8],
+) -> bool {
+    let mut head_read = [0u8; 15];
+    let mut macroblocks_read = [0u8; 1584];
+    let mut levels_read = [0u8; 152064];
+    let heads = part(h261_groups::head_length(format), &head_read);
+    let fields = part(h261_groups::macroblocks_length(format), &macroblocks_read);
+    let coefficients = part(h261_groups::levels_length(format), &levels_read);
+    gives(
+        bytes,
+        count,
+        format,
+        head,
+        macroblocks,
+        levels,
+        &mut head_read[..heads],
+        &mut macroblocks_read[..fields],
+        &mut levels_read[..coefficients],
+    )
+}
+
+fn say(format: Format, head: &[u8], macroblocks: &[u8], levels: &[u8], out: &mut [u8]) {
+    let written = h261_writer::write(head, macroblocks, levels, format, out);
+    match written {
+        Written::Bits(count) => {
+            if reads_back(out, count, format, head, macroblocks, levels) {
+                checks::say(b"written");
+                checks::say_number(count as u64);
+                checks::say_check(out);
+                checks::say(b"\n");
+            } else {
+                checks::say(b"not read back\n");
+            }
+        }
+        Written::Refused(why) => {
+            checks::say_refusal(why);
+            checks::say_check(out);
+            checks::say(b"\n");
+        }
+    }
+}
+
+// The rest of a record, and whether to go on.
+pub fn one(format: Format) -> bool {
+    let mut start = [0u8; 4];
+    if !checks::fills(&mut start) {
+        return false;
+    }
+    let mut out = [BEFORE; 33792];
+    let outs = checks::four(start[0], start[1], start[2], start[3]);
+    let room = part(outs, &out);
+    if room < outs {
+        return false;
+    }
+    let mut head = [0u8; 64];
+    let mut macroblocks = [0u8; 2048];
+    let mut levels = [0u8; 153600];
+    let described = checks::next_description(&mut head, &mut macroblocks, &mut levels);
+    let Description::Lengths(heads, fields, coefficients) = described else {
+        return false;
+    };
+    let headed = part(heads, &head);
+    let fielded = part(fields, &macroblocks);
+    let levelled = part(coefficients, &levels);
+    say(
+        format,
+        &head[..headed],
+        &macroblocks[..fielded],
+        &levels[..levelled],
+        &mut out[..room],
+    );
+    true
+}

@@ -1,0 +1,50 @@
+-- The lines that programs write on standard error, byte by byte. Assumes nothing.
+use Prim.Native.Nat.{ℕ}
+use mathlib.Core.List.{List, [], _∷_, _++_}
+use Rattle.refusals.specs.declared.Refusal.{Refusal}
+use Rattle.refusals.specs.Number.{number}
+use Rattle.text.specs.Text.{decimal, refusalText}
+
+-- "blocks "
+abbrev pub blocksWord : List ℕ
+blocksWord = 98 ∷ 108 ∷ 111 ∷ 99 ∷ 107 ∷ 115 ∷ 32 ∷ []
+
+-- " to "
+abbrev pub toWord : List ℕ
+toWord = 32 ∷ 116 ∷ 111 ∷ 32 ∷ []
+
+-- " not in step", and a line's end
+abbrev pub outOfStep : List ℕ
+outOfStep = 32 ∷ 110 ∷ 111 ∷ 116 ∷ 32 ∷ 105 ∷ 110 ∷ 32 ∷ 115 ∷ 116 ∷ 101 ∷ 112 ∷ 10 ∷ []
+
+-- a stretch that was not in step: "blocks 3 to 7 not in step"
+unfoldable pub stretchText : ℕ → ℕ → List ℕ
+stretchText from to = blocksWord ++ decimal from ++ toWord ++ decimal to ++ outOfStep
+
+-- " pictures", and a line's end
+abbrev pub picturesWord : List ℕ
+picturesWord = 32 ∷ 112 ∷ 105 ∷ 99 ∷ 116 ∷ 117 ∷ 114 ∷ 101 ∷ 115 ∷ 10 ∷ []
+
+-- how many there were: "12 pictures"
+unfoldable pub countText : ℕ → List ℕ
+countText count = decimal count ++ picturesWord
+
+-- "byte "
+abbrev pub byteWord : List ℕ
+byteWord = 98 ∷ 121 ∷ 116 ∷ 101 ∷ 32 ∷ []
+
+-- a refused picture, by the byte in which its start code begins: "byte 40: refused 8 at 311"
+unfoldable pub refusedText : ℕ → Refusal → List ℕ
+refusedText offset why = byteWord ++ decimal offset ++ (58 ∷ []) ++ refusalText (number (why .reason)) (why .place) ++ (10 ∷ [])
+
+-- back to the line's beginning, and what it shows cleared
+abbrev pub cleared : List ℕ
+cleared = 13 ∷ 27 ∷ 91 ∷ 75 ∷ []
+
+-- " pictures, byte "
+abbrev pub picturesByte : List ℕ
+picturesByte = 32 ∷ 112 ∷ 105 ∷ 99 ∷ 116 ∷ 117 ∷ 114 ∷ 101 ∷ 115 ∷ 44 ∷ 32 ∷ 98 ∷ 121 ∷ 116 ∷ 101 ∷ 32 ∷ []
+
+-- how many pictures of a stream have been sent, and the byte in which the last one's start code begins: "12 pictures, byte 45678"
+unfoldable pub progressText : ℕ → ℕ → List ℕ
+progressText pictures offset = cleared ++ decimal pictures ++ picturesByte ++ decimal offset

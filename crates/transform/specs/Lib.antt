@@ -1,5 +1,0 @@
-pub mod Cut
-pub mod Lines
-pub mod Level
-pub mod Sample
-pub mod Filter

@@ -1,0 +1,185 @@
+-- What a judgement says: a block of a header within the rules and a clear payload is good, with that header; and what holds of a good block.
+-- Assumes nothing.
+use mathlib.Core.Path.{_≡_, refl, sym, ap, _∙_}
+use mathlib.Core.Bool.{Bool, true, false, false≢true}
+use mathlib.Core.List.{List, [], _∷_, _++_, append-assoc}
+use Prim.Native.Nat.{ℕ, _+_, _*_, _/_, _%_, _≤_, _<_}
+use native.Mathlib.Omega.{arith}
+use lib.ListN.{length, take}
+use lib.Seq.{take-at}
+use lib.Dec.{eqb, leb}
+use borrow.Author.Tests.{leb-true, ltb-true, eqb-true, eq-eqb}
+use Rattle.laws.specs.Choice.{pick, both, either}
+use Rattle.laws.proofs.Choice.{two-of, if-so}
+use Rattle.laws.proofs.Splice.{getD-past}
+use Rattle.size.specs.declared.Size.{Size}
+use Rattle.refusals.specs.declared.Reason.{Reason}
+use Rattle.refusals.specs.declared.Refusal.{Refusal}
+use Rattle.refusals.specs.Number.{refusal}
+use Rattle.vault.specs.declared.Header.{Header}
+use Rattle.vault.specs.declared.Checked.{Checked}
+use Rattle.vault.specs.declared.Checked.the-variants.{Good, Refused}
+use Rattle.vault.specs.Block.{twoBytes, pairAt, headerOf, payloadOf, zerosOf, checkSumOf, marksOf, pictures, greatestPart, clipRule, pictureRule, partRule, refreshRule, usedRule, ruled, clear, follows, sumOf, refusedBy, checkOf, ofClip, judgeOf, bit, headBytes, bodyFor, blockFor}
+use Rattle.vault.proofs.Made.{before-zeros, body-length, block-length, sum-body}
+
+-- ---- a block that was made
+-- the number of a number's two bytes
+pub pair-back : (n : ℕ) → 256 * (n / 256) + n % 256 ≡ n
+pair-back n = omega arith
+
+last-back : (last refresh : Bool) → eqb ((bit last + 2 * bit refresh) % 2) 1 ≡ last
+last-back true true = refl
+last-back true false = refl
+last-back false true = refl
+last-back false false = refl
+
+refresh-back : (last refresh : Bool) → eqb ((bit last + 2 * bit refresh) / 2 % 2) 1 ≡ refresh
+refresh-back true true = refl
+refresh-back true false = refl
+refresh-back false true = refl
+refresh-back false false = refl
+
+two-marks : (last refresh : Bool) → leb (bit last + 2 * bit refresh) 3 ≡ true
+two-marks true true = refl
+two-marks true false = refl
+two-marks false true = refl
+two-marks false false = refl
+
+module _ (header : Header) (payload : List ℕ) (e : length payload ≡ 500) where
+  abbrev made : List ℕ
+  made = blockFor header payload
+
+  pub made-header : headerOf made ≡ header
+  unfolding blockFor bodyFor
+  made-header = λ i. record {
+    clip = pair-back (header .clip) i;
+    picture = pair-back (header .picture) i;
+    part = header .part;
+    last = last-back (header .last) (header .refresh) i;
+    refresh = refresh-back (header .last) (header .refresh) i;
+    used = pair-back (header .used) i;
+  }
+
+  made-marks : leb (marksOf made) 3 ≡ true
+  unfolding blockFor bodyFor
+  made-marks = two-marks (header .last) (header .refresh)
+
+  pub made-payload : payloadOf made ≡ payload
+  unfolding blockFor bodyFor
+  made-payload = ap (take 500) (append-assoc payload (0 ∷ 0 ∷ []) _) ∙ take-at payload _ 500 e
+
+  made-zeros : zerosOf made ≡ 0
+  unfolding blockFor bodyFor
+  made-zeros =
+      let end : List ℕ = 0 ∷ 0 ∷ twoBytes (sumOf (bodyFor header payload)) in
+      ap (λ (block : List ℕ). pairAt block 508) (append-assoc (headBytes header ++ payload) (0 ∷ 0 ∷ []) (twoBytes (sumOf (bodyFor header payload))))
+      ∙ (λ i. 256 * getD-past (headBytes header ++ payload) end 508 0 0 (before-zeros header payload e) i
+      + getD-past (headBytes header ++ payload) end 508 1 0 (before-zeros header payload e) i)
+
+  made-sum : sumOf made ≡ checkSumOf made
+  unfolding blockFor
+  made-sum =
+      let s : ℕ = sumOf (bodyFor header payload) in
+      sum-body header payload e (twoBytes s) ∙ sym (pair-back s)
+      ∙ sym (λ i. 256 * getD-past (bodyFor header payload) (twoBytes s) 510 0 0 (body-length header payload e) i
+      + getD-past (bodyFor header payload) (twoBytes s) 510 1 0 (body-length header payload e) i)
+
+-- every test passed
+passed : (size : Size) (block : List ℕ) (header : Header) → length block ≡ 512 → sumOf block ≡ checkSumOf block → follows size block ≡ true
+    → headerOf block ≡ header → checkOf size block ≡ Good header
+unfolding checkOf
+passed size block header l s f h = rw (eq-eqb (length block) 512 l, eq-eqb (sumOf block) (checkSumOf block) s, f) (ap Good h)
+
+pub both-true : {a b : Bool} → a ≡ true → b ≡ true → both a b ≡ true
+both-true p q = rw p q
+
+-- a block of a header within the rules and a clear payload is good, and its header is that one
+pub made-good : (size : Size) (header : Header) (payload : List ℕ) → length payload ≡ 500 → ruled size header ≡ true
+    → clear (header .used) payload 500 ≡ true → checkOf size (blockFor header payload) ≡ Good header
+unfolding follows
+made-good size header payload e r k =
+    passed size (blockFor header payload) header (block-length header payload e) (made-sum header payload e) rules (made-header header payload e)
+  where
+    rules : follows size (blockFor header payload) ≡ true
+    rules =
+        both-true (ap (ruled size) (made-header header payload e) ∙ r)
+        (both-true (made-marks header payload e)
+        (both-true ((λ i. clear (made-header header payload e i .used) (made-payload header payload e i) 500) ∙ k)
+        (eq-eqb (zerosOf (blockFor header payload)) 0 (made-zeros header payload e))))
+
+-- ---- a block that is good
+pub record Sound (size : Size) (block : List ℕ) (header : Header) : Type 0 where
+  pub long : length block ≡ 512
+  pub header-is : headerOf block ≡ header
+  pub clip-is : 1 ≤ header .clip
+  pub picture-is : header .picture < pictures
+  pub part-is : header .part ≤ greatestPart size
+  pub refresh-is : header .refresh ≡ true → header .part ≡ 0
+  pub used-is : 1 ≤ header .used
+  pub used-most : header .used ≤ 4000
+  pub used-full : header .last ≡ false → header .used ≡ 4000
+
+unless : (a b : Bool) → either a b ≡ true → a ≡ false → b ≡ true
+unless true b e f = absurd (false≢true (sym f))
+unless false b e f = e
+
+never : (refusal : Refusal) (header : Header) → Refused refusal ≡ Good header → ⊥
+never refusal header e = let z : _≡_ {A = ℕ} 0 1 = cc in omega arith
+
+-- a test whose failure refuses
+good-of : (t : Bool) (x : Checked) (reason : Reason) (header : Header) → pick t x (refusedBy reason) ≡ Good header → (t ≡ true) × (x ≡ Good header)
+good-of true x reason header e = (refl, e)
+good-of false x reason header e = absurd (never (refusal reason 0) header e)
+
+good-inside : (g h : Header) → Good g ≡ Good h → g ≡ h
+good-inside g h e = cc
+
+rules-of : (size : Size) (block : List ℕ) (header : Header) → length block ≡ 512 → headerOf block ≡ header → ruled size header ≡ true
+    → Sound size block header
+unfolding ruled
+rules-of size block header l h r =
+    let clip = two-of (clipRule header) _ r in
+    let picture = two-of (pictureRule header) _ (clip .1) in
+    let part = two-of (partRule size header) _ (picture .1) in
+    let refresh = two-of (refreshRule header) (usedRule header) (part .1) in
+    let used = two-of (leb 1 (header .used)) _ (refresh .1) in
+    let most = two-of (leb (header .used) 4000) _ (used .1) in
+    record {
+      long = l;
+      header-is = h;
+      clip-is = leb-true 1 (header .clip) (clip .0);
+      picture-is = ltb-true (header .picture) pictures (picture .0);
+      part-is = leb-true (header .part) (greatestPart size) (part .0);
+      refresh-is = λ m. eqb-true (header .part) 0 (if-so (header .refresh) (eqb (header .part) 0) (refresh .0) m);
+      used-is = leb-true 1 (header .used) (used .0);
+      used-most = leb-true (header .used) 4000 (most .0);
+      used-full = λ m. eqb-true (header .used) 4000 (unless (header .last) (eqb (header .used) 4000) (most .1) m);
+    }
+
+pub good-sound : (size : Size) (block : List ℕ) (header : Header) → checkOf size block ≡ Good header → Sound size block header
+unfolding checkOf follows
+good-sound size block header e =
+    let long = good-of (eqb (length block) 512) _ _ header e in
+    let sum = good-of (eqb (sumOf block) (checkSumOf block)) _ _ header (long .1) in
+    let rules = good-of (follows size block) _ _ header (sum .1) in
+    let same = good-inside (headerOf block) header (rules .1) in
+    rules-of size block header (eqb-true (length block) 512 (long .0)) same
+    (ap (ruled size) (sym same) ∙ two-of (ruled size (headerOf block)) _ (rules .0) .0)
+
+-- ---- of one clip
+own-clip : (clip : ℕ) (found : Checked) (header : Header) → ofClip clip found ≡ Good header → (found ≡ Good header) × (header .clip ≡ clip)
+own-clip clip (Good found) header e =
+    let same = good-of (eqb (found .clip) clip) (Good found) _ header e in
+    (same .1, sym (ap (λ (h : Header). h .clip) (good-inside found header (same .1))) ∙ eqb-true (found .clip) clip (same .0))
+own-clip clip (Refused refusal) header e = absurd (never refusal header e)
+
+pub judged-good : (size : Size) (clip : ℕ) (block : List ℕ) (header : Header) → judgeOf size clip block ≡ Good header
+    → (checkOf size block ≡ Good header) × (header .clip ≡ clip)
+unfolding judgeOf
+judged-good size clip block header e = own-clip clip (checkOf size block) header e
+
+pub good-judged : (size : Size) (block : List ℕ) (header : Header) → checkOf size block ≡ Good header
+    → judgeOf size (header .clip) block ≡ Good header
+unfolding judgeOf
+good-judged size block header e =
+    ap (ofClip (header .clip)) e ∙ rw (eq-eqb (header .clip) (header .clip) refl)

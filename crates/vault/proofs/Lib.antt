@@ -1,0 +1,6 @@
+pub mod Clear
+pub mod Collected
+pub mod Cut
+pub mod Judged
+pub mod KeptLaws
+pub mod Made

@@ -1,3 +1,0 @@
-pub mod Outcomes
-pub mod Codewords
-pub mod TypeSays

@@ -1,9 +1,0 @@
-use Rattle.words.proofs.Codewords.{end-writes}
-use Rattle.words.proofs.end_codeword.Statement.{statement}
-use Rattle.words.proofs.end_codeword.Tie as tie
-
-returns : tie.Need-returns
-returns c = end-writes
-
-pub end-codeword-spec : {M : Type 1} → statement M
-end-codeword-spec = tie.close (tie.spec returns)

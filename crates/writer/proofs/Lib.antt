@@ -1,4 +1,0 @@
-pub mod BlockTurn
-pub mod MacroblockSteps
-pub mod GroupTurn
-pub mod WriteSteps

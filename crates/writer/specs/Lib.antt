@@ -1,4 +1,0 @@
-pub mod Write
-pub mod Put
-pub mod Sound
-pub mod Output

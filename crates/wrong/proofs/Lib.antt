@@ -1,0 +1,6 @@
+pub mod WrongPrograms
+pub mod Whole
+pub mod Example
+pub mod Renumbering
+pub mod Single
+pub mod WrongReceivers

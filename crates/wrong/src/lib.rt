@@ -1,0 +1,1 @@
+// Theorems alone: the wrong programs that document 01 names. Assumes nothing.
