@@ -18,6 +18,7 @@ use Rattle.h261_description.proofs.Pictured.{valid-lists}
 use Rattle.h261_reader.specs.Described.{Blank, described, verdictOf, zeros, laidOr}
 use Rattle.h261_writer.specs.Output.{written, filledWithin}
 use Rattle.h261_render.specs.Sample.{rendered}
+use Rattle.h261_render.specs.Turn.{PictureOf}
 use Rattle.coding.specs.declared.Kind.{Kind}
 use Rattle.coding.specs.Coding.{found}
 use Rattle.coding.specs.Kind.{formatOf, kindSize, codingOf}
@@ -79,11 +80,10 @@ module _ (k : Kind) {f : Format} (is : f ≡ formatOf k) where
   wrote-bytes d out e = e ∙ ap (λ (g : Format). filledWithin g d out) is
 
   -- ---- drawing
-  pub can-render : (d : Flat) (reference store : List ℕ) → Drawable k d reference store
-      → (T (valid f d)) × (length reference ≡ storeLength (sizeOf f)) × (length store ≡ storeLength (sizeOf f))
+  pub can-render : (d : Flat) (reference store : List ℕ) → Drawable k d reference store → PictureOf f d (length reference) (length store)
   can-render d reference store r =
       let size = sym (ap (λ (g : Format). storeLength (sizeOf g)) is) in
-      (is-valid d (r .valid-is), r .reference-long ∙ size, r .store-long ∙ size)
+      record { fine = is-valid d (r .valid-is); reference = r .reference-long ∙ size; store = r .store-long ∙ size }
 
   pub drew : (d : Flat) (reference : List ℕ) {store : List ℕ} → store ≡ rendered f d reference → store ≡ codingOf k .render d reference
   unfolding codingOf

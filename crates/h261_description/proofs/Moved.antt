@@ -9,9 +9,9 @@ use Rattle.h261_groups.specs.declared.Format.{Format}
 use Rattle.size.specs.Size.{width, height}
 use Rattle.h261_groups.specs.Format.{row, column, sizeOf}
 use Rattle.size.specs.Place.{macroblocksAcross, macroblocksDown, side, own}
-use Rattle.h261_groups.specs.Order.{macroblockCount, groupOf, addressOf, rowOf, columnOf}
+use Rattle.h261_groups.specs.Order.{macroblockCount, rowOf, columnOf}
 use Rattle.size.proofs.Grid.{width-is, height-is}
-use Rattle.h261_groups.proofs.Blocks.{row-at, column-at}
+use Rattle.h261_groups.proofs.Blocks.{groupOf, addressOf, row-at, column-at}
 use Rattle.layout.specs.Value.{Vector}
 use Rattle.h261_description.specs.Vector.{ahead, back, inside, inPicture}
 use Rattle.h261_description.specs.Moved.{Aims, halved, Points, moved}

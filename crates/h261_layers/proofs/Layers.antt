@@ -28,8 +28,8 @@ use Rattle.h261_groups.specs.declared.Format.{Format}
 use Rattle.h261_groups.specs.declared.Format.the-variants.{Qcif, Cif}
 use Rattle.h261_description.specs.Vector.{inRange, inPicture, Before, atStart, preceding}
 use Rattle.h261_description.specs.Value.{after}
-use Rattle.layout.specs.Proper.{If, Each, Fits, Begins, allEmpty}
-use Rattle.h261_description.specs.Proper.{ProperBlocks, ProperVector, ProperMacroblock, Rising, ProperGroup, ProperGroups, Proper}
+use Rattle.layout.specs.Proper.{If, Each, Fits, Begins, allEmpty, RisingTo}
+use Rattle.h261_description.specs.Proper.{ProperBlocks, ProperVector, ProperMacroblock, ProperGroup, ProperGroups, Proper}
 use Rattle.h261_layers.specs.Vector.{pairOf, landing, componentRead, componentsRead, vectorRead}
 use Rattle.fields.specs.Rules.{optional}
 use Rattle.h261_layers.specs.Grammar.{fits, coefficientsAfter, coefficients, dcRead, intraBlock, interBlock, blocksRead, patternRead, macroblock, Mba, step, stuffed, ended, mbaOf, mba, macroblocksAfter, macroblocksFrom, groupHead, group, groupsRead, ptypeOf, header, picture}
@@ -280,6 +280,10 @@ mba-reads last address = reads-judged (reads-word (leb 1) table1 table1-meanings
 -- in the last group no bit is left after the macroblocks
 abbrev pub Ended : Bool → List Bit → Type 0
 Ended last left = If last (left ≡ []) (Unit {0})
+
+-- proper macroblocks at rising addresses, past `last` and up to 33
+abbrev pub Rising : Format → ℕ → ℕ → List Macroblock → Type 0
+Rising f number = RisingTo (ProperMacroblock f number) 33
 
 macroblocks-after : {bound : ℕ} (more : Before → Reader (List Macroblock)) (f : Format) (last : Bool) (number : ℕ) (before : Before) (x : Mba)
     → ((before : Before) → Reads bound 0 (λ ms left. Rising f number (before .address) ms × Ended last left) (more before)) → Met last (before .address) x

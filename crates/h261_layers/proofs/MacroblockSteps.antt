@@ -20,7 +20,6 @@ use Rattle.h261_groups.specs.declared.Format.{Format}
 use Rattle.layout.specs.Value.{Vector, zeroVector}
 use Rattle.h261_description.specs.Vector.{Before, restarts, preceding}
 use Rattle.layout.specs.Numbers.{within}
-use Rattle.h261_layers.specs.Answer.{Typed}
 use Rattle.h261_layers.specs.Vector.{vectorRead}
 use Rattle.h261_layers.proofs.Layers.{typed}
 use Rattle.h261_layers.specs.Grammar.{Mba, step, stuffed, ended, mbaOf, mba, patternRead}
@@ -75,7 +74,11 @@ module _ (last : Bool) (address : ℕ) (bs : List Bit) (at : ℕ) (x : Read Mba)
   unfolding mba
   mba-other e h = rw e h
 
--- ---- a type of the table
+-- ---- a type of document 01's table
+pub record Typed (type : ℕ) : Type 0 where
+  pub low : 1 ≤ type
+  pub high : type ≤ 10
+
 pub typed-of : (t : ℕ) → T (typed t) → Typed t
 typed-of t h =
     let w = both-left (within 1 10 t) (pick (isIntra t) (opposite (hasCBP t)) true) h in

@@ -59,11 +59,6 @@ asVector s n (GotPair h v p) = got (vectorOf h v) (bitsLeft s n p) p
 asVector s n (NoPair r) = refused r
 
 -- ---- macroblocks
--- a type of document 01's table
-pub record Typed (type : ℕ) : Type 0 where
-  pub low : 1 ≤ type
-  pub high : type ≤ 10
-
 abbrev pub beforeOf : Behind → Before
 beforeOf b = record { address = b .address; vector = vectorOf (b .horizontal) (b .vertical) }
 

@@ -8,9 +8,9 @@ use refusals::Reason;
 use refusals::Refusal;
 ghost use mathlib.Core.Path.{_≡_};
 ghost use Rattle.bits.specs.Bits.{bitsLeft};
-ghost use Rattle.h261_groups.specs.Format.{column as columnOf, row as rowOf};
+ghost use Rattle.h261_groups.specs.Format.{Addressed, column as columnOf, row as rowOf};
 ghost use Rattle.h261_layers.specs.Answer.{Kept, componentOf, vectorOf, asComponent, asVector};
-ghost use Rattle.h261_layers.specs.Ready.{Reading, Addressed, VectorReady};
+ghost use Rattle.h261_layers.specs.Ready.{Reading, VectorReady};
 ghost use Rattle.h261_layers.specs.Vector.{componentRead, vectorRead};
 
 // One component: of a pair's two differences the one that lands in -15..15. Both are the same modulo 32.

@@ -18,10 +18,10 @@ use Rattle.h261_groups.specs.declared.Format.{Format}
 use Rattle.h261_description.specs.Vector.{atStart}
 use Rattle.layout.specs.Value.{Group}
 use Rattle.layout.specs.Numbers.{all, isQuantiser}
-use Rattle.h261_description.specs.Proper.{Rising, ProperGroups}
+use Rattle.h261_description.specs.Proper.{ProperGroups}
 use Rattle.fields.specs.Rules.{expect, spares, sparesFrom, sparesAfter}
 use Rattle.h261_layers.specs.Grammar.{macroblocksFrom, groupHead, group, none, groupsRead}
-use Rattle.h261_layers.proofs.Layers.{Ended}
+use Rattle.h261_layers.proofs.Layers.{Ended, Rising}
 use Rattle.h261_writer.specs.Write.{macroblocksOf, groupOf, groupsOf}
 use Rattle.h261_readback.proofs.Vectors.{ranged-zero}
 use Rattle.h261_readback.proofs.Macroblocks.{back-quantiser, ending, back-macroblocks, more-bits}

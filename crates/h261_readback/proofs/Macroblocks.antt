@@ -22,10 +22,10 @@ use Rattle.layout.specs.Value.{Macroblock}
 use Rattle.h261_description.specs.Value.{after}
 use Rattle.layout.specs.Numbers.{isQuantiser}
 use Rattle.layout.specs.Proper.{If}
-use Rattle.h261_description.specs.Proper.{ProperMacroblock, Rising}
+use Rattle.h261_description.specs.Proper.{ProperMacroblock}
 use Rattle.fields.specs.Rules.{quantiser, optional}
 use Rattle.h261_layers.specs.Grammar.{macroblock, step, ended, mbaOf, mba, macroblocksAfter, macroblocksFrom}
-use Rattle.h261_layers.proofs.Layers.{Ended}
+use Rattle.h261_layers.proofs.Layers.{Ended, Rising}
 use Rattle.h261_writer.specs.Write.{given, vectorOf, patternOf, blocksOf, macroblockOf, macroblocksOf}
 use Rattle.h261_readback.proofs.Words.{back-mba, length-mba, back-mtype}
 use Rattle.h261_readback.proofs.Blocks.{back-blocks, back-pattern}

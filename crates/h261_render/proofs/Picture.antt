@@ -25,9 +25,9 @@ use Rattle.h261_words.specs.Words.{isIntra, isMC, isFiltered, hasMQUANT}
 use Rattle.h261_groups.specs.declared.Format.{Format}
 use Rattle.h261_groups.specs.declared.Format.the-variants.{Qcif, Cif}
 use Rattle.h261_groups.specs.Format.{sizeOf}
-use Rattle.h261_groups.specs.Order.{macroblockCount, groupOf, addressOf, rowOf, columnOf, macroblockAt}
+use Rattle.h261_groups.specs.Order.{macroblockCount, rowOf, columnOf, macroblockAt}
 use Rattle.h261_groups.proofs.Numbers.{number-row, number-column, of-number, of-row, of-column}
-use Rattle.h261_groups.proofs.Blocks.{number-less}
+use Rattle.h261_groups.proofs.Blocks.{groupOf, addressOf, number-less}
 use Rattle.layout.specs.Value.{Vector}
 use Rattle.h261_description.specs.Vector.{inRange, inPicture}
 use Rattle.layout.specs.Flat.{Flat, numberOf}

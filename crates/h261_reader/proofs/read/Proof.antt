@@ -1,4 +1,4 @@
--- `reader::read` meets its contract: the scratch has room for either format. Assumes nothing.
+-- `h261_reader::read` meets its contract: the scratch has room for either format. Assumes nothing.
 use native.Mathlib.Omega.{arith}
 use borrow.Author.Tests.{not-true, not-false}
 use Rattle.size.proofs.Room.{part-long}

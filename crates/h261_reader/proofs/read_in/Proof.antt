@@ -1,4 +1,4 @@
--- `reader::read_in` meets its contract: what was parsed is copied on acceptance alone. Assumes nothing.
+-- `h261_reader::read_in` meets its contract: what was parsed is copied on acceptance alone. Assumes nothing.
 use mathlib.Core.Path.{sym, _∙_}
 use native.Mathlib.Omega.{arith}
 use Rattle.h261_reader.proofs.Blank.{blank-lengths}

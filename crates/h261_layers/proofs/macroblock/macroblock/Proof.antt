@@ -15,11 +15,11 @@ use Rattle.h261_words.specs.Tables.{table2}
 use Rattle.h261_words.specs.Words.{isMC, hasMQUANT}
 use Rattle.layout.specs.Value.{Vector, Macroblock}
 use Rattle.h261_description.specs.Vector.{Before}
-use Rattle.h261_layers.specs.Answer.{Typed, KeptVector, vectorOf, beforeOf, Sent, putSent}
+use Rattle.h261_layers.specs.Answer.{KeptVector, vectorOf, beforeOf, Sent, putSent}
 use Rattle.h261_layers.specs.Grammar.{patternRead, macroblock}
 use Rattle.h261_layers.proofs.Layers.{pattern-reads}
 use Rattle.h261_layers.proofs.Told.{row-vector, row-no-vector, row-vector-good}
-use Rattle.h261_layers.proofs.MacroblockSteps.{typed-of}
+use Rattle.h261_layers.proofs.MacroblockSteps.{Typed, typed-of}
 use Rattle.h261_layers.proofs.MacroblockWhole as row
 use Rattle.h261_layers.proofs.MacroblockWhole.{type-reads, mquant-reads, moved-reads, macroblock-begun, no-blocks, whole-macroblock, vector-kept, quantiser-small, small-byte}
 use Rattle.h261_layers.proofs.macroblock.macroblock.Statement.{statement}

@@ -10,7 +10,11 @@ render-requires c κs =
     let at-if2 = c .before .before .before in
     let at-if1 = at-if2 .before in
     let long = at-if1 .before .store-length .ensures in
-    (subst T (c .before .before .valid .ensures) (subst T (sym (c .before .if3 .taken)) tt), at-if1 .if1 .left ∙ long, at-if2 .if2 .left ∙ long)
+    record {
+      fine = subst T (c .before .before .valid .ensures) (subst T (sym (c .before .if3 .taken)) tt);
+      reference = at-if1 .if1 .left ∙ long;
+      store = at-if2 .if2 .left ∙ long;
+    }
 
 pub say-spec : {M : Type 1} → statement M
 say-spec =
