@@ -32,13 +32,13 @@ pub record AtInside (k : ℕ) : Type 0 where
   pub least : 1 ≤ k
   pub most : k ≤ 6
 
--- three numbers beside each other that aren't above what sums down a column are
+-- three numbers beside each other, none larger than four samples together
 pub record ThreeNumbers (a b c : ℤ) : Type 0 where
   pub before : Low 1020 a
   pub here : Low 1020 b
   pub after : Low 1020 c
 
--- three rows of samples
+-- three rows of samples, one under another
 pub record ThreeRows (a b c : List ℤ) : Type 0 where
   pub above : SmallRow 255 a
   pub here : SmallRow 255 b
