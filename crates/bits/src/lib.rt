@@ -6,18 +6,13 @@ ghost use Prim.Native.Nat.{_+_, _*_, _^_, _≤_, _<_};
 ghost use lib.ListN.{length, getD};
 ghost use Rattle.bits.specs.Bits.{bitsOf, value, bitsLeft};
 ghost use Rattle.bits.specs.Read.{field as fieldRead};
-ghost use Rattle.bits.specs.Answer.{Within, asField, asWord, fieldRefusal, wordRefusal};
+ghost use Rattle.bits.specs.Answer.{Within, asField, fieldRefusal};
 ghost use Rattle.bits.specs.Tree.{walkOf};
 ghost use Rattle.bits.specs.Write.{written};
 
-// "each read gives either a meaning with the next place or a refusal"
+// "each read gives either a meaning with the next place or a refusal": a field's number, or what a codeword means.
 pub enum FieldRead {
     Got(u32, usize),
-    Refused(Refusal),
-}
-
-pub enum WordRead {
-    Got(u16, usize),
     Refused(Refusal),
 }
 
@@ -31,19 +26,6 @@ pub fn field_refusal(read: FieldRead) -> Refusal
             place: at,
         },
         FieldRead::Refused(refusal) => refusal,
-    }
-}
-
-// The refusal of a codeword that was refused.
-pub fn word_refusal(read: WordRead) -> Refusal
-    ensures { λ r. ⌜ r ≡ wordRefusal read ⌝ }
-{
-    match read {
-        WordRead::Got(_, at) => Refusal {
-            reason: Reason::BitsEnd,
-            place: at,
-        },
-        WordRead::Refused(refusal) => refusal,
     }
 }
 
@@ -104,9 +86,9 @@ pub fn field(bytes: &[u8], count: usize, at: usize, width: usize) -> FieldRead
 
 // The codeword at `at` by a tree of depth 16 at most, over one window: node q has its two children at 2 q and 2 q + 1. A child is 0 (no
 // codeword goes that way), the number of a node below 256, or 256 more than a codeword's meaning.
-pub fn walk(tree: &[u16], root: usize, bytes: &[u8], count: usize, at: usize) -> WordRead
+pub fn walk(tree: &[u16], root: usize, bytes: &[u8], count: usize, at: usize) -> FieldRead
     requires { ⌜ (Within (now bytes) count at) × (root < 256) ⌝ }
-    ensures { λ r. ⌜ asWord (now (bytes .entry)) count r ≡ walkOf 16 (now (tree .entry)) root (bitsLeft (now (bytes .entry)) count at) at at ⌝ }
+    ensures { λ r. ⌜ asField (now (bytes .entry)) count r ≡ walkOf 16 (now (tree .entry)) root (bitsLeft (now (bytes .entry)) count at) at at ⌝ }
 {
     let bits = window(bytes, at);
     let left = count - at;
@@ -114,7 +96,7 @@ pub fn walk(tree: &[u16], root: usize, bytes: &[u8], count: usize, at: usize) ->
     let mut taken: usize = 0;
     while taken < 16 {
         if left <= taken {
-            return WordRead::Refused(Refusal {
+            return FieldRead::Refused(Refusal {
                 reason: Reason::BitsEnd,
                 place: at,
             });
@@ -123,25 +105,25 @@ pub fn walk(tree: &[u16], root: usize, bytes: &[u8], count: usize, at: usize) ->
         let bit = ((bits >> after) % 2) as usize;
         let i = node * 2 + bit;
         if tree.len() <= i {
-            return WordRead::Refused(Refusal {
+            return FieldRead::Refused(Refusal {
                 reason: Reason::NoCodeword,
                 place: at,
             });
         }
         let v = tree[i];
         if v == 0 {
-            return WordRead::Refused(Refusal {
+            return FieldRead::Refused(Refusal {
                 reason: Reason::NoCodeword,
                 place: at,
             });
         }
         taken += 1;
         if 256 <= v {
-            return WordRead::Got(v - 256, at + taken);
+            return FieldRead::Got((v - 256) as u32, at + taken);
         }
         node = v as usize;
     }
-    WordRead::Refused(Refusal {
+    FieldRead::Refused(Refusal {
         reason: Reason::NoCodeword,
         place: at,
     })

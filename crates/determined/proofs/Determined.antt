@@ -15,9 +15,8 @@ use Rattle.refusals.specs.Number.{refusal}
 use Rattle.bits.specs.Bits.{Bit, bitsOf}
 use Rattle.bits.specs.Read.{Read, got, endless, refused, field}
 use Rattle.bits.proofs.Fields.{field-back}
-use Rattle.bits.specs.Answer.{asField, asWord}
+use Rattle.bits.specs.Answer.{asField}
 use Rattle.bits.specs.declared.FieldRead.{FieldRead}
-use Rattle.bits.specs.declared.WordRead.{WordRead}
 use Rattle.h261_words.specs.Words.{Event, sent, over}
 use Rattle.h261_words.specs.Answer.{asCoefficient}
 use Rattle.h261_words.specs.declared.CoefficientRead.{CoefficientRead}
@@ -38,12 +37,11 @@ use Rattle.fields.specs.declared.PlaceRead.{PlaceRead}
 use Rattle.fields.specs.declared.PairRead.{PairRead}
 use Rattle.fields.specs.declared.PlaceRead.{PlaceRead}
 use Rattle.bits.specs.declared.FieldRead.the-variants as F
-use Rattle.bits.specs.declared.WordRead.the-variants as W
 use Rattle.h261_words.specs.declared.CoefficientRead.the-variants as C
 use Rattle.h261_layers.specs.declared.MbaRead.the-variants as M
 use Rattle.h261_layers.specs.declared.MacroblockRead.the-variants as BR
 use Rattle.fields.specs.declared.PlaceRead.the-variants as P
-use Rattle.determined.specs.Determined.{EquationOnce, ReadSaysOnce, ReadLeavesOnce, DecodeSaysOnce, DecodeLeavesOnce, WriteSaysOnce, WriteLeavesOnce, ReceiveOnce, SendOnce, FieldOnce, WordOnce, CoefficientOnce, HeaderOnce, MbaOnce, VectorOnce, MacroblockReadOnce, MacroblockLeftOnce, PlaceOnce, LeftOnce, BlockOnce, CodewordOnce, BitsWroteOnce, BlockWroteOnce, MacroblockOnce, RowsOnce, TextOnce}
+use Rattle.determined.specs.Determined.{EquationOnce, ReadSaysOnce, ReadLeavesOnce, DecodeSaysOnce, DecodeLeavesOnce, WriteSaysOnce, WriteLeavesOnce, ReceiveOnce, SendOnce, FieldOnce, CoefficientOnce, HeaderOnce, MbaOnce, VectorOnce, MacroblockReadOnce, MacroblockLeftOnce, PlaceOnce, LeftOnce, BlockOnce, CodewordOnce, BitsWroteOnce, BlockWroteOnce, MacroblockOnce, RowsOnce, TextOnce}
 use Rattle.fields.specs.declared.PairRead.the-variants as PR
 
 -- ---- an equation with the answer, with a buffer, or with both
@@ -92,16 +90,6 @@ module _ (s : List ℕ) (n : ℕ) where
   unfolding fieldOf
   field-of (F.Got v p) = refl
   field-of (F.Refused why) = refl
-
-  wordOf : Read ℕ → WordRead
-  wordOf (got v left p) = W.Got v p
-  wordOf (refused why) = W.Refused why
-  wordOf endless = W.Refused (refusal Length 0)
-
-  word-of : (x : WordRead) → wordOf (asWord s n x) ≡ x
-  unfolding wordOf
-  word-of (W.Got v p) = refl
-  word-of (W.Refused why) = refl
 
   coefficientOf : Read Event → CoefficientRead
   coefficientOf (got (sent c) left p) = C.Coefficient (c .run) (c .code) p
@@ -188,9 +176,6 @@ module _ (s : List ℕ) (n : ℕ) where
 
 pub field-once : FieldOnce
 field-once s n b x y = through (asField s n) (fieldOf s n) (field-of s n)
-
-pub word-once : WordOnce
-word-once s n b x y = through (asWord s n) (wordOf s n) (word-of s n)
 
 pub coefficient-once : CoefficientOnce
 coefficient-once s n b x y = through (asCoefficient s n) (coefficientOf s n) (coefficient-of s n)

@@ -8,9 +8,8 @@ use Rattle.laws.specs.Block.{Is}
 use Rattle.laws.specs.Rows.{Put}
 use Rattle.bits.specs.Bits.{Bit}
 use Rattle.bits.specs.Read.{Read}
-use Rattle.bits.specs.Answer.{asField, asWord}
+use Rattle.bits.specs.Answer.{asField}
 use Rattle.bits.specs.declared.FieldRead.{FieldRead}
-use Rattle.bits.specs.declared.WordRead.{WordRead}
 use Rattle.h261_words.specs.Words.{Event}
 use Rattle.h261_words.specs.Answer.{asCoefficient}
 use Rattle.h261_words.specs.Written.{Writes}
@@ -81,9 +80,6 @@ SendOnce = (s : Sender) (d : Flat) (b : S.Buffers) → Once (SendDoes s d b)
 -- ---- an equation with what the answer says: nothing of the answer is lost by that
 abbrev pub FieldOnce : Type 0
 FieldOnce = (s : List ℕ) (n : ℕ) (b : Read ℕ) → Once (λ (x : FieldRead). asField s n x ≡ b)
-
-abbrev pub WordOnce : Type 0
-WordOnce = (s : List ℕ) (n : ℕ) (b : Read ℕ) → Once (λ (x : WordRead). asWord s n x ≡ b)
 
 abbrev pub CoefficientOnce : Type 0
 CoefficientOnce = (s : List ℕ) (n : ℕ) (b : Read Event) → Once (λ (x : CoefficientRead). asCoefficient s n x ≡ b)

@@ -15,8 +15,8 @@ use Rattle.h261_description.specs.Vector.{Before}
 use Rattle.h261_description.specs.Value.{after}
 use Rattle.layout.specs.Flat.{index, fieldsOf, putBlocks}
 use Rattle.h261_layers.specs.Grammar.{Mba, step, stuffed, ended, Header}
-use Rattle.bits.specs.declared.WordRead.{WordRead}
-use Rattle.bits.specs.declared.WordRead.the-variants.{Got as GotWord, Refused as NoWord}
+use Rattle.bits.specs.declared.FieldRead.{FieldRead}
+use Rattle.bits.specs.declared.FieldRead.the-variants.{Got as GotField, Refused as NoField}
 use Rattle.fields.specs.declared.PairRead.{PairRead}
 use Rattle.fields.specs.declared.PairRead.the-variants.{Got as GotPair, Refused as NoPair}
 use Rattle.fields.specs.declared.PlaceRead.{PlaceRead}
@@ -50,9 +50,9 @@ pub record KeptVector (horizontal vertical : ℕ) : Type 0 where
 abbrev pub vectorOf : ℕ → ℕ → Vector
 vectorOf h v = record { horizontal = componentOf h; vertical = componentOf v }
 
-abbrev pub asComponent : List ℕ → ℕ → WordRead → Read ℤ
-asComponent s n (GotWord x p) = got (componentOf x) (bitsLeft s n p) p
-asComponent s n (NoWord r) = refused r
+abbrev pub asComponent : List ℕ → ℕ → FieldRead → Read ℤ
+asComponent s n (GotField x p) = got (componentOf x) (bitsLeft s n p) p
+asComponent s n (NoField r) = refused r
 
 abbrev pub asVector : List ℕ → ℕ → PairRead → Read Vector
 asVector s n (GotPair h v p) = got (vectorOf h v) (bitsLeft s n p) p

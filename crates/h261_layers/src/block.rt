@@ -127,7 +127,7 @@ pub fn blocks(
     count: usize,
     at: usize,
     intra: bool,
-    pattern: u16,
+    pattern: u32,
     levels: &mut [u8],
     base: usize,
 ) -> PlaceRead

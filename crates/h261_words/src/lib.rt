@@ -1,12 +1,12 @@
 // H.261's Tables 1 to 5: codewords read and written.
-use bits::WordRead;
+use bits::FieldRead;
 use refusals::Reason;
 use refusals::Refusal;
 ghost use mathlib.Core.Path.{_≡_};
 ghost use Rattle.bits.specs.Bits.{bitsOf, bitsLeft};
 ghost use Rattle.bits.specs.Code.{word as wordRead, wordOf};
 ghost use Rattle.bits.specs.Write.{written};
-ghost use Rattle.bits.specs.Answer.{Within, asWord};
+ghost use Rattle.bits.specs.Answer.{Within, asField};
 ghost use Prim.Native.Nat.{_+_, _*_, _/_, _%_, _≤_, _<_};
 ghost use lib.ListN.{getD};
 ghost use Rattle.laws.specs.Choice.{pick};
@@ -64,33 +64,33 @@ pub enum CoefficientRead {
 }
 
 // MBA at `at`: a step of 1 to 33, 34 for stuffing, 35 for a start code.
-pub fn mba(tables: &WordTables, bytes: &[u8], count: usize, at: usize) -> WordRead
+pub fn mba(tables: &WordTables, bytes: &[u8], count: usize, at: usize) -> FieldRead
     requires { ⌜ (Tables (now tables)) × (Within (now bytes) count at) ⌝ }
-    ensures { λ r. ⌜ asWord (now (bytes .entry)) count r ≡ wordRead table1 (bitsLeft (now (bytes .entry)) count at) at ⌝ }
+    ensures { λ r. ⌜ asField (now (bytes .entry)) count r ≡ wordRead table1 (bitsLeft (now (bytes .entry)) count at) at ⌝ }
 {
     bits::walk(tables, MBA_TREE, bytes, count, at)
 }
 
 // MTYPE at `at`: 1 to 10, in the order of document 01's table.
-pub fn mtype(tables: &WordTables, bytes: &[u8], count: usize, at: usize) -> WordRead
+pub fn mtype(tables: &WordTables, bytes: &[u8], count: usize, at: usize) -> FieldRead
     requires { ⌜ (Tables (now tables)) × (Within (now bytes) count at) ⌝ }
-    ensures { λ r. ⌜ asWord (now (bytes .entry)) count r ≡ wordRead table2 (bitsLeft (now (bytes .entry)) count at) at ⌝ }
+    ensures { λ r. ⌜ asField (now (bytes .entry)) count r ≡ wordRead table2 (bitsLeft (now (bytes .entry)) count at) at ⌝ }
 {
     bits::walk(tables, MTYPE_TREE, bytes, count, at)
 }
 
 // A component of MVD at `at`: 16 more than the difference that Table 3 prints first.
-pub fn mvd(tables: &WordTables, bytes: &[u8], count: usize, at: usize) -> WordRead
+pub fn mvd(tables: &WordTables, bytes: &[u8], count: usize, at: usize) -> FieldRead
     requires { ⌜ (Tables (now tables)) × (Within (now bytes) count at) ⌝ }
-    ensures { λ r. ⌜ asWord (now (bytes .entry)) count r ≡ wordRead table3 (bitsLeft (now (bytes .entry)) count at) at ⌝ }
+    ensures { λ r. ⌜ asField (now (bytes .entry)) count r ≡ wordRead table3 (bitsLeft (now (bytes .entry)) count at) at ⌝ }
 {
     bits::walk(tables, MVD_TREE, bytes, count, at)
 }
 
 // CBP at `at`: 1 to 63.
-pub fn cbp(tables: &WordTables, bytes: &[u8], count: usize, at: usize) -> WordRead
+pub fn cbp(tables: &WordTables, bytes: &[u8], count: usize, at: usize) -> FieldRead
     requires { ⌜ (Tables (now tables)) × (Within (now bytes) count at) ⌝ }
-    ensures { λ r. ⌜ asWord (now (bytes .entry)) count r ≡ wordRead table4 (bitsLeft (now (bytes .entry)) count at) at ⌝ }
+    ensures { λ r. ⌜ asField (now (bytes .entry)) count r ≡ wordRead table4 (bitsLeft (now (bytes .entry)) count at) at ⌝ }
 {
     bits::walk(tables, CBP_TREE, bytes, count, at)
 }
