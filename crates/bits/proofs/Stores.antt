@@ -1,16 +1,16 @@
 -- A word that is put by whole bytes: the bits kept of the first byte, the word and the zeros behind it are one number, stored byte by byte.
 -- Assumes nothing.
 use mathlib.Core.Path.{_≡_, refl, sym, ap, _∙_}
-use mathlib.Core.List.{List, [], _∷_, _++_, append-assoc, append-nil}
+use mathlib.Core.List.{List, [], _∷_, _++_, append-assoc}
 use Prim.Native.Nat.{ℕ, zero, suc, _+_, _-_, _*_, _/_, _%_, _^_, _<_, _≤_}
-use native.Mathlib.Nat.{add-zero, zero-add, add-assoc, mod-lt, mod-eq-of-lt, zero-div, div-add-mod', add-mul, mul-le-mul-right, lt-of-lt-of-le}
+use native.Mathlib.Nat.{add-zero, zero-add, mod-lt, mod-eq-of-lt, zero-div, div-add-mod', add-mul, mul-le-mul-right, lt-of-lt-of-le}
 use native.Mathlib.Omega.{arith}
 use lib.Dec.{lit<}
-use lib.Pow.{split, shl-lt, shr-lt, shl-exact, pow-pos, pow-mono, pow-add}
+use lib.Pow.{split, shr-lt, shl-exact, pow-pos, pow-mono, pow-add}
 use lib.ListN.{length, getD, take, drop, set}
 use lib.Seq.{sets, sets-eq, getD-drop, drop-nil}
-use Rattle.bits.specs.Bits.{Bit, O, I, bitOf, num, bitsOf, value, bitsFrom}
-use Rattle.bits.specs.Read.{Read, got, fieldFrom}
+use Rattle.bits.specs.Bits.{Bit, O, num, bitsOf, bitsFrom}
+use Rattle.bits.specs.Read.{got, fieldFrom}
 use Rattle.bits.proofs.Value.{byte-part}
 use Rattle.bits.proofs.Source.{bits-byte}
 use Rattle.bits.proofs.Numbers.{bitsOf-mod, bitsOf-append, bits-value}

@@ -2,13 +2,14 @@
 use refusals::Reason;
 use refusals::Refusal;
 ghost use mathlib.Core.Path.{_≡_};
-ghost use Prim.Native.Nat.{_+_, _*_, _^_, _≤_, _<_};
+ghost use Prim.Native.Nat.{_+_, _*_, _≤_, _<_};
 ghost use lib.ListN.{length, getD};
 ghost use Rattle.bits.specs.Bits.{bitsOf, value, bitsLeft};
 ghost use Rattle.bits.specs.Read.{field as fieldRead};
 ghost use Rattle.bits.specs.Answer.{Within, asField, asWord, fieldRefusal, wordRefusal};
 ghost use Rattle.bits.specs.Tree.{walkOf};
 ghost use Rattle.bits.specs.Write.{written};
+ghost use Rattle.bits.specs.Appended.{FieldFits, WroteBits, CountablePlace};
 
 // "each read gives either a meaning with the next place or a refusal"
 pub enum FieldRead {
@@ -149,7 +150,7 @@ pub fn walk(tree: &[u16], root: usize, bytes: &[u8], count: usize, at: usize) ->
 
 // `value` in `width` bits at `at`. The rest of the last byte that they start is zeroed, and no byte after it is touched.
 pub fn put(out: &mut [u8], at: usize, width: usize, value: u32)
-    requires { ⌜ (1 ≤ width) × (width ≤ 24) × (value < 2 ^ width) × (at + width ≤ 8 * length (now out)) ⌝ }
+    requires { ⌜ (FieldFits width value) × (at + width ≤ 8 * length (now out)) ⌝ }
     ensures { λ r. ⌜ now (out .exit) ≡ written (now (out .entry)) at (bitsOf width value) ⌝ }
 {
     let from = at / 8;
@@ -163,4 +164,21 @@ pub fn put(out: &mut [u8], at: usize, width: usize, value: u32)
         out[from + i] = ((number >> after) % 256) as u8;
         i += 1;
     }
+}
+
+// `value` in `width` bits at `at`, as far as the output has room for them; the place after them, whether it has or not.
+pub fn append(out: &mut [u8], at: usize, width: usize, value: u32) -> usize
+    requires { ⌜ (FieldFits width value) × (CountablePlace at (bitsOf width value)) ⌝ }
+    ensures { λ r. ⌜ WroteBits (bitsOf width value) (now (out .entry)) at (now (out .exit)) r ⌝ }
+{
+    let after = at + width;
+    if (after + 7) / 8 <= out.len() {
+        put(out, at, width, value);
+        return after;
+    }
+    if at / 8 < out.len() {
+        let room = out.len() * 8 - at;
+        put(out, at, room, value >> (width - room));
+    }
+    after
 }

@@ -14,7 +14,7 @@ use Rattle.refusals.specs.declared.Reason.the-variants.{Length}
 use Rattle.refusals.specs.Number.{refusal}
 use Rattle.bits.specs.Bits.{Bit, bitsOf}
 use Rattle.bits.specs.Read.{Read, got, endless, refused, field}
-use Rattle.bits.proofs.Fields.{field-back}
+use Rattle.bits.proofs.Fields.{field-back, length-bitsOf}
 use Rattle.bits.specs.Answer.{asField, asWord}
 use Rattle.bits.specs.declared.FieldRead.{FieldRead}
 use Rattle.bits.specs.declared.WordRead.{WordRead}
@@ -241,14 +241,14 @@ bits-once k a b l m e = inside (sym (field-back k a [] 0 l) ∙ ap (λ (w : List
 
 pub codeword-once : CodewordOnce
 codeword-once w x y h k =
-    let wide : x .width ≡ y .width = h .length-is ∙ sym (k .length-is) in
-    let more : x .bits < 2 ^ (y .width) = subst (λ (n : ℕ). x .bits < 2 ^ n) wide (h .small) in
-    let bits : x .bits ≡ y .bits = bits-once (y .width) (x .bits) (y .bits) more (k .small) (ap (λ (n : ℕ). bitsOf n (x .bits)) (sym wide) ∙ h .is ∙ sym (k .is)) in
+    let wide : x .width ≡ y .width = sym (length-bitsOf (x .width) (x .bits)) ∙ ap length (h .is ∙ sym (k .is)) ∙ length-bitsOf (y .width) (y .bits) in
+    let more : x .bits < 2 ^ (y .width) = subst (λ (n : ℕ). x .bits < 2 ^ n) wide (h .fits .small) in
+    let bits : x .bits ≡ y .bits = bits-once (y .width) (x .bits) (y .bits) more (k .fits .small) (ap (λ (n : ℕ). bitsOf n (x .bits)) (sym wide) ∙ h .is ∙ sym (k .is)) in
     λ i. record { width = wide i; bits = bits i }
 
 -- ---- bits after bits
 pub bits-wrote-once : BitsWroteOnce
-bits-wrote-once most at p q w before t u h k = (same-as (h .is) (k .is), same-as (h .next) (k .next))
+bits-wrote-once at p q w before t u h k = (same-as (h .is) (k .is), same-as (h .next) (k .next))
 
 -- ---- stores: every sample is said, or is as it was
 module _ (f : Size) {t u : List ℕ} (long : length t ≡ storeLength f) (size : length t ≡ length u) where

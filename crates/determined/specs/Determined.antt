@@ -10,6 +10,7 @@ use Rattle.bits.specs.Bits.{Bit}
 use Rattle.bits.specs.Read.{Read}
 use Rattle.bits.specs.Answer.{asField, asWord}
 use Rattle.bits.specs.declared.FieldRead.{FieldRead}
+use Rattle.bits.specs.Appended.{WroteBits}
 use Rattle.bits.specs.declared.WordRead.{WordRead}
 use Rattle.h261_words.specs.Words.{Event}
 use Rattle.h261_words.specs.Answer.{asCoefficient}
@@ -31,7 +32,6 @@ use Rattle.h261_layers.specs.declared.MacroblockRead.the-variants.{Got}
 use Rattle.fields.specs.declared.PlaceRead.{PlaceRead}
 use Rattle.fields.specs.declared.PlaceRead.the-variants.{At}
 use Rattle.h261_reader.specs.ReadOf.{ReadSays, ReadLeaves}
-use Rattle.h261_writer.specs.Put.{Wrote as WroteBits}
 use Rattle.h261_writer.specs.Output.{WriteSays, WriteLeaves}
 use Rattle.samples.specs.Content.{Values}
 use Rattle.samples.specs.Wrote.{Wrote, Macroblock}
@@ -121,7 +121,7 @@ CodewordOnce = (w : List Bit) → Once (Writes w)
 
 -- ---- bits after bits
 abbrev pub BitsWroteOnce : Type 0
-BitsWroteOnce = (most at p q : ℕ) (w : List Bit) (before t u : List ℕ) → WroteBits most w before at t p → WroteBits most w before at u q → (t ≡ u) × (p ≡ q)
+BitsWroteOnce = (at p q : ℕ) (w : List Bit) (before t u : List ℕ) → WroteBits w before at t p → WroteBits w before at u q → (t ≡ u) × (p ≡ q)
 
 -- ---- stores: every sample is said, or is as it was
 abbrev pub BlockWroteOnce : Type 0

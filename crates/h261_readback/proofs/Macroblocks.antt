@@ -26,7 +26,7 @@ use Rattle.h261_description.specs.Proper.{ProperMacroblock, Rising}
 use Rattle.fields.specs.Rules.{quantiser, optional}
 use Rattle.h261_layers.specs.Grammar.{macroblock, step, ended, mbaOf, mba, macroblocksAfter, macroblocksFrom}
 use Rattle.h261_layers.proofs.Layers.{Ended}
-use Rattle.h261_writer.specs.Write.{given, vectorOf, patternOf, blocksOf, macroblockOf, macroblocksOf}
+use Rattle.h261_writer.specs.Write.{bitsIf, vectorBits, patternOf, blocksOf, macroblockOf, macroblocksOf}
 use Rattle.h261_readback.proofs.Words.{back-mba, length-mba, back-mtype}
 use Rattle.h261_readback.proofs.Blocks.{back-blocks, back-pattern}
 use Rattle.h261_readback.proofs.Vectors.{Pointed, Ranged, ranged-vector, back-vector}
@@ -38,7 +38,7 @@ back-quantiser q rest h =
     let most = leb→le q 31 (both-right (leb 1 q) (leb q 31) h) in
     back-judged (λ q. pick (eqb q 0) (against QuantiserZero) (fine q)) q (back-field 5 q rest (omega arith)) (rw (ne-eqb q 0 (λ e. omega arith)))
 
-back-mquant : (has : Bool) (q : ℕ) (rest : List Bit) → If has (T (isQuantiser q)) (q ≡ 0) → Back (optional has 0 quantiser) (given has (bitsOf 5 q)) rest q
+back-mquant : (has : Bool) (q : ℕ) (rest : List Bit) → If has (T (isQuantiser q)) (q ≡ 0) → Back (optional has 0 quantiser) (bitsIf has (bitsOf 5 q)) rest q
 back-mquant true q rest h = back-quantiser q rest h
 back-mquant false q rest h = rw h (back-done 0 rest)
 
@@ -46,9 +46,9 @@ back-mquant false q rest h = rw h (back-done 0 rest)
 abbrev bodyOf : Before → Macroblock → List Bit
 bodyOf before m =
     wordOf table2 (m .type)
-    ++ (given (hasMQUANT (m .type)) (bitsOf 5 (m .quant))
-    ++ (given (isMC (m .type)) (vectorOf (preceding before (m .address - before .address)) (m .vector))
-    ++ (given (hasCBP (m .type)) (wordOf table4 (patternOf (m .blocks)))
+    ++ (bitsIf (hasMQUANT (m .type)) (bitsOf 5 (m .quant))
+    ++ (bitsIf (isMC (m .type)) (vectorBits (preceding before (m .address - before .address)) (m .vector))
+    ++ (bitsIf (hasCBP (m .type)) (wordOf table4 (patternOf (m .blocks)))
     ++ blocksOf (isIntra (m .type)) (m .blocks))))
 
 module _ (f : Format) (number : ℕ) (before : Before) (m : Macroblock) (l : before .address < m .address) (p : ProperMacroblock f number m) (r : Ranged (before .vector)) where

@@ -5,7 +5,7 @@ use refusals::Refusal;
 ghost use mathlib.Core.Path.{_≡_};
 ghost use Rattle.bits.specs.Bits.{bitsOf, bitsLeft};
 ghost use Rattle.bits.specs.Code.{word as wordRead, wordOf};
-ghost use Rattle.bits.specs.Write.{written};
+ghost use Rattle.bits.specs.Appended.{FieldFits, WroteBits, CountablePlace};
 ghost use Rattle.bits.specs.Answer.{Within, asWord};
 ghost use Prim.Native.Nat.{_+_, _*_, _/_, _%_, _≤_, _<_};
 ghost use lib.ListN.{getD};
@@ -15,7 +15,7 @@ ghost use Rattle.layout.specs.Value.{coefficient as coefficientOf};
 ghost use Rattle.h261_words.specs.Words.{negative, size, coefficientRead, tcoeffOf};
 ghost use Rattle.h261_words.specs.Answer.{asCoefficient};
 ghost use Rattle.h261_words.specs.Back.{Sendable};
-ghost use Rattle.h261_words.specs.Written.{codewordOf, Writes, Fits};
+ghost use Rattle.h261_words.specs.Written.{codewordOf, Writes, MeaningAsked};
 ghost use Rattle.h261_words.specs.Lookup.{Tables, entryPlace, firstAt, laterAt};
 
 pub mod kind;
@@ -187,7 +187,7 @@ fn spelt(tables: &WordTables, place: usize) -> Codeword
 
 // The codeword of MBA: a step of 1 to 33, 34 for stuffing, 35 for a start code.
 pub fn mba_codeword(tables: &WordTables, step: usize) -> Codeword
-    requires { ⌜ (Tables (now tables)) × (1 ≤ step) × (step ≤ 35) ⌝ }
+    requires { ⌜ MeaningAsked (now tables) 35 step ⌝ }
     ensures { λ r. ⌜ Writes (wordOf table1 step) r ⌝ }
 {
     spelt(tables, MBA_WORDS + step)
@@ -195,7 +195,7 @@ pub fn mba_codeword(tables: &WordTables, step: usize) -> Codeword
 
 // The codeword of MTYPE, 1 to 10.
 pub fn mtype_codeword(tables: &WordTables, kind: usize) -> Codeword
-    requires { ⌜ (Tables (now tables)) × (1 ≤ kind) × (kind ≤ 10) ⌝ }
+    requires { ⌜ MeaningAsked (now tables) 10 kind ⌝ }
     ensures { λ r. ⌜ Writes (wordOf table2 kind) r ⌝ }
 {
     spelt(tables, MTYPE_WORDS + kind)
@@ -211,7 +211,7 @@ pub fn mvd_codeword(tables: &WordTables, difference: usize) -> Codeword
 
 // The codeword of CBP, 1 to 63.
 pub fn cbp_codeword(tables: &WordTables, pattern: usize) -> Codeword
-    requires { ⌜ (Tables (now tables)) × (1 ≤ pattern) × (pattern ≤ 63) ⌝ }
+    requires { ⌜ MeaningAsked (now tables) 63 pattern ⌝ }
     ensures { λ r. ⌜ Writes (wordOf table4 pattern) r ⌝ }
 {
     spelt(tables, CBP_WORDS + pattern)
@@ -289,13 +289,12 @@ pub fn coefficient_codeword(tables: &WordTables, run: usize, code: u8, first: bo
     }
 }
 
-// A codeword at a place of the output; the place after it.
-pub fn put(out: &mut [u8], at: usize, word: Codeword) -> usize
-    requires { ⌜ Fits (now out) at word ⌝ }
-    ensures { λ r. ⌜ (r ≡ at + word .width) × (now (out .exit) ≡ written (now (out .entry)) at (bitsOf (word .width) (word .bits))) ⌝ }
+// A codeword at a place of the output, as far as it has room; the place after it.
+pub fn append(out: &mut [u8], at: usize, word: Codeword) -> usize
+    requires { ⌜ (FieldFits (word .width) (word .bits)) × (CountablePlace at (bitsOf (word .width) (word .bits))) ⌝ }
+    ensures { λ r. ⌜ WroteBits (bitsOf (word .width) (word .bits)) (now (out .entry)) at (now (out .exit)) r ⌝ }
 {
     let width = word.width;
     let number = word.bits;
-    bits::put(out, at, width, number);
-    at + width
+    bits::append(out, at, width, number)
 }

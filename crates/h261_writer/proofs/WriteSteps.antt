@@ -2,22 +2,22 @@
 use mathlib.Core.Path.{_≡_, refl, sym, ap, _∙_}
 use mathlib.Core.Bool.{Bool, true, false}
 use mathlib.Core.List.{List, [], _∷_, _++_}
-use Prim.Native.Nat.{ℕ, _+_, _/_, _≤_, _<_}
+use Prim.Native.Nat.{ℕ, _+_, _*_, _/_, _≤_, _<_}
 use native.Mathlib.Omega.{arith}
 use native.Mathlib.Nat.{zero-add}
-use native.Mathlib.Numerals.{add-one}
 use borrow.Author.Tests.{eq-eqb, ne-eqb, lt-ltb, le-ltb}
-use lib.Dec.{eqb, ltb}
-use lib.ListN.{length, getD, take, drop, set, replicate, length-set, length-replicate}
-use lib.Seq.{take-suc, append-snoc, set-at, take-at, length-take-le}
+use lib.Dec.{eqb, ltb, lit≤}
+use lib.ListN.{length, take, drop}
+use lib.Seq.{take-at, take-length, length-take-le}
 use Rattle.laws.specs.Choice.{pick, both, either}
 use Rattle.refusals.specs.Number.{refusal}
 use Rattle.refusals.specs.declared.Reason.the-variants.{Length, Invalid, AboveLimit}
 use Rattle.refusals.specs.declared.Refusal.{Refusal}
 use Rattle.bits.specs.Bits.{Bit, bitsFrom}
 use Rattle.bits.specs.Write.{started, bytesOf}
+use Rattle.bits.specs.Appended.{appendedBits, WroteBits}
 use Rattle.bits.proofs.Write.{length-bytesOf, written-is}
-use Rattle.laws.proofs.Lists.{drop-on}
+use Rattle.bits.proofs.Appended.{room-whole, wrote-long}
 use Rattle.h261_groups.specs.Format.{sizeOf}
 use Rattle.size.specs.Size.{limit, outputLength}
 use Rattle.h261_groups.specs.declared.Format.{Format}
@@ -26,34 +26,7 @@ use Rattle.layout.specs.Flat.{Flat, flat}
 use Rattle.h261_description.specs.Valid.{lengthsOf, valid}
 use Rattle.h261_writer.specs.declared.Written.{Written}
 use Rattle.h261_writer.specs.declared.Written.the-variants.{Bits, Refused}
-use Rattle.h261_writer.specs.Put.{appended, Wrote, Room}
 use Rattle.h261_writer.specs.Output.{written, filled, filledWithin, writeOf, leaves, outputOf}
-
--- ---- the copy
-pub record CopiedSoFar (from : List ℕ) (count : ℕ) (before after : List ℕ) (i : ℕ) : Type 0 where
-  pub within : i ≤ count
-  pub long : length after ≡ length before
-  pub is : after ≡ take i from ++ drop i before
-
-pub copied-begin : (from : List ℕ) (count : ℕ) (before : List ℕ) → CopiedSoFar from count before before 0
-copied-begin from count before = record { within = omega arith; long = refl; is = refl }
-
-module _ {from : List ℕ} {count : ℕ} {before after : List ℕ} {i : ℕ} (h : CopiedSoFar from count before after i) where
-  pub copied-more : count ≤ length from → count ≤ length before → i < count → CopiedSoFar from count before (set after i (getD from i 0)) (i + 1)
-  copied-more a b l =
-      let x : ℕ = getD from i 0 in
-      record {
-        within = omega arith;
-        long = length-set after i x ∙ h .long;
-        is =
-            ap (λ (s : List ℕ). set s i x) (h .is ∙ ap (λ (s : List ℕ). take i from ++ s) (drop-on before i (omega arith)))
-            ∙ set-at (take i from) (getD before i 0) (drop (i + 1) before) x i (length-take-le i from (omega arith))
-            ∙ sym (append-snoc (take i from) x (drop (i + 1) before))
-            ∙ ap (λ (s : List ℕ). s ++ drop (i + 1) before) (sym (take-suc from i 0 (omega arith)) ∙ ap (λ (n : ℕ). take n from) (sym (add-one i)));
-      }
-
-  pub copied-done : count ≤ i → after ≡ take count from ++ drop count before
-  copied-done l = let e : i ≡ count = omega (arith, h .within) in h .is ∙ ap (λ (n : ℕ). take n from ++ drop n before) e
 
 -- ---- the first bytes of an output with these bits from its first on
 no-bits : (s : List ℕ) → bitsFrom s 0 0 ≡ []
@@ -64,13 +37,22 @@ no-bytes : [] ≡ bytesOf 0 []
 unfolding bytesOf
 no-bytes = refl
 
-first-bytes : (bits : List Bit) (s : List ℕ) → take (started (length bits)) (appended s 0 bits) ≡ bytesOf (started (length bits)) bits
+first-bytes : (bits : List Bit) (s : List ℕ) → take (started (length bits)) (appendedBits s 0 bits) ≡ bytesOf (started (length bits)) bits
 first-bytes [] s = no-bytes
 first-bytes (b ∷ bs) s =
     let n : ℕ = started (length (b ∷ bs)) in
     let k : 0 + length (b ∷ bs) ≡ length (b ∷ bs) = zero-add (length (b ∷ bs)) in
     ap (take n) (written-is s 0 (b ∷ bs) ∙ (λ i. bytesOf (started (k i)) (no-bits s i ++ (b ∷ bs)) ++ drop (started (k i)) s))
     ∙ take-at (bytesOf n (b ∷ bs)) (drop n s) n (length-bytesOf n (b ∷ bs))
+
+pub limit-most : (f : Format) → limit (sizeOf f) ≤ 262144
+limit-most Qcif = lit≤ tt
+limit-most Cif = lit≤ tt
+
+-- the limit is the output's eight bits a byte
+limit-is : (f : Format) → limit (sizeOf f) ≡ 8 * outputLength (sizeOf f)
+limit-is Qcif = refl
+limit-is Cif = refl
 
 -- ---- the lengths
 module _ (head macroblocks levels : List ℕ) where
@@ -154,32 +136,37 @@ module _ (f : Format) (head macroblocks levels out : List ℕ) where
             e ∙ rw (not-past h) (sym (ap (leaves out (written f d)) (on false (not-past h)) ∙ leaves-bits (length (written f d)))),
           )
 
--- ---- a valid description's bits, copied where they are not above the limit
-module _ (f : Format) (d : Flat) (out : List ℕ) {s t : List ℕ} {c : ℕ} (w : Wrote 3821856 (written f d) s 0 t c) {l : ℕ} (le : l ≡ limit (sizeOf f)) where
+-- ---- a valid description's bits, which the scratch has room for and which are copied where they are not above the limit
+module _ (f : Format) (d : Flat) (out : List ℕ) {s t : List ℕ} {c : ℕ} (w : WroteBits (written f d) s 0 t c) {l : ℕ} (le : l ≡ limit (sizeOf f)) where
   pub counted : c ≡ length (written f d)
   counted = w .next ∙ zero-add (length (written f d))
 
   pub left-alone : l < c → out ≡ filledWithin f d out
   left-alone h = sym (rw (lt-ltb (limit (sizeOf f)) (length (written f d)) (omega (arith, counted))))
 
-  pub filled-in : c ≤ l → (u : List ℕ) → u ≡ take ((c + 7) / 8) t ++ drop ((c + 7) / 8) out → u ≡ filledWithin f d out
-  filled-in h u e =
-      e ∙ ap (λ (n : ℕ). take ((n + 7) / 8) t ++ drop ((n + 7) / 8) out) counted
-      ∙ ap (λ (x : List ℕ). x ++ drop (started (length (written f d))) out) (ap (take (started (length (written f d)))) (w .is) ∙ first-bytes (written f d) s)
-      ∙ sym (rw (le-ltb (limit (sizeOf f)) (length (written f d)) (omega (arith, counted))))
+  module _ (h : c ≤ l) (long : length s ≡ 32768) where
+    within : c ≤ 8 * length s
+    within = omega (arith, limit-most f)
 
--- ---- the scratch array
-pub blank-room : (n : ℕ) → n ≡ 480000 → Room (replicate n 0) 0 3821856
-blank-room n e = record { fits = omega (arith, length-replicate {A = ℕ} n 0); short = omega (arith, length-replicate {A = ℕ} n 0) }
+    first : take (started (length (written f d))) t ≡ bytesOf (started (length (written f d))) (written f d)
+    first = ap (take (started (length (written f d)))) (w .is ∙ ap (appendedBits s 0) (room-whole s 0 (written f d) (omega (arith, counted, within)))) ∙ first-bytes (written f d) s
 
-module _ {w : List Bit} {s t : List ℕ} {c : ℕ} (h : Wrote 3821856 w s 0 t c) where
-  pub count-low : c ≤ 3821856
-  count-low = omega (arith, h .next, h .within)
+    pub copy-within : (c + 7) / 8 ≤ length t
+    copy-within = omega (arith, wrote-long w, within)
 
-  pub copy-from : length t ≡ length s → length s ≡ 480000 → (c + 7) / 8 ≤ length t
-  copy-from a b = omega (arith, count-low)
+    -- the bytes that are started, which are copied
+    abbrev copied : List ℕ
+    copied = take ((c + 7) / 8) t
 
--- the limit is the output's eight bits a byte
-pub copy-to : (f : Format) (c l n : ℕ) → l ≡ limit (sizeOf f) → c ≤ l → n ≡ outputLength (sizeOf f) → (c + 7) / 8 ≤ n
-copy-to Qcif c l n a b e = omega arith
-copy-to Cif c l n a b e = omega arith
+    copied-long : length copied ≡ (c + 7) / 8
+    copied-long = length-take-le ((c + 7) / 8) t copy-within
+
+    pub copy-fits : length out ≡ outputLength (sizeOf f) → length copied ≤ length out
+    copy-fits e = omega (arith, copied-long, limit-is f)
+
+    pub filled-in : {u : List ℕ} → u ≡ take (length copied) copied ++ drop (length copied) out → u ≡ filledWithin f d out
+    filled-in e =
+        e ∙ (λ i. take-length copied i ++ drop (copied-long i) out)
+        ∙ ap (λ (n : ℕ). take ((n + 7) / 8) t ++ drop ((n + 7) / 8) out) counted
+        ∙ ap (λ (x : List ℕ). x ++ drop (started (length (written f d))) out) first
+        ∙ sym (rw (le-ltb (limit (sizeOf f)) (length (written f d)) (omega (arith, counted))))

@@ -1,6 +1,6 @@
 -- `bits::put` meets its contract: the bytes that the bits start are stored one after another, each the right part of one number.
-use mathlib.Core.Path.{_≡_, refl, sym, ap, _∙_}
-use Prim.Native.Nat.{ℕ, _+_, _-_, _*_, _/_, _%_, _^_, _≤_, _<_}
+use mathlib.Core.Path.{_≡_, refl, sym, _∙_}
+use Prim.Native.Nat.{ℕ, _+_, _-_, _*_, _/_, _%_, _≤_}
 use native.Mathlib.Nat.{add-zero, sub-zero, mod-lt}
 use native.Mathlib.Omega.{arith}
 use borrow.Author.Needs.{needs}
@@ -32,21 +32,23 @@ cast-kept c = omega (arith, c .slice-known .given (c .before .args .at / 8))
 add-number : tie.Need-add-number Inv-loop μ-loop
 add-number c =
     let a = c .before .args in
+    let f = c .before .pre .0 in
     let g = c .slice-known .given in
     let b = getD (a .out .now) (a .at / 8) 0 in
     let m = (a .at % 8 + a .width + 7) / 8 in
-    record { fits = number-fits b (a .at % 8) (a .width) (a .value) m (g (a .at / 8) .fits) (mod-lt (a .at) (lit< tt)) (c .before .pre .2) (c .before .pre .1) (room (a .at) (a .width) (c .before .pre .1)) (four (a .at) (a .width) (c .before .pre .1)) }
+    record { fits = number-fits b (a .at % 8) (a .width) (a .value) m (g (a .at / 8) .fits) (mod-lt (a .at) (lit< tt)) (f .small) (f .short) (room (a .at) (a .width) (f .short)) (four (a .at) (a .width) (f .short)) }
 
 loop-holds : tie.Need-loop-holds Inv-loop μ-loop
 loop-holds c =
     let a = c .before .args in
+    let f = c .before .pre .0 in
     let g = c .slice-known .given in
     let b = getD (a .out .now) (a .at / 8) 0 in
     let m = (a .at % 8 + a .width + 7) / 8 in (
       search needs,
       refl,
-      rw (number-is b (a .at % 8) (a .width) (a .value) m (g (a .at / 8) .fits) (mod-lt (a .at) (lit< tt)) (c .before .pre .2) (c .before .pre .1) (room (a .at) (a .width) (c .before .pre .1)) (four (a .at) (a .width) (c .before .pre .1)), add-zero (a .at / 8), sub-zero m)
-          (sym (put-is (a .out .now) (a .at) (a .width) (a .value) (λ i. g i .fits) (c .before .pre .3) (c .before .pre .0) (c .before .pre .2))),
+      rw (number-is b (a .at % 8) (a .width) (a .value) m (g (a .at / 8) .fits) (mod-lt (a .at) (lit< tt)) (f .small) (f .short) (room (a .at) (a .width) (f .short)) (four (a .at) (a .width) (f .short)), add-zero (a .at / 8), sub-zero m)
+          (sym (put-is (a .out .now) (a .at) (a .width) (a .value) (λ i. g i .fits) (c .before .pre .1) (f .some) (f .small))),
     )
 
 loop-again : tie.Need-loop-again Inv-loop μ-loop
