@@ -3,7 +3,7 @@
 use mathlib.Core.Path.{_≡_, refl, sym, ap, _∙_}
 use mathlib.Core.List.{List, [], _∷_, _++_, append-assoc}
 use Prim.Native.Nat.{ℕ, zero, suc, _+_, _-_, _*_, _/_, _%_, _^_, _<_, _≤_}
-use native.Mathlib.Nat.{add-zero, zero-add, mod-lt, mod-eq-of-lt, zero-div, div-add-mod', add-mul, mul-le-mul-right, lt-of-lt-of-le}
+use native.Mathlib.Nat.{add-zero, sub-zero, zero-add, mod-lt, mod-eq-of-lt, zero-div, div-add-mod', add-mul, mul-le-mul-right, lt-of-lt-of-le}
 use native.Mathlib.Omega.{arith}
 use lib.Dec.{lit<}
 use lib.Pow.{split, shr-lt, shl-exact, pow-pos, pow-mono, pow-add}
@@ -16,6 +16,7 @@ use Rattle.bits.proofs.Source.{bits-byte}
 use Rattle.bits.proofs.Numbers.{bitsOf-mod, bitsOf-append, bits-value}
 use Rattle.bits.proofs.Fields.{length-bitsOf, field-back}
 use Rattle.bits.specs.Write.{byteFrom, bytesOf, started, written}
+use Rattle.bits.specs.Appended.{FieldFits}
 use Rattle.bits.proofs.Write.{written-is}
 
 -- the n bytes of a number
@@ -122,7 +123,7 @@ kept-bits s j r h l =
 
 -- ---- what the code stores
 module _ (s : List ℕ) (at k v : ℕ) (f : (i : ℕ) → getD s i 0 < 256) (room : at + k ≤ 8 * length s) (some : 1 ≤ k) (small : v < 2 ^ k) where
-  pub put-is : written s at (bitsOf k v)
+  put-is : written s at (bitsOf k v)
       ≡ sets s (at / 8) (bytesIn ((at % 8 + k + 7) / 8) ((getD s (at / 8) 0 / 2 ^ (8 - at % 8) * 2 ^ k + v) * 2 ^ ((at % 8 + k + 7) / 8 * 8 - (at % 8 + k))))
   put-is =
       let j = at / 8 in
@@ -165,11 +166,35 @@ module _ (b r k v m : ℕ) (hb : b < 256) (hr : r < 8) (hv : v < 2 ^ k) (hk : k 
   joined-shl = shl-exact (r + k) (m * 8 - (r + k)) 32 joined-lt (omega arith)
 
   -- the number that the code makes
-  pub number-is : (((b / 2 ^ (8 - r) * 2 ^ k) % 2 ^ 32 + v) * 2 ^ (m * 8 - (r + k))) % 2 ^ 32 ≡ (b / 2 ^ (8 - r) * 2 ^ k + v) * 2 ^ (m * 8 - (r + k))
+  number-is : (((b / 2 ^ (8 - r) * 2 ^ k) % 2 ^ 32 + v) * 2 ^ (m * 8 - (r + k))) % 2 ^ 32 ≡ (b / 2 ^ (8 - r) * 2 ^ k + v) * 2 ^ (m * 8 - (r + k))
   number-is = rw kept-shl joined-shl
 
-  pub number-fits : (b / 2 ^ (8 - r) * 2 ^ k) % 2 ^ 32 + v < 2 ^ 32
+  number-fits : (b / 2 ^ (8 - r) * 2 ^ k) % 2 ^ 32 + v < 2 ^ 32
   number-fits = rw kept-shl (lt-of-lt-of-le joined-lt (pow-mono {j = 32} (omega arith)))
+
+-- ---- a field at a place, in a list of bytes
+module _ (s : List ℕ) (at : ℕ) {k v : ℕ} (f : FieldFits k v) (bytes : (i : ℕ) → getD s i 0 < 256) where
+  abbrev first : ℕ
+  first = getD s (at / 8) 0
+
+  abbrev many : ℕ
+  many = (at % 8 + k + 7) / 8
+
+  in-many : at % 8 + k ≤ many * 8
+  in-many = omega (arith, f .short)
+
+  four-most : many ≤ 4
+  four-most = omega (arith, f .short)
+
+  pub field-low : (first / 2 ^ (8 - at % 8) * 2 ^ k) % 2 ^ 32 + v < 2 ^ 32
+  field-low = number-fits first (at % 8) k v many (bytes (at / 8)) (mod-lt at (lit< tt)) (f .small) (f .short) in-many four-most
+
+  -- before the first turn all is yet to be stored
+  pub stored-none : at + k ≤ 8 * length s
+      → sets s (at / 8 + 0) (bytesIn (many - 0) ((((first / 2 ^ (8 - at % 8) * 2 ^ k) % 2 ^ 32 + v) * 2 ^ (many * 8 - (at % 8 + k))) % 2 ^ 32)) ≡ written s at (bitsOf k v)
+  stored-none room =
+      rw (number-is first (at % 8) k v many (bytes (at / 8)) (mod-lt at (lit< tt)) (f .small) (f .short) in-many four-most, add-zero (at / 8), sub-zero many)
+      (sym (put-is s at k v bytes room (f .some) (f .small)))
 
 -- ---- the turns
 -- what is yet to be stored, stored, leaves what was to be left

@@ -17,8 +17,7 @@ put-requires-2 c κs =
 
 returns-2 : tie.Need-returns-2
 returns-2 c =
-    let at-if1 = c .before .before .before .before .before in
-    let start = at-if1 .before .before in
+    let at-if1 = c .before .before .before .before .before in let start = at-if1 .before .before in
     field-part (start .pre .0) (start .args .out .now) (start .args .at) (at-if1 .if1 .left) (c .before .before .before .before .if2 .taken) (c .before .before .put2 .ensures)
 
 returns-3 : tie.Need-returns-3
