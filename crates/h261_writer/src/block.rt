@@ -1,7 +1,6 @@
 // The blocks of a macroblock: their coefficients as runs and levels, to EOB.
 use h261_words::WordTables;
 ghost use mathlib.Core.Path.{_≡_};
-ghost use Prim.Native.Nat.{_+_, _*_, _<_};
 ghost use lib.ListN.{length, drop};
 ghost use Rattle.bits.specs.Appended.{WroteBits};
 ghost use Rattle.layout.specs.Flat.{gather, gathers};

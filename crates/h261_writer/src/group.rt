@@ -1,7 +1,6 @@
 // The group layer.
 use crate::macroblock;
 use h261_words::WordTables;
-ghost use Prim.Native.Nat.{_+_, _<_};
 ghost use Rattle.bits.specs.Appended.{WroteBits};
 ghost use Rattle.h261_description.specs.Vector.{atStart};
 ghost use Rattle.layout.specs.Flat.{macroblocksIn};

@@ -2,7 +2,6 @@
 use crate::group;
 use h261_groups::Format;
 use h261_words::WordTables;
-ghost use Prim.Native.Nat.{_+_, _<_};
 ghost use lib.Dec.{T};
 ghost use lib.ListN.{drop};
 ghost use Rattle.bits.specs.Appended.{WroteBits};

@@ -1,6 +1,5 @@
 // MVD: a macroblock's vector against the preceding one. Components are bytes, in two's complement.
 use h261_words::WordTables;
-ghost use Prim.Native.Nat.{_+_};
 ghost use Rattle.bits.specs.Appended.{WroteBits};
 ghost use Rattle.h261_words.specs.Words.{isMC};
 ghost use Rattle.h261_description.specs.Vector.{preceding as precedingOf};
