@@ -144,11 +144,10 @@ fn finish(
 ) -> Pack {
     let sender = pack.sender;
     let kind = sender.kind;
-    let format = coding::format_of(kind);
-    let heads = h261_groups::head_length(format);
-    let fields = h261_groups::macroblocks_length(format);
-    let coefficients = h261_groups::levels_length(format);
-    let blocks = h261_groups::blocks_length(format);
+    let heads = coding::head_length(kind);
+    let fields = coding::macroblocks_length(kind);
+    let coefficients = coding::levels_length(kind);
+    let blocks = size::blocks_length(coding::size_of(kind));
     let mut head = [0u8; 15];
     let mut macroblocks = [0u8; 1584];
     let mut levels = [0u8; 152064];
@@ -257,13 +256,13 @@ fn all(opened: Pack, picture: &mut [u8], first: &mut [u8], second: &mut [u8]) {
     }
 }
 
-// The buffers that last as long as the stream have room for either format.
+// The buffers that last as long as the stream have room for any size.
 fn record(sender: Sender) {
     let kind = sender.kind;
-    let format = coding::format_of(kind);
+    let size = coding::size_of(kind);
     let terminal = libc::isatty(STDERR_FILENO) == 1;
-    let bytes = h261_groups::output_length(format);
-    let samples = h261_groups::store_length(format);
+    let bytes = size::output_length(size);
+    let samples = size::store_length(size);
     let mut picture = [0u8; 32768];
     let mut first = [0u8; 152064];
     let mut second = [0u8; 152064];

@@ -39,12 +39,6 @@ limit-most SubQcif count l = omega arith
 limit-most Qcif count l = omega arith
 limit-most Cif count l = omega arith
 
--- the scratch array has room for any size
-pub output-most : (size : Size) → outputLength size ≤ 32768
-output-most SubQcif = omega arith
-output-most Qcif = omega arith
-output-most Cif = omega arith
-
 -- what isn't above the limit stands at the start of the output
 first-bytes : (size : Size) (bits : List Bit) (scratch : List ℕ) → length bits ≤ limit size → take (started (length bits)) (outputWith size bits scratch) ≡ bytesIn bits
 first-bytes size bits scratch l =

@@ -36,7 +36,11 @@ module _ (kind : Kind) (clip : Clip) (block : List ℕ) (b : Buffers) where
   not-yet e f g = sym (ap (λ (o : Opened). byOpened o block b) g) ∙ unknown e f
 
 returns : tie.Need-returns
-returns c = let a = c .before .before .before .before .before .before .before .before .before .before .before .before .before .before .before .before .before .args in c .before .before .before .before .before .before .go-on .ensures ∙ known (a .kind) (a .clip) (a .block .now) (buffers (a .collection .now) (a .first .now) (a .second .now)) (c .before .before .before .before .before .before .before .before .before .before .before .clip .given .1)
+returns c =
+    let at-go-on = c .before .before .before .before .before .before in
+    let at-clip = at-go-on .before .before .before .before .before in
+    let a = at-clip .before .before .before .before .before .before .args in
+    at-go-on .go-on .ensures ∙ known (a .kind) (a .clip) (a .block .now) (buffers (a .collection .now) (a .first .now) (a .second .now)) (at-clip .clip .given .1)
 
 returns-2 : tie.Need-returns-2
 returns-2 c =
@@ -50,7 +54,12 @@ returns-2 c =
     (at-enum-told .enum-told .given .1) (at-find .find .ensures) (at-receiver .receiver .given .1)
 
 returns-3 : tie.Need-returns-3
-returns-3 c = let a = c .before .before .before .before .before .before .before .before .before .before .args in not-yet (a .kind) (a .clip) (a .block .now) (buffers (a .collection .now) (a .first .now) (a .second .now)) (c .before .before .before .before .enum-told .given .1) (c .before .before .before .find .ensures) (c .before .why .given .1)
+returns-3 c =
+    let at-find = c .before .before .before in
+    let at-enum-told = at-find .before in
+    let a = at-enum-told .before .before .before .before .before .before .args in
+    not-yet (a .kind) (a .clip) (a .block .now) (buffers (a .collection .now) (a .first .now) (a .second .now)) (at-enum-told .enum-told .given .1) (at-find .find .ensures)
+    (c .before .why .given .1)
 
 pub list-spec : {M : Type 1} → statement M
 list-spec =

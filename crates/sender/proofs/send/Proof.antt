@@ -7,11 +7,11 @@ use lib.Dec.{eqb}
 use lib.Seq.{length-take-le}
 use Rattle.laws.specs.Choice.{either, opposite}
 use Rattle.size.specs.Size.{outputLength}
+use Rattle.size.proofs.Room.{output-most}
 use Rattle.layout.specs.Flat.{flat}
 use Rattle.coding.specs.Kind.{kindSize, codingOf}
 use Rattle.sender.specs.Send.{buffers}
 use Rattle.sender.proofs.Laws.{unnamed, all-sent, invalid, not-refresh, came-refused}
-use Rattle.sender.proofs.Steps.{output-most}
 use Rattle.sender.proofs.send.Statement.{statement}
 use Rattle.sender.proofs.send.Tie as tie
 
