@@ -30,4 +30,4 @@ slice-aggregate-all-3 : tie.Need-slice-aggregate-all-3
 slice-aggregate-all-3 c = part-long _ (array-borrow-prefix-second (c .before))
 
 pub record-spec : {M : Type 1} → statement M
-record-spec = tie.close (tie.spec (λ c κs. search needs) (λ c κs. search needs) (λ c κs. search needs) (λ c κs. search needs) (λ c κs. search needs) array-borrow-prefix-picture slice-aggregate-all array-borrow-prefix-first slice-aggregate-all-2 array-borrow-prefix-second slice-aggregate-all-3 (λ c κs. search needs) (λ c κs. search needs) (λ c. search needs))
+record-spec = tie.close (tie.spec (λ c κs. search needs) (λ c κs. search needs) (λ c κs. search needs) (λ c κs. search needs) (λ c κs. search needs) array-borrow-prefix-picture slice-aggregate-all array-borrow-prefix-first slice-aggregate-all-2 array-borrow-prefix-second slice-aggregate-all-3 (λ c κs. search needs) (λ c. search needs))
