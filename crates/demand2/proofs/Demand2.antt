@@ -70,6 +70,7 @@ write-back = record { back = λ f d out n t l e. written-back f d out n e .read 
 pub write-refused : WriteRefused
 unfolding writeOf
 write-refused = record {
+  unnamed = λ f d out l. rw l refl;
   invalid = λ f d out l v. rw (l, v) refl;
   above = λ f d out l v m. rw (l, v, lt-ltb (limit (sizeOf f)) (length (written f d)) m) refl;
   else = λ f d out why t l e q. bits-refused (length (written f d)) why (sym (writes f d out t l e) ∙ q);
