@@ -91,3 +91,7 @@ WriteBack = ReadsBack write
 
 abbrev pub WriteRefused : Type 0
 WriteRefused = RefusedExactly write
+
+-- ---- wrong: a writer that answers 31 for a wrong length, once, whatever else it does
+abbrev pub LengthAsInvalidWrong : Type 0
+LengthAsInvalidWrong = (w : Writer) (f : Format) (d : Flat) (out : List ℕ) → lengths f d (length out) ≡ false → w f d out .answer ≡ Refused (refusal Invalid 0) → RefusedExactly w → ⊥
