@@ -10,7 +10,7 @@ ghost use Prim.Native.Nat.{_+_, _≤_};
 ghost use lib.ListN.{length};
 ghost use Rattle.io.specs.Counts.{Counts};
 ghost use Rattle.coding.specs.Kind.{codingOf};
-ghost use Rattle.standing.specs.Answered.{said};
+ghost use Rattle.standing.specs.Answered.{toldOpened, said};
 ghost use Rattle.standing.specs.Receive.{buffers, step};
 ghost use Rattle.text.specs.Text.{over};
 ghost use Rattle.text.specs.Puts.{Puts};
@@ -32,7 +32,7 @@ pub struct Listed {
 
 // A receiver for the block's clip, or 21 or 22.
 pub fn find(kind: Kind, block: &[u8]) -> Opened
-    ensures { λ r. ⌜ r ≡ foundBy kind (now (block .entry)) ⌝ }
+    ensures { λ r. ⌜ toldOpened r ≡ foundBy kind (now (block .entry)) ⌝ }
 {
     let size = coding::size_of(kind);
     match vault::check(size, block) {
@@ -48,7 +48,7 @@ fn go_on(
     first: &mut [u8],
     second: &mut [u8],
 ) -> Listed
-    ensures { λ r. ⌜ came r (now (collection .exit)) (now (first .exit)) (now (second .exit)) ≡ stepped (step codingOf receiver (now (block .entry)) (buffers (now (collection .entry)) (now (first .entry)) (now (second .entry)))) ⌝ }
+    ensures { λ r. ⌜ came r (buffers (now (collection .exit)) (now (first .exit)) (now (second .exit))) ≡ stepped (step codingOf receiver (now (block .entry)) (buffers (now (collection .entry)) (now (first .entry)) (now (second .entry)))) ⌝ }
 {
     let received = receiver::receive(receiver, block, collection, first, second);
     let answer = received.answer;
@@ -68,7 +68,7 @@ pub fn list(
     first: &mut [u8],
     second: &mut [u8],
 ) -> Listed
-    ensures { λ r. ⌜ came r (now (collection .exit)) (now (first .exit)) (now (second .exit)) ≡ listedOf kind clip (now (block .entry)) (buffers (now (collection .entry)) (now (first .entry)) (now (second .entry))) ⌝ }
+    ensures { λ r. ⌜ came r (buffers (now (collection .exit)) (now (first .exit)) (now (second .exit))) ≡ listedOf kind clip (now (block .entry)) (buffers (now (collection .entry)) (now (first .entry)) (now (second .entry))) ⌝ }
 {
     match clip {
         Clip::Known(receiver) => go_on(receiver, block, collection, first, second),
