@@ -115,12 +115,12 @@ module _ (r : Receiver) (block : List ℕ) (b : Buffers) where
 
   ended-fails : (found : Told Flat) → Fails (ended codingOf r header found)
   unfolding ended
-  ended-fails (refused n place) m at h = (refl, refl, refl)
+  ended-fails (refused n place) = λ m at h. (refl, refl, refl)
   ended-fails (accepted d) = go (alike (codingOf (r .kind) .refresh d) (markOf (r .progress) header))
     where
       go : (true-mark : Bool) → Fails (pick true-mark (finished header d) (failed header 24 0))
-      go true m at h = absurd (never-both m at h)
-      go false m at h = (refl, refl, refl)
+      go true = λ m at h. absurd (never-both m at h)
+      go false = λ m at h. (refl, refl, refl)
 
   abbrev lastOnes : List Verdict
   lastOnes = pictureRules (formatOf (r .kind)) after (countOf header) ++ (markRule r block (codingOf (r .kind) .read after (countOf header)) ∷ [])
@@ -139,7 +139,7 @@ module _ (r : Receiver) (block : List ℕ) (b : Buffers) where
     where
       go : (last : Bool) → Fails (pick last (ended codingOf r header (codingOf (r .kind) .read after (countOf header))) (taken header standing))
       go true = ended-fails (codingOf (r .kind) .read after (countOf header))
-      go false m at h = absurd (never-both m at h)
+      go false = λ m at h. absurd (never-both m at h)
 
   line-due : (line : Line) → eventVerdict (byLine codingOf line r header block (b .collection)) ≡ firstOf (pick (both (takes line) (lastOf block)) lastOnes [])
   unfolding byLine
@@ -150,10 +150,10 @@ module _ (r : Receiver) (block : List ℕ) (b : Buffers) where
 
   line-fails : (line : Line) → Fails (byLine codingOf line r header block (b .collection))
   unfolding byLine
-  line-fails Earlier m at h = absurd (never-both m at h)
+  line-fails Earlier = λ m at h. absurd (never-both m at h)
   line-fails Next = took-fails (r .progress .standing)
   line-fails Anew = took-fails T.Catching
-  line-fails Otherwise m at h = absurd (never-both m at h)
+  line-fails Otherwise = λ m at h. absurd (never-both m at h)
 
   -- ---- any block
   pub record Came-to (e : Event Flat) : Type 0 where
@@ -229,7 +229,6 @@ module _ (kind : Kind) (block : List ℕ) where
   found-is = ap (openedBy kind) (check-is (kindSize kind) block) ∙ go (firstOf (checkRules (kindSize kind) block)) refl
     where
       go : (v : Verdict) → firstOf (checkRules (kindSize kind) block) ≡ v → openedBy kind (withValue (headerOf block) v) ≡ withValue own v
-      unfolding openedBy
       go (refused n place) e = refl
       go (accepted t) e =
           ap (λ (z : Bool). pick z (refused 22 0) (accepted own))
@@ -312,11 +311,15 @@ judge-due : (s : Sender) (d : Flat) (b : S.Buffers) → judgementVerdict (S.judg
 unfolding S.judge
 judge-due s d b =
     let c = codingOf (s .kind) in
-    otherwise (both (c .named d) (S.lengths (kindSize (s .kind)) b)) 1 _ _
-    (otherwise (ltb (s .picture) pictures) 34 _ _
-    (otherwise (c .valid d) 31 _ _
-    (otherwise (either (opposite (eqb (s .picture) 0)) (c .refresh d)) 33 _ _ (otherwise (leb (length (c .written d)) (limit (kindSize (s .kind)))) 32 S.sends [] refl)
-    ∙ ap (λ (z : Bool). firstOf (when 33 z ∷ when 32 (opposite (leb (length (c .written d)) (limit (kindSize (s .kind))))) ∷ [])) (first-refresh (eqb (s .picture) 0) (c .refresh d)))))
+    let above : Verdict = when 32 (opposite (leb (length (c .written d)) (limit (kindSize (s .kind))))) in
+    let first : Verdict = when 33 (both (eqb (s .picture) 0) (opposite (c .refresh d))) in
+    let invalid : Verdict = when 31 (opposite (c .valid d)) in
+    let many : Verdict = when 34 (opposite (ltb (s .picture) pictures)) in
+    otherwise (both (c .named d) (S.lengths (kindSize (s .kind)) b)) 1 _ (many ∷ invalid ∷ first ∷ above ∷ [])
+    (otherwise (ltb (s .picture) pictures) 34 _ (invalid ∷ first ∷ above ∷ [])
+    (otherwise (c .valid d) 31 _ (first ∷ above ∷ [])
+    (otherwise (either (opposite (eqb (s .picture) 0)) (c .refresh d)) 33 _ (above ∷ []) (otherwise (leb (length (c .written d)) (limit (kindSize (s .kind)))) 32 S.sends [] refl)
+    ∙ ap (λ (z : Bool). firstOf (when 33 z ∷ above ∷ [])) (first-refresh (eqb (s .picture) 0) (c .refresh d)))))
 
 came-refuses : (s : Sender) (d : Flat) (b : S.Buffers) (rules : List Verdict) (j : S.Judgement) → judgementVerdict j ≡ firstOf rules
     → (let x = S.cameTo codingOf s d b j in Refuses {W = Sender × S.Buffers} rules (verdictOn (x .gave .answer)) (s, b) (x .gave .next, x .left))

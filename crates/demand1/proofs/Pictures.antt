@@ -6,7 +6,7 @@ use mathlib.Core.List.{List, [], _∷_}
 use native.Mathlib.Omega.{arith}
 use lib.Dec.{leb, ltb, eqb, leb→le}
 use lib.ListN.{length}
-use Rattle.laws.specs.Choice.{pick, both, either}
+use Rattle.laws.specs.Choice.{pick, both, either, opposite}
 use Rattle.laws.proofs.Choice.{both-left, both-right}
 use Rattle.refusals.specs.declared.Reason.{Reason}
 use Rattle.refusals.specs.declared.Reason.the-variants.{Count}
@@ -79,19 +79,20 @@ decoder-due k bytes n reference store =
 pub writer-due : (f : Format) (d : Flat) (room : ℕ) → verdictOn (writeOf f d room) ≡ firstOf (writeRules f d room)
 unfolding writeOf
 writer-due f d room =
-    unless-then (lengths f d room) 1 _ _
-    (unless-then (valid f d) 31 _ _ (if-refused (ltb (limit (sizeOf f)) (length (written f d))) 32 (length (written f d))))
+    let above = when 32 (ltb (limit (sizeOf f)) (length (written f d))) in
+    unless-then (lengths f d room) 1 _ (when 31 (opposite (valid f d)) ∷ above ∷ [])
+    (unless-then (valid f d) 31 _ (above ∷ []) (if-refused (ltb (limit (sizeOf f)) (length (written f d))) 32 (length (written f d))))
 
 -- ---- the table
+two : (reason : Reason) → number reason ≡ 2 → reason ≡ Count
+unfolding number
+two reason h = number-once reason Count h
+
 pub picture-in-table : PictureInTable
 picture-in-table f bytes n m place e = go (reading f bytes n) refl (read-due f bytes n ∙ e)
   where
     twice : (a b : ℕ) (p q : ℕ) → _≡_ {A = Verdict} (refused a p) (refused b q) → (a ≡ b) × (p ≡ q)
     twice a b p q h = (cc, cc)
-
-    two : (reason : Reason) → number reason ≡ 2 → reason ≡ Count
-    unfolding number
-    two reason h = number-once reason Count h
 
     go : (x : Read Picture) → reading f bytes n ≡ x → verdictOn (found x) ≡ refused m place → InTable n m place
     go (got p left at) q h = absurd (never-both m place h)
