@@ -9,7 +9,7 @@ use Rattle.refusals.specs.declared.Reason.the-variants.{Length, Count, B
 use Rattle.refusals.specs.declared.Refusal.{Refusal}
 use Rattle.refusals.specs.declared.Verdict.{Verdict}
 use Rattle.refusals.specs.declared.Verdict.the-variants.{Accepted, Refused}
-use Rattle.refusals.specs.Number.{number}
+use Rattle.refusals.specs.Number.{number, refusal}
 use Rattle.refusals.specs.Told.{Told, accepted, refused, toldVerdict, verdictOn, foundOr, NumberOnce, RefusalToldOnce, VerdictToldOnce}
 
 -- ---- the reason of a number: 1 to 13, 21 to 24, 31 to 34
@@ -52,6 +52,14 @@ number-once a b e = sym (reason-back a) ∙ ap reasonOf e ∙ reason-back b
 
 pub refusal-told-once : RefusalToldOnce
 refusal-told-once a b n p = let r : a .reason ≡ b .reason = number-once (a .reason) (b .reason) n in λ i. record { reason = r i; place = p i }
+
+-- a refusal, back from its number and its place
+pub refusalOf : ℕ → ℕ → Refusal
+refusalOf n place = refusal (reasonOf n) place
+
+pub refusal-back : (why : Refusal) → refusalOf (number (why .reason)) (why .place) ≡ why
+unfolding refusalOf
+refusal-back why = λ i. record { reason = reason-back (why .reason) i; place = why .place }
 
 -- ---- of any answer
 module _ {A : Type 0} where
