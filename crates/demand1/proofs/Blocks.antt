@@ -10,6 +10,7 @@ use lib.ListN.{length}
 use Rattle.laws.specs.Choice.{pick, both, either, opposite, alike}
 use Rattle.laws.proofs.Choice.{two-of}
 use Rattle.refusals.specs.Told.{Told, accepted, refused, verdictOn}
+use Rattle.refusals.proofs.Told.{told-apart}
 use Rattle.size.specs.declared.Size.{Size}
 use Rattle.size.specs.Size.{limit}
 use Rattle.layout.specs.Flat.{Flat}
@@ -18,13 +19,11 @@ use Rattle.coding.specs.Kind.{formatOf, kindSize, codingOf}
 use Rattle.vault.specs.declared.Header.{Header}
 use Rattle.vault.specs.Block.{clipOf, partOf, lastOf, checkSumOf, headerOf, ruled, follows, sumOf, pictures, checkOf, ofClip, judgeOf}
 use Rattle.vault.specs.Parts.{placed}
-use Rattle.standing.specs.Stores.{Stores}
 use Rattle.standing.specs.declared.Line.{Line}
 use Rattle.standing.specs.declared.Line.the-variants.{Earlier, Next, Anew, Otherwise}
 use Rattle.standing.specs.declared.Standing.{Standing}
 use Rattle.standing.specs.declared.Receiver.{Receiver}
-use Rattle.standing.specs.Answered.{Said}
-use Rattle.standing.specs.Receive.{Event, refusing, old, taken, lost, failed, finished, Buffers, fresh, opened, countOf, markOf, lineOf, judged, ended, tookOf, byLine, byJudgement, decide, advance, answerOf, collected, storedBy, failing, cameTo, step}
+use Rattle.standing.specs.Receive.{Event, refusing, taken, failed, finished, Buffers, fresh, countOf, markOf, lineOf, judged, ended, tookOf, byLine, byJudgement, decide, advance, answerOf, collected, storedBy, failing, cameTo, step}
 use Rattle.listing.specs.declared.Clip.{Clip}
 use Rattle.listing.specs.Listed.{openedBy, foundBy, Came, stepped, byOpened, listed}
 use Rattle.sender.specs.declared.Sender.{Sender}
@@ -33,9 +32,9 @@ use Rattle.standing.specs.Receive as R
 use Rattle.sender.specs.Send as S
 use Rattle.listing.specs.declared.Clip.the-variants as K
 use Rattle.demand1.specs.Order.{Verdict, when, firstOf, Refuses}
-use Rattle.demand1.specs.Rules.{pictureRules, sendRules, openRules, checkRules, judgeRules, blockRules, takes, markRule, lastRules}
+use Rattle.demand1.specs.Rules.{pictureRules, sendRules, checkRules, judgeRules, blockRules, takes, markRule, lastRules}
 use Rattle.demand1.specs.Demand1.{verdictSaid, BlockRefuses, receiverOf}
-use Rattle.demand1.proofs.Order.{never-both, orElse, first-append, unless-then}
+use Rattle.demand1.proofs.Order.{orElse, first-append}
 use Rattle.demand1.proofs.Pictures.{kind-due}
 
 -- ---- opening
@@ -119,7 +118,7 @@ module _ (r : Receiver) (block : List ℕ) (b : Buffers) where
   ended-fails (accepted d) = go (alike (codingOf (r .kind) .refresh d) (markOf (r .progress) header))
     where
       go : (true-mark : Bool) → Fails (pick true-mark (finished header d) (failed header 24 0))
-      go true = λ m at h. absurd (never-both m at h)
+      go true = λ m at h. absurd (told-apart h)
       go false = λ m at h. (refl, refl, refl)
 
   abbrev lastOnes : List Verdict
@@ -139,7 +138,7 @@ module _ (r : Receiver) (block : List ℕ) (b : Buffers) where
     where
       go : (last : Bool) → Fails (pick last (ended codingOf r header (codingOf (r .kind) .read after (countOf header))) (taken header standing))
       go true = ended-fails (codingOf (r .kind) .read after (countOf header))
-      go false = λ m at h. absurd (never-both m at h)
+      go false = λ m at h. absurd (told-apart h)
 
   line-due : (line : Line) → eventVerdict (byLine codingOf line r header block (b .collection)) ≡ firstOf (pick (both (takes line) (lastOf block)) lastOnes [])
   unfolding byLine
@@ -150,10 +149,10 @@ module _ (r : Receiver) (block : List ℕ) (b : Buffers) where
 
   line-fails : (line : Line) → Fails (byLine codingOf line r header block (b .collection))
   unfolding byLine
-  line-fails Earlier = λ m at h. absurd (never-both m at h)
+  line-fails Earlier = λ m at h. absurd (told-apart h)
   line-fails Next = took-fails (r .progress .standing)
   line-fails Anew = took-fails T.Catching
-  line-fails Otherwise = λ m at h. absurd (never-both m at h)
+  line-fails Otherwise = λ m at h. absurd (told-apart h)
 
   -- ---- any block
   pub record Came-to (e : Event Flat) : Type 0 where
@@ -166,7 +165,7 @@ module _ (r : Receiver) (block : List ℕ) (b : Buffers) where
   decided (refused n place) h = record {
     due = sym (first-append (blockRules r block b) (lastRules r block b) ∙ ap (λ (v : Verdict). orElse v (firstOf (lastRules r block b))) h);
     idle = λ m at q. same n m place at (sym h ∙ q);
-    fails = λ q. absurd (never-both n place (sym q ∙ h));
+    fails = λ q. absurd (told-apart (sym q ∙ h));
   }
     where
       same : (n m place at : ℕ) → _≡_ {A = Verdict} (refused n place) (refused m at) → _≡_ {A = Event Flat} (refusing n place) (refusing m at)
@@ -175,7 +174,7 @@ module _ (r : Receiver) (block : List ℕ) (b : Buffers) where
     due =
         line-due (lineOf (r .progress) header)
         ∙ sym (first-append (blockRules r block b) (lastRules r block b) ∙ ap (λ (v : Verdict). orElse v (firstOf (lastRules r block b))) h);
-    idle = λ m at q. absurd (never-both m at (sym h ∙ q));
+    idle = λ m at q. absurd (told-apart (sym h ∙ q));
     fails = λ _. line-fails (lineOf (r .progress) header);
   }
 
@@ -216,9 +215,9 @@ clip-some size block e =
 
 all-fine : (long sum fine : Bool) → firstOf (when 1 (opposite long) ∷ when 21 (opposite sum) ∷ when 22 (opposite fine) ∷ []) ≡ accepted tt → fine ≡ true
 all-fine true true true e = refl
-all-fine true true false e = absurd (never-both 22 0 (sym e))
-all-fine true false fine e = absurd (never-both 21 0 (sym e))
-all-fine false sum fine e = absurd (never-both 1 0 (sym e))
+all-fine true true false e = absurd (told-apart (sym e))
+all-fine true false fine e = absurd (told-apart (sym e))
+all-fine false sum fine e = absurd (told-apart (sym e))
 
 module _ (kind : Kind) (block : List ℕ) where
   abbrev own : Receiver
@@ -276,14 +275,14 @@ as-unknown kind block b (refused m at) e =
       due = sym (first-append (blockRules r block b) (lastRules r block b) ∙ ap (λ (v : Verdict). orElse v (firstOf (lastRules r block b))) e);
       stores = λ n place h. refl;
       unchanged = λ n place h. (refl, refl);
-      at-last = λ n place g h. absurd (never-both m at (sym g ∙ e));
+      at-last = λ n place g h. absurd (told-apart (sym g ∙ e));
     }
 as-unknown kind block b (accepted t) e =
     let x = as-known (own kind block) block b in
     record {
       due = x .due;
       stores = x .stores;
-      unchanged = λ n place h. absurd (never-both n place (sym e ∙ h));
+      unchanged = λ n place h. absurd (told-apart (sym e ∙ h));
       at-last = x .at-last;
     }
 
@@ -324,7 +323,7 @@ judge-due s d b =
 came-refuses : (s : Sender) (d : Flat) (b : S.Buffers) (rules : List Verdict) (j : S.Judgement) → judgementVerdict j ≡ firstOf rules
     → (let x = S.cameTo codingOf s d b j in Refuses {W = Sender × S.Buffers} rules (verdictOn (x .gave .answer)) (s, b) (x .gave .next, x .left))
 unfolding S.cameTo
-came-refuses s d b rules S.sends h = record { due = h; unchanged = λ n place q. absurd (never-both n place q) }
+came-refuses s d b rules S.sends h = record { due = h; unchanged = λ n place q. absurd (told-apart q) }
 came-refuses s d b rules (S.refuses m) h = record { due = h; unchanged = λ n place q. refl }
 
 pub sent-refuses : (s : Sender) (d : Flat) (b : S.Buffers)

@@ -5,6 +5,7 @@ use mathlib.Core.List.{List}
 use lib.Dec.{eqb}
 use lib.ListN.{length}
 use Rattle.refusals.specs.Told.{Told, accepted, refused, verdictOn, foundOr}
+use Rattle.refusals.proofs.Told.{told-apart}
 use Rattle.bits.specs.Bits.{Bit}
 use Rattle.h261_writer.specs.Output.{written, leaves, writeOf}
 use Rattle.h261_reader.specs.ReadOf.{readOf}
@@ -16,15 +17,14 @@ use Rattle.sender.specs.declared.Sender.{Sender}
 use Rattle.sender.specs.Send as S
 use Rattle.listing.specs.declared.Clip.the-variants as K
 use Rattle.demand1.specs.Order.{Verdict, firstOf, Refuses}
-use Rattle.demand1.specs.Rules.{readRules, decodeRules, writeRules, sendRules, checkRules, judgeRules}
+use Rattle.demand1.specs.Rules.{readRules, decodeRules, sendRules, checkRules, judgeRules}
 use Rattle.demand1.specs.Demand1.{BlockRefuses, receiverOf, PromisesMeet}
-use Rattle.demand1.proofs.Order.{never-both}
 use Rattle.demand1.proofs.Pictures.{reader-due, decoder-due, writer-due}
 use Rattle.demand1.proofs.Blocks.{opening-due, value-verdict, check-is, judge-is, step-refuses, listed-refuses, sent-refuses}
 
 -- what is found or was there before
 kept-before : {A : Type 0} (before : A) (x : Told A) (n place : ℕ) → verdictOn x ≡ refused n place → foundOr before x ≡ before
-kept-before before (accepted a) n place h = absurd (never-both n place h)
+kept-before before (accepted a) n place h = absurd (told-apart h)
 kept-before before (refused m at) n place h = refl
 
 -- an answer that is the verdict of what is found, and buffers that hold it or what they held
@@ -35,7 +35,7 @@ found-refuses rules verdict before left x due says leaves = record { due = says 
 -- an output that a refusal left
 untouched : (out : List ℕ) (bits : List Bit) (x : Told ℕ) (n place : ℕ) → verdictOn x ≡ refused n place → leaves out bits x ≡ out
 unfolding leaves
-untouched out bits (accepted m) n place h = absurd (never-both n place h)
+untouched out bits (accepted m) n place h = absurd (told-apart h)
 untouched out bits (refused m at) n place h = refl
 
 pub promises-meet : PromisesMeet

@@ -1,15 +1,11 @@
 -- Tests one within the other are rules in an order. Assumes nothing.
 use Prim.Native.Nat.{ℕ}
-use mathlib.Core.Path.{_≡_, refl, sym, _∙_}
+use mathlib.Core.Path.{_≡_, refl}
 use mathlib.Core.Bool.{Bool, true, false}
 use mathlib.Core.List.{List, [], _∷_, _++_}
-use native.Mathlib.Omega.{arith}
 use Rattle.laws.specs.Choice.{pick, opposite}
 use Rattle.refusals.specs.Told.{Told, accepted, refused, verdictOn}
 use Rattle.demand1.specs.Order.{Verdict, when, firstOf}
-
-pub never-both : (n place : ℕ) → _≡_ {A = Verdict} (accepted tt) (refused n place) → ⊥
-never-both n place e = let z : _≡_ {A = ℕ} 0 1 = cc in omega arith
 
 -- ---- a rule alone
 pub alone : (v : Verdict) → firstOf (v ∷ []) ≡ v

@@ -1,19 +1,17 @@
 -- Reading, decoding and writing are refused by the first rule that refuses. Assumes nothing.
 use Prim.Native.Nat.{ℕ, _*_, _≤_}
-use mathlib.Core.Path.{_≡_, refl, sym, ap, subst, _∙_}
+use mathlib.Core.Path.{_≡_, refl, sym, subst, _∙_}
 use mathlib.Core.Bool.{Bool, true, false}
 use mathlib.Core.List.{List, [], _∷_}
-use native.Mathlib.Omega.{arith}
 use lib.Dec.{leb, ltb, eqb, leb→le}
 use lib.ListN.{length}
 use Rattle.laws.specs.Choice.{pick, both, either, opposite}
 use Rattle.laws.proofs.Choice.{both-left, both-right}
 use Rattle.refusals.specs.declared.Reason.{Reason}
 use Rattle.refusals.specs.declared.Reason.the-variants.{Count}
-use Rattle.refusals.specs.declared.Refusal.{Refusal}
 use Rattle.refusals.specs.Number.{number}
 use Rattle.refusals.specs.Told.{Told, accepted, refused, verdictOn}
-use Rattle.refusals.proofs.Told.{number-once}
+use Rattle.refusals.proofs.Told.{number-once, told-apart}
 use Rattle.bits.specs.Bits.{source}
 use Rattle.bits.specs.Read.{Read, got, endless, bad, refused as unread}
 use Rattle.fields.specs.Answer.{mapRead, found}
@@ -26,7 +24,7 @@ use Rattle.h261_description.specs.Valid.{lengthsOf, valid}
 use Rattle.h261_layers.specs.Grammar.{picture, reading}
 use Rattle.h261_reader.specs.Described.{described}
 use Rattle.h261_reader.specs.ReadOf.{readOf}
-use Rattle.h261_reader.specs.Verdict.{Refuses, ofReading}
+use Rattle.h261_reader.specs.Verdict.{Refuses}
 use Rattle.h261_reader.proofs.Verdicts.{never-endless, refused-by-table}
 use Rattle.h261_writer.specs.Output.{written, lengths, writeOf}
 use Rattle.coding.specs.declared.Kind.{Kind}
@@ -35,7 +33,7 @@ use Rattle.coding.specs.Kind.{formatOf, kindSize, codingOf}
 use Rattle.decoder.specs.Decoded.{drawnBy, drawn, decoded}
 use Rattle.demand1.specs.Order.{Verdict, when, firstOf}
 use Rattle.demand1.specs.Rules.{pictureRules, readRules, decodeRules, writeRules, InTable, PictureInTable}
-use Rattle.demand1.proofs.Order.{never-both, alone, unless-then, if-refused}
+use Rattle.demand1.proofs.Order.{alone, unless-then, if-refused}
 
 -- ---- a picture's bits
 found-map : {A B : Type 0} (f : A → B) (x : Read A) → verdictOn (found (mapRead f x)) ≡ verdictOn (found x)
@@ -95,7 +93,7 @@ picture-in-table f bytes n m place e = go (reading f bytes n) refl (read-due f b
     twice a b p q h = (cc, cc)
 
     go : (x : Read Picture) → reading f bytes n ≡ x → verdictOn (found x) ≡ refused m place → InTable n m place
-    go (got p left at) q h = absurd (never-both m place h)
+    go (got p left at) q h = absurd (told-apart h)
     go endless q h = absurd (never-endless f bytes n q)
     go (unread why) q h =
         let is = twice (number (why .reason)) m (why .place) place h in

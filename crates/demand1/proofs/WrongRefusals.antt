@@ -1,20 +1,18 @@
 -- A reader whose refusal has another number of the table, and a receiver that draws before it judges, don't meet demand 1. Assumes nothing.
 use Prim.Native.Nat.{ℕ}
 use mathlib.Core.Path.{_≡_, refl, sym, ap, _∙_}
-use mathlib.Core.List.{List, [], _∷_}
+use mathlib.Core.List.{[]}
 use native.Mathlib.Omega.{arith}
 use Rattle.refusals.specs.declared.Reason.{Reason}
 use Rattle.refusals.specs.declared.Verdict.{Verdict}
 use Rattle.refusals.specs.declared.Verdict.the-variants.{Accepted, Refused}
 use Rattle.refusals.specs.Number.{number}
-use Rattle.refusals.specs.Told.{refused, toldVerdict, verdictOn}
+use Rattle.refusals.specs.Told.{refused, toldVerdict}
 use Rattle.bits.specs.Bits.{bitsIn}
 use Rattle.bits.specs.Read.{fieldFrom}
-use Rattle.layout.specs.Flat.{Flat}
 use Rattle.h261_groups.specs.declared.Format.the-variants.{Qcif}
 use Rattle.h261_reader.specs.Described.{zeros}
 use Rattle.h261_layers.specs.Grammar.{header, picture}
-use Rattle.h261_reader.specs.ReadOf.{readOf}
 use Rattle.demand1.specs.Order.{firstOf}
 use Rattle.demand1.specs.Rules.{readRules}
 use Rattle.demand1.specs.Demand1.{Programs, Keeps, Demand1}

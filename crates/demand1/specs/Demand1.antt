@@ -6,7 +6,7 @@ use mathlib.Core.Path.{_≡_}
 use mathlib.Core.List.{List, _++_}
 use lib.ListN.{length}
 use Rattle.refusals.specs.declared.Verdict.{Verdict}
-use Rattle.refusals.specs.Told.{Told, accepted, refused, toldVerdict, verdictOn}
+use Rattle.refusals.specs.Told.{accepted, refused, toldVerdict, verdictOn}
 use Rattle.size.specs.declared.Size.{Size}
 use Rattle.layout.specs.Flat.{Flat}
 use Rattle.h261_groups.specs.declared.Format.{Format}
@@ -17,7 +17,6 @@ use Rattle.coding.specs.declared.Kind.{Kind}
 use Rattle.vault.specs.declared.Checked.{Checked}
 use Rattle.vault.specs.Block.{clipOf, partOf, headerOf, toldChecked, checkOf, judgeOf}
 use Rattle.vault.specs.Parts.{placed}
-use Rattle.standing.specs.Stores.{Stores}
 use Rattle.standing.specs.declared.Receiver.{Receiver}
 use Rattle.standing.specs.declared.Received.{Received}
 use Rattle.standing.specs.Answered.{Said, said}

@@ -14,7 +14,7 @@ use Rattle.standing.specs.Answered.{said}
 use Rattle.standing.specs.Receive.{Buffers}
 use Rattle.demand1.specs.Order.{firstOf}
 use Rattle.demand1.specs.Rules.{readRules}
-use Rattle.demand1.specs.Demand1.{Left, Programs, verdictSaid, Demand1, Keeps}
+use Rattle.demand1.specs.Demand1.{Programs, verdictSaid, Demand1, Keeps}
 
 -- ---- wrong: a reader one of whose refusals has another number than the one that is due
 abbrev pub MisnumberedWrong : Type 0
