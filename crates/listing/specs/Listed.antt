@@ -2,6 +2,7 @@
 use Prim.Native.Nat.{ℕ}
 use mathlib.Core.List.{List, _++_}
 use Rattle.laws.specs.Choice.{pick}
+use Rattle.refusals.specs.declared.Refusal.{Refusal}
 use Rattle.refusals.specs.Told.{Told, accepted, refused}
 use Rattle.coding.specs.declared.Kind.{Kind}
 use Rattle.coding.specs.Kind.{kindSize, codingOf}
@@ -14,6 +15,7 @@ use Rattle.text.specs.Text.{decimal}
 use Rattle.listing.specs.declared.Clip.{Clip}
 use Rattle.listing.specs.declared.Listed.{Listed}
 use Rattle.listing.specs.Lines.{endNone, endClip, standingText, newline}
+use Rattle.standing.specs.declared.Answer.the-variants as R
 use Rattle.standing.specs.Answered as A
 use Rattle.listing.specs.declared.Clip.the-variants as K
 
@@ -34,6 +36,10 @@ pub record Came : Type 0 where
 -- of what the code gives back and leaves
 abbrev pub came : Listed → Buffers → Came
 came gave left = record { answer = said (gave .answer); next = gave .next; left = left }
+
+-- the code's answer where no clip is known
+abbrev pub unknownBy : Refusal → Listed
+unknownBy why = record { answer = R.Refused why; next = K.Unknown }
 
 unfoldable pub stepped : Outcome → Came
 stepped o = record { answer = o .gave .answer; next = K.Known (o .gave .next); left = o .left }

@@ -1,5 +1,7 @@
 // The vault lister's work but reading and writing: the clip that is listed, what each block comes to, and its line.
 use coding::Kind;
+use refusals::Reason;
+use refusals::Refusal;
 use standing::Answer;
 use standing::Opened;
 use standing::Receiver;
@@ -15,7 +17,7 @@ ghost use Rattle.standing.specs.Receive.{buffers, step};
 ghost use Rattle.text.specs.Text.{over};
 ghost use Rattle.text.specs.Puts.{Puts};
 ghost use Rattle.listing.specs.Lines.{tickOf, placeText, pictureText, textOf, lineText, shortText, standingText};
-ghost use Rattle.listing.specs.Listed.{foundBy, came, stepped, listed as listedOf, endText};
+ghost use Rattle.listing.specs.Listed.{foundBy, unknownBy, came, stepped, listed as listedOf, endText};
 
 // The clip that is listed, once it is found.
 pub enum Clip {
@@ -30,7 +32,7 @@ pub struct Listed {
 
 // ---- what a block comes to
 
-// A receiver for the block's clip, or 21 or 22.
+// A receiver for the block's clip, or 1, 21 or 22.
 pub fn find(kind: Kind, block: &[u8]) -> Opened
     ensures { λ r. ⌜ toldOpened r ≡ foundBy kind (now (block .entry)) ⌝ }
 {
@@ -59,7 +61,17 @@ fn go_on(
     }
 }
 
-// A block comes: the answer, and the clip afterwards. The first good block opens its clip's receiver.
+// No clip is known by a refusal.
+fn refused(why: Refusal) -> Listed
+    ensures { λ r. ⌜ r ≡ unknownBy why ⌝ }
+{
+    Listed {
+        answer: Answer::Refused(why),
+        next: Clip::Unknown,
+    }
+}
+
+// A block comes: the answer, and the clip afterwards. The first good block opens its clip's receiver, unless a lent buffer hasn't its named length.
 pub fn list(
     kind: Kind,
     clip: Clip,
@@ -72,13 +84,20 @@ pub fn list(
 {
     match clip {
         Clip::Known(receiver) => go_on(receiver, block, collection, first, second),
-        Clip::Unknown => match find(kind, block) {
-            Opened::Open(receiver) => go_on(receiver, block, collection, first, second),
-            Opened::Refused(why) => Listed {
-                answer: Answer::Refused(why),
-                next: Clip::Unknown,
-            },
-        },
+        Clip::Unknown => {
+            let size = coding::size_of(kind);
+            if standing::named(size, collection.len(), first.len(), second.len()) {
+                match find(kind, block) {
+                    Opened::Open(receiver) => go_on(receiver, block, collection, first, second),
+                    Opened::Refused(why) => refused(why),
+                }
+            } else {
+                refused(Refusal {
+                    reason: Reason::Length,
+                    place: 0,
+                })
+            }
+        }
     }
 }
 
