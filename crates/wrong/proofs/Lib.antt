@@ -4,3 +4,4 @@ pub mod Example
 pub mod Renumbering
 pub mod Single
 pub mod WrongReceivers
+pub mod DrawingFirst
