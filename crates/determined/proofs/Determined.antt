@@ -47,7 +47,7 @@ use Rattle.h261_words.specs.declared.CoefficientRead.the-variants as C
 use Rattle.h261_layers.specs.declared.MbaRead.the-variants as M
 use Rattle.h261_layers.specs.declared.MacroblockRead.the-variants as BR
 use Rattle.fields.specs.declared.PlaceRead.the-variants as P
-use Rattle.determined.specs.Determined.{EquationOnce, ReadSaysOnce, ReadLeavesOnce, DecodeSaysOnce, DecodeLeavesOnce, WriteSaysOnce, WriteLeavesOnce, ReceiveOnce, SendOnce, FieldOnce, WordOnce, CoefficientOnce, HeaderOnce, MbaOnce, VectorOnce, MacroblockReadOnce, MacroblockLeftOnce, PlaceOnce, LeftOnce, BlockOnce, CodewordOnce, BitsWroteOnce, BlockWroteOnce, MacroblockOnce, RowsOnce, TextOnce}
+use Rattle.determined.specs.Determined.{EquationOnce, ReadSaysOnce, ReadLeavesOnce, DecodeSaysOnce, DecodeLeavesOnce, WriteSaysOnce, WriteLeavesOnce, ReceiveOnce, SendOnce, HandsBackOnce, FieldOnce, WordOnce, CoefficientOnce, HeaderOnce, MbaOnce, VectorOnce, MacroblockReadOnce, MacroblockLeftOnce, PlaceOnce, LeftOnce, BlockOnce, CodewordOnce, BitsWroteOnce, BlockWroteOnce, MacroblockOnce, RowsOnce, TextOnce}
 use Rattle.fields.specs.declared.PairRead.the-variants as PR
 use Rattle.standing.specs.Receive as R
 use Rattle.sender.specs.Send as S
@@ -87,6 +87,9 @@ pub send-once : SendOnce
 send-once s d b x y left after e f =
     let same = same-as e f in
     (sent-told-once x y (ap (λ (o : S.Outcome). o .gave) same), ap (λ (o : S.Outcome). o .left) same)
+
+pub hands-back-once : HandsBackOnce
+hands-back-once size holder first second x y h k = (same-as (h .begins) (k .begins), same-as (h .bytes) (k .bytes))
 
 -- ---- an equation with what the answer says: nothing of the answer is lost by that
 through : {A B : Type 0} (says : A → B) (of : B → A) → ((x : A) → of (says x) ≡ x) → {b : B} {x y : A} → says x ≡ b → says y ≡ b → x ≡ y

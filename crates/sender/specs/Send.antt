@@ -6,6 +6,7 @@ use mathlib.Core.Bool.{Bool}
 use mathlib.Core.List.{List, _++_}
 use lib.Dec.{eqb, leb, ltb}
 use lib.ListN.{length, drop}
+use denote.Ref.{RefT}
 use Rattle.laws.specs.Choice.{pick, both, either, opposite}
 use Rattle.refusals.specs.Told.{Told, accepted, refused, byTable}
 use Rattle.size.specs.declared.Size.{Size}
@@ -17,7 +18,7 @@ use Rattle.coding.specs.Described.{bytesIn}
 use Rattle.vault.specs.Block.{pictures}
 use Rattle.vault.specs.Parts.{partCount, blocksOf}
 use Rattle.standing.specs.declared.Holder.the-variants.{Neither}
-use Rattle.standing.specs.Stores.{Stores, stores, sized, goesInto, reference, kept, shown}
+use Rattle.standing.specs.Stores.{Stores, stores, sized, goesInto, reference, kept, shown, HandsBack}
 use Rattle.sender.specs.declared.Sender.{Sender}
 use Rattle.sender.specs.declared.Opened.{Opened}
 use Rattle.sender.specs.declared.Answer.{Answer}
@@ -135,3 +136,7 @@ SentToldOnce = (a b : Sent) → toldSent a ≡ toldSent b → a ≡ b
 -- ---- the store of the last picture sent
 abbrev pub shownBy : Sender → Stores → List ℕ
 shownBy s both = shown (kindSize (s .kind)) (s .holder) both
+
+-- what `show` promises: the part that it hands back of the two lent stores; its bytes are `shownBy`
+abbrev pub ShowHands : Sender → RefT (List ℕ) → RefT (List ℕ) → RefT (List ℕ) → Type 0
+ShowHands s first second part = HandsBack (kindSize (s .kind)) (s .holder) first second part

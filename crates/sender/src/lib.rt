@@ -14,9 +14,8 @@ ghost use Rattle.size.specs.Size.{outputLength};
 ghost use Rattle.layout.specs.Flat.{flat};
 ghost use Rattle.coding.specs.Kind.{kindSize, codingOf};
 ghost use Rattle.vault.specs.Block.{pictures};
-ghost use Rattle.standing.specs.Stores.{stores};
 ghost use Rattle.sender.specs.Sending.{SendDoes, Passed, Encoded};
-ghost use Rattle.sender.specs.Send.{opened, toldOpened, buffers, lengths, reply, toldSent, sends, onward, outcome, cameTo, shownBy};
+ghost use Rattle.sender.specs.Send.{opened, toldOpened, buffers, lengths, reply, toldSent, sends, onward, outcome, cameTo, ShowHands};
 
 pub struct Sender {
     pub clip: u16,
@@ -227,7 +226,7 @@ pub fn send(
 
 // The store of the last picture sent, not copied; before the first, or where a store hasn't its named length, an empty part of the first.
 pub fn show<'a>(sender: Sender, first: &'a [u8], second: &'a [u8]) -> &'a [u8]
-    ensures { λ r. ⌜ now r ≡ shownBy sender (stores (now (first .entry)) (now (second .entry))) ⌝ }
+    ensures { λ r. ⌜ ShowHands sender (first .entry) (second .entry) r ⌝ }
 {
     let kind = sender.kind;
     let holder = sender.holder;

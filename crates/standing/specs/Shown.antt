@@ -3,11 +3,12 @@ use Prim.Native.Nat.{ℕ}
 use mathlib.Core.Bool.{Bool, false}
 use mathlib.Core.List.{List}
 use lib.Dec.{eqb}
+use denote.Ref.{RefT}
 use Rattle.laws.specs.Choice.{pick}
 use Rattle.coding.specs.Kind.{kindSize}
 use Rattle.standing.specs.declared.Holder.{Holder}
 use Rattle.standing.specs.declared.Holder.the-variants.{Neither}
-use Rattle.standing.specs.Stores.{Stores, shown}
+use Rattle.standing.specs.Stores.{Stores, shown, HandsBack}
 use Rattle.standing.specs.declared.Standing.{Standing}
 use Rattle.standing.specs.Answered.{Said, Reply}
 use Rattle.standing.specs.declared.Standing.the-variants as S
@@ -32,3 +33,7 @@ holderShown x = pick (refusedLength (x .answer)) Neither (whereShown (x .next .p
 
 unfoldable pub shownBy : Reply → Stores → List ℕ
 shownBy x s = shown (kindSize (x .next .kind)) (holderShown x) s
+
+-- what `show` promises: the part that it hands back of the two lent stores; its bytes are `shownBy`
+abbrev pub ShowHands : Reply → RefT (List ℕ) → RefT (List ℕ) → RefT (List ℕ) → Type 0
+ShowHands x first second part = HandsBack (kindSize (x .next .kind)) (holderShown x) first second part

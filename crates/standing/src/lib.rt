@@ -11,9 +11,9 @@ ghost use Rattle.laws.specs.Choice.{both, opposite, alike};
 ghost use Rattle.refusals.specs.Number.{number};
 ghost use Rattle.refusals.specs.Told.{byTable};
 ghost use Rattle.standing.specs.Answered.{toldOpened, old, taken, lost, picture, refused, said, reply, toldReceived};
-ghost use Rattle.standing.specs.Stores.{stores, sized as sizedOf, goesInto, shown};
+ghost use Rattle.standing.specs.Stores.{sized as sizedOf, goesInto, HandsBack};
 ghost use Rattle.standing.specs.Receive.{opened, earlier as earlierOf, same as sameOf, isLost, placeOf, lineOf, markOf, named as namedOf, losing, taking, ending, withProgress, failing, finishing};
-ghost use Rattle.standing.specs.Shown.{whereShown, refusedLength, shownBy};
+ghost use Rattle.standing.specs.Shown.{whereShown, refusedLength, ShowHands};
 
 // Which store holds the last finished picture.
 pub enum Holder {
@@ -118,7 +118,7 @@ pub fn goes_into(holder: Holder) -> Holder
 
 // The store that holds the last finished picture, not copied; an empty part of the first where neither does, or where one hasn't its named length.
 pub fn store_shown<'a>(size: Size, holder: Holder, first: &'a [u8], second: &'a [u8]) -> &'a [u8]
-    ensures { λ r. ⌜ now r ≡ shown size holder (stores (now (first .entry)) (now (second .entry))) ⌝ }
+    ensures { λ r. ⌜ HandsBack size holder (first .entry) (second .entry) r ⌝ }
 {
     if sized(size, first.len(), second.len()) {
         match holder {
@@ -439,7 +439,7 @@ fn refused_length(answer: Answer) -> bool
 
 // The picture to show after a call, not copied: the store that holds picture k where the receiver is in step at k; else an empty part of the first.
 pub fn show<'a>(received: Received, first: &'a [u8], second: &'a [u8]) -> &'a [u8]
-    ensures { λ r. ⌜ now r ≡ shownBy (toldReceived received) (stores (now (first .entry)) (now (second .entry))) ⌝ }
+    ensures { λ r. ⌜ ShowHands (toldReceived received) (first .entry) (second .entry) r ⌝ }
 {
     let answer = received.answer;
     let receiver = received.next;
