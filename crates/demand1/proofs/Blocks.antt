@@ -155,12 +155,12 @@ module _ (r : Receiver) (block : List ℕ) (b : Buffers) where
   line-fails Otherwise = λ m at h. absurd (told-apart h)
 
   -- ---- any block
-  pub record Came-to (e : Event Flat) : Type 0 where
-    pub due : eventVerdict e ≡ firstOf (blockRules r block b ++ lastRules r block b)
-    pub idle : (n place : ℕ) → firstOf (blockRules r block b) ≡ refused n place → e ≡ refusing n place
-    pub fails : firstOf (blockRules r block b) ≡ accepted tt → Fails e
+  record Comes (e : Event Flat) : Type 0 where
+    due : eventVerdict e ≡ firstOf (blockRules r block b ++ lastRules r block b)
+    idle : (n place : ℕ) → firstOf (blockRules r block b) ≡ refused n place → e ≡ refusing n place
+    fails : firstOf (blockRules r block b) ≡ accepted tt → Fails e
 
-  decided : (v : Verdict) → firstOf (blockRules r block b) ≡ v → Came-to (byJudgement codingOf (withValue header v) r block (b .collection))
+  decided : (v : Verdict) → firstOf (blockRules r block b) ≡ v → Comes (byJudgement codingOf (withValue header v) r block (b .collection))
   unfolding byJudgement
   decided (refused n place) h = record {
     due = sym (first-append (blockRules r block b) (lastRules r block b) ∙ ap (λ (v : Verdict). orElse v (firstOf (lastRules r block b))) h);
@@ -178,14 +178,14 @@ module _ (r : Receiver) (block : List ℕ) (b : Buffers) where
     fails = λ _. line-fails (lineOf (r .progress) header);
   }
 
-  decide-came : Came-to (decide codingOf r block b)
+  decide-came : Comes (decide codingOf r block b)
   unfolding decide
   decide-came =
-      subst (λ (x : Told Header). Came-to (byJudgement codingOf x r block (b .collection))) (sym (judged-is r block b))
+      subst (λ (x : Told Header). Comes (byJudgement codingOf x r block (b .collection))) (sym (judged-is r block b))
       (decided (firstOf (blockRules r block b)) refl)
 
   -- what a receiver's call comes to
-  event-refuses : (e : Event Flat) → Came-to e → BlockRefuses r block b r (λ s. s) (answerOf e) (advance r e) (record { collection = collected block (b .collection) e; both = storedBy codingOf r (b .both) e })
+  event-refuses : (e : Event Flat) → Comes e → BlockRefuses r block b r (λ s. s) (answerOf e) (advance r e) (record { collection = collected block (b .collection) e; both = storedBy codingOf r (b .both) e })
   event-refuses e c = record {
     due = c .due;
     stores = λ n place h. stored (firstOf (blockRules r block b)) refl n place h;
