@@ -7,7 +7,7 @@ use borrow.Author.Tests.{eq-eqb, lt-ltb}
 use lib.ListN.{length}
 use Rattle.refusals.specs.declared.Refusal.{Refusal}
 use Rattle.refusals.specs.declared.Reason.the-variants.{Length}
-use Rattle.refusals.specs.Number.{refusal}
+use Rattle.refusals.specs.Number.{number, refusal}
 use Rattle.bits.specs.Read.{Read, got, endless, refused as unread}
 use Rattle.h261_groups.specs.Format.{sizeOf}
 use Rattle.size.specs.Size.{limit, storeLength}
@@ -21,10 +21,11 @@ use Rattle.coding.specs.Coding.{accepted, refused, found}
 use Rattle.coding.specs.H261.{h261}
 use Rattle.coding.specs.Kind.{formatOf, kindSize, codingOf}
 use Rattle.decoder.specs.Decoded.{drawnBy, drawn, decoded}
+use Rattle.h261_writer.specs.declared.Written.{Written}
 use Rattle.h261_writer.specs.declared.Written.the-variants.{Bits, Refused}
 use Rattle.h261_writer.specs.Output.{written, writeOf}
 use Rattle.demand2.proofs.WrittenBack.{writes, written-back}
-use Rattle.demand2.specs.Demand2.{decode, Follows, Accepts, DecodeExactly, DecodeSamples, WriteBack, WriteRefused}
+use Rattle.demand2.specs.Demand2.{decode, Follows, Accepts, DecodeExactly, DecodeSamples, WriteBack, WriteRefused, LengthAsInvalidWrong}
 
 -- ---- ours
 pub refused-accepted : {A : Type 0} (why : Refusal) (a : A) → refused why ≡ accepted a → ⊥
@@ -70,7 +71,17 @@ write-back = record { back = λ f d out n t l e. written-back f d out n e .read 
 pub write-refused : WriteRefused
 unfolding writeOf
 write-refused = record {
+  unnamed = λ f d out l. rw l refl;
   invalid = λ f d out l v. rw (l, v) refl;
   above = λ f d out l v m. rw (l, v, lt-ltb (limit (sizeOf f)) (length (written f d)) m) refl;
   else = λ f d out why t l e q. bits-refused (length (written f d)) why (sym (writes f d out t l e) ∙ q);
 }
+
+-- ---- wrong
+abbrev numberIn : Written → ℕ
+numberIn (Bits n) = 0
+numberIn (Refused why) = number (why .reason)
+
+pub length-as-invalid-wrong : LengthAsInvalidWrong
+unfolding number
+length-as-invalid-wrong w f d out l e h = let z : _≡_ {A = ℕ} 1 31 = ap numberIn (sym (h .unnamed f d out l) ∙ e) in omega arith

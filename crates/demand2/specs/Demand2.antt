@@ -79,8 +79,9 @@ write f d out = record { answer = writeOf f d (length out); output = outputOf f 
 pub record ReadsBack (w : Writer) : Type 0 where
   pub back : (f : Format) (d : Flat) (out : List ℕ) (n : ℕ) → T (valid f d) → length out ≡ outputLength (sizeOf f) → w f d out .answer ≡ Bits n → described f (w f d out .output) n ≡ got d [] n
 
--- "31 and 32, given exactly then"
+-- "31 and 32, given exactly then", and 1 before them
 pub record RefusedExactly (w : Writer) : Type 0 where
+  pub unnamed : (f : Format) (d : Flat) (out : List ℕ) → lengths f d (length out) ≡ false → w f d out .answer ≡ Refused (refusal Length 0)
   pub invalid : (f : Format) (d : Flat) (out : List ℕ) → lengths f d (length out) ≡ true → valid f d ≡ false → w f d out .answer ≡ Refused (refusal Invalid 0)
   pub above : (f : Format) (d : Flat) (out : List ℕ) → lengths f d (length out) ≡ true → valid f d ≡ true → limit (sizeOf f) < length (written f d) → w f d out .answer ≡ Refused (refusal AboveLimit 0)
   pub else : (f : Format) (d : Flat) (out : List ℕ) (why : Refusal) → T (valid f d) → length (written f d) ≤ limit (sizeOf f) → length out ≡ outputLength (sizeOf f) → w f d out .answer ≡ Refused why → ⊥
@@ -90,3 +91,7 @@ WriteBack = ReadsBack write
 
 abbrev pub WriteRefused : Type 0
 WriteRefused = RefusedExactly write
+
+-- ---- wrong: a writer that answers 31 for a wrong length, once, whatever else it does
+abbrev pub LengthAsInvalidWrong : Type 0
+LengthAsInvalidWrong = (w : Writer) (f : Format) (d : Flat) (out : List ℕ) → lengths f d (length out) ≡ false → w f d out .answer ≡ Refused (refusal Invalid 0) → RefusedExactly w → ⊥

@@ -31,9 +31,9 @@ pub record ReadAgain (f : Format) (d : Flat) (out : List ℕ) (n : ℕ) : Type 0
   pub read : described f (outputOf f d out) n ≡ got d [] n
   -- so `read`, into any buffers of their lengths, is accepted and gives it
   pub reads : (before : Flat) → lengthsOf f before ≡ true → readOf f (outputOf f d out) n before ≡ got d [] n
-  -- "`decode` gives the samples that rendering the description gives"
+  -- "and its samples agree": `decode` gives the samples that rendering the description gives
   pub samples : (reference : List ℕ) → length reference ≡ storeLength (sizeOf f) → decoded (kindOf f) (outputOf f d out) n reference (storeLength (sizeOf f)) ≡ accepted (rendered f d reference)
 
--- whenever `write` answers N bits. "A longer or shorter N is not what was written": N is `Wrote`'s
+-- whenever `write` answers N bits: "reading back takes exactly N bits"
 abbrev pub WrittenBack : Type 0
 WrittenBack = (f : Format) (d : Flat) (out : List ℕ) (n : ℕ) → writeOf f d (length out) ≡ Bits n → ReadAgain f d out n

@@ -3,7 +3,7 @@
 use mathlib.Core.Path.{_≡_, refl, sym, ap, subst, _∙_}
 use mathlib.Core.Bool.{Bool, true, false}
 use mathlib.Core.Logic.{_⊎_, inl, inr, ⊎-elim}
-use mathlib.Core.List.{List, [], _∷_, _++_, append-nil}
+use mathlib.Core.List.{List, [], _∷_, _++_, append-nil, append-assoc}
 use mathlib.Core.Option.{some, Option·some-injective}
 use Prim.Native.Nat.{ℕ, suc, _+_, _≤_, _<_}
 use native.Mathlib.Nat.{add-zero, ne-of-lt}
@@ -21,14 +21,14 @@ use Rattle.standing.specs.declared.Standing.{Standing}
 use Rattle.standing.specs.declared.Receiver.{Receiver}
 use Rattle.coding.specs.Coding.{Coding}
 use Rattle.coding.specs.Kind.{kindSize, AllLawful}
-use Rattle.standing.specs.Receive.{place, earlier, same, isLost, step}
+use Rattle.standing.specs.Receive.{place, earlier, same, isLost, Outcome, step}
 use Rattle.standing.specs.Run.{World}
 use Rattle.standing.specs.Shown.{whereShown, shownBy}
 use Rattle.demand3.specs.Clip.{Picture, PartOf, opening, picturesIn, begin, afterBlock, given, upon, Shows}
 use Rattle.demand3.specs.Demand3.{CatchesUp}
 use Rattle.demand3.specs.Theorems.{CatchesUpAlways}
 use Rattle.demand3.proofs.Finished.{none-shown}
-use Rattle.demand3.proofs.Step.{Moment, worldAt, bitsOf, refreshOf, Comes, comes-old, Takes, takes-next, takes-anew}
+use Rattle.demand3.proofs.Step.{Moment, worldAt, bitsOf, refreshOf, Comes, Finishing, comes-old, Takes, takes-next, takes-anew}
 use Rattle.demand3.proofs.Held.{Sound, not-lost, Held, Fits, block-of, fits-next, fits-anew, goes-further, goes-arrived, held-further, held-drawn, line-of, Goes, step-held, after-comes, Parts, Runs, run-held}
 use Rattle.demand3.proofs.InStep.{receiver-opened, start, sound-clip, each-part, start-held, upon-right}
 use Rattle.standing.specs.declared.Standing.the-variants as T
@@ -71,14 +71,24 @@ module _ {D : Type 0} {coding : Kind → Coding D} (lawful : AllLawful coding) {
     awaiting : isLost (m .standing) ≡ false → m .wanted ≡ place p part → ((x : Picture D) → getElem? sent p ≡ some x → part < blockCount x) → Ready p part m
     -- the picture is a refresh, not earlier than what it wants, and part 0 is to come
     starting : part ≡ 0 → ((x : Picture D) → getElem? sent p ≡ some x → refreshOf coding kind x ≡ true) → earlier (place p 0) (m .wanted) ≡ false → Ready p part m
-    -- all have come
-    complete : m .standing ≡ T.InStep p → m .wanted ≡ place (p + 1) 0 → ((x : Picture D) → getElem? sent p ≡ some x → part ≡ blockCount x) → Ready p part m
 
   record Onward (p part : ℕ) (m : Moment) (block : List ℕ) : Type 0 where
     next : Moment
     comes : Comes lawful clip kind m block next
     held : Held lawful sound next
     ready : Ready p part next
+
+  -- ---- one to which all have come
+  record Complete (p part : ℕ) (m : Moment) : Type 0 where
+    stands : m .standing ≡ T.InStep p
+    wants : m .wanted ≡ place (p + 1) 0
+    count : (x : Picture D) → getElem? sent p ≡ some x → part ≡ blockCount x
+
+  record Completes (p part : ℕ) (m : Moment) (block : List ℕ) : Type 0 where
+    next : Moment
+    finishes : Finishing lawful clip kind p m block next
+    held : Held lawful sound next
+    complete : Complete p part next
 
   -- ---- the next block
   module _ {p part : ℕ} {block : List ℕ} (h : PartOf sent p part block) (m : Moment) (held : Held lawful sound m) where
@@ -92,27 +102,31 @@ module _ {D : Type 0} {coding : Kind → Coding D} (lawful : AllLawful coding) {
     same-count y e = ap blockCount (Option·some-injective x y (sym (h .at) ∙ e))
 
     took : (standing : Standing) → isLost standing ≡ false → Takes lawful clip kind (block-of lawful sound h) m (held .named) standing → Fits lawful sound h m held
-        → Shows sent standing (shown (kindSize kind) (whereShown standing (m .holder)) (m .lent .both)) → Onward p (part + 1) m block
+        → Shows sent standing (shown (kindSize kind) (whereShown standing (m .holder)) (m .lent .both)) → Onward p (part + 1) m block ⊎ Completes p (part + 1) m block
     took standing l t fits shows = go (eqb (part + 1) (blockCount x)) refl
       where
         less : (a b : ℕ) → a < b → (a + 1 ≡ b → ⊥) → a + 1 < b
         less a b i n = omega (arith, i, n)
 
-        go : (last : Bool) → eqb (part + 1) (blockCount x) ≡ last → Onward p (part + 1) m block
-        go true e = record {
-          next = _;
-          comes = goes-arrived lawful sound h m held standing t fits e;
-          held = held-drawn lawful sound h m held fits;
-          ready = complete refl refl (λ y q. eqb-true (part + 1) (blockCount x) e ∙ same-count y q);
-        }
-        go false e = record {
-          next = _;
-          comes = goes-further lawful sound h m held standing t e;
-          held = held-further lawful sound h m held standing fits shows;
-          ready = awaiting l refl (λ y q. subst (λ (n : ℕ). part + 1 < n) (same-count y q) (less part (blockCount x) inside (eqb-false (part + 1) (blockCount x) e)));
-        }
+        go : (last : Bool) → eqb (part + 1) (blockCount x) ≡ last → Onward p (part + 1) m block ⊎ Completes p (part + 1) m block
+        go true e =
+            inr
+            (record {
+              next = _;
+              finishes = goes-arrived lawful sound h m held standing t fits e;
+              held = held-drawn lawful sound h m held fits;
+              complete = record { stands = refl; wants = refl; count = λ y q. eqb-true (part + 1) (blockCount x) e ∙ same-count y q };
+            })
+        go false e =
+            inl
+            (record {
+              next = _;
+              comes = goes-further lawful sound h m held standing t e;
+              held = held-further lawful sound h m held standing fits shows;
+              ready = awaiting l refl (λ y q. subst (λ (n : ℕ). part + 1 < n) (same-count y q) (less part (blockCount x) inside (eqb-false (part + 1) (blockCount x) e)));
+            })
 
-    wanted-next : isLost (m .standing) ≡ false → place p part ≡ m .wanted → Onward p (part + 1) m block
+    wanted-next : isLost (m .standing) ≡ false → place p part ≡ m .wanted → Onward p (part + 1) m block ⊎ Completes p (part + 1) m block
     wanted-next l w =
         took (m .standing) l (takes-next lawful clip kind (block-of lawful sound h) m (held .named) (line-of lawful sound h m held false true _ not-before is-next refl))
         (fits-next lawful sound h m held l (ap (λ (q : Place). q .picture) w) (ap (λ (q : Place). q .part) w)) (held .shows)
@@ -123,7 +137,7 @@ module _ {D : Type 0} {coding : Kind → Coding D} (lawful : AllLawful coding) {
         is-next : both (same (place p part) (m .wanted)) (opposite (isLost (m .standing))) ≡ true
         is-next = (λ i. both (same (place p part) (sym w i)) (opposite (l i))) ∙ rw (eq-eqb p p refl, eq-eqb part part refl)
 
-    begun : part ≡ 0 → refreshOf coding kind x ≡ true → earlier (place p 0) (m .wanted) ≡ false → Onward p (part + 1) m block
+    begun : part ≡ 0 → refreshOf coding kind x ≡ true → earlier (place p 0) (m .wanted) ≡ false → Onward p (part + 1) m block ⊎ Completes p (part + 1) m block
     begun z r e = go (both (same (place p part) (m .wanted)) (opposite (isLost (m .standing)))) refl
       where
         not-before : earlier (place p part) (m .wanted) ≡ false
@@ -132,7 +146,7 @@ module _ {D : Type 0} {coding : Kind → Coding D} (lawful : AllLawful coding) {
         is-refresh : both (eqb part 0) (both (refreshOf coding kind x) (eqb part 0)) ≡ true
         is-refresh = λ i. both (eq-eqb part 0 z i) (both (r i) (eq-eqb part 0 z i))
 
-        go : (b : Bool) → both (same (place p part) (m .wanted)) (opposite (isLost (m .standing))) ≡ b → Onward p (part + 1) m block
+        go : (b : Bool) → both (same (place p part) (m .wanted)) (opposite (isLost (m .standing))) ≡ b → Onward p (part + 1) m block ⊎ Completes p (part + 1) m block
         go true q =
             let sides = two-of (same (place p part) (m .wanted)) _ q in
             let here = two-of (eqb p (m .wanted .picture)) _ (sides .0) in
@@ -141,23 +155,21 @@ module _ {D : Type 0} {coding : Kind → Coding D} (lawful : AllLawful coding) {
             took T.Catching refl (takes-anew lawful clip kind (block-of lawful sound h) m (held .named) (line-of lawful sound h m held false false true not-before q is-refresh))
             (fits-anew lawful sound h m held z r) (none-shown (kindSize kind) (m .lent .both))
 
-    on-next : Ready p part m → Onward p (part + 1) m block
+    on-next : Ready p part m → Onward p (part + 1) m block ⊎ Completes p (part + 1) m block
     on-next (awaiting l w less) = wanted-next l (sym w)
     on-next (starting z r e) = begun z (r x (h .at)) e
-    on-next (complete s w c) = absurd (ne-of-lt inside (c x (h .at)))
+
+    -- none is left to come
+    no-next : Complete p part m → ⊥
+    no-next c = ne-of-lt inside (c .count x (h .at))
 
   -- ---- an older block
   module _ {p part : ℕ} {block : List ℕ} (o : W.Older sent p part block) (m : Moment) (held : Held lawful sound m) where
     abbrev q : ℕ
     q = o .its-picture
 
-    ignored : earlier (place q (o .its-part)) (m .wanted) ≡ true → Ready p part m → Onward p part m block
-    ignored e r = record {
-      next = m;
-      comes = comes-old lawful clip kind (block-of lawful sound (o .is)) m (held .named) (line-of lawful sound (o .is) m held true _ _ e refl refl);
-      held = held;
-      ready = r;
-    }
+    ignored : earlier (place q (o .its-part)) (m .wanted) ≡ true → Comes lawful clip kind m block m
+    ignored e = comes-old lawful clip kind (block-of lawful sound (o .is)) m (held .named) (line-of lawful sound (o .is) m held true _ _ e refl refl)
 
     not-after : q < p + 1
     not-after = ⊎-elim (λ l. omega (arith, l)) (λ t. omega (arith, t .0)) (earlier-than q (o .its-part) p part (o .earlier))
@@ -165,9 +177,15 @@ module _ {D : Type 0} {coding : Kind → Coding D} (lawful : AllLawful coding) {
     before-it : part ≡ 0 → q < p
     before-it z = ⊎-elim (λ l. l) (λ t. absurd (omega (arith, z, t .1))) (earlier-than q (o .its-part) p part (o .earlier))
 
+    -- older than the next picture
+    older-still : W.Older sent (p + 1) 0 block
+    older-still = record { its-picture = q; its-part = o .its-part; is = o .is; earlier = is-earlier q (o .its-part) (p + 1) 0 (inl not-after) }
+
+    idle-older : Complete p part m → Comes lawful clip kind m block m
+    idle-older c = ignored (ap (earlier (place q (o .its-part))) (c .wants) ∙ is-earlier q (o .its-part) (p + 1) 0 (inl not-after))
+
     on-older : Ready p part m → Onward p part m block
-    on-older (awaiting l w less) = ignored (ap (earlier (place q (o .its-part))) w ∙ o .earlier) (awaiting l w less)
-    on-older (complete s w c) = ignored (ap (earlier (place q (o .its-part))) w ∙ is-earlier q (o .its-part) (p + 1) 0 (inl not-after)) (complete s w c)
+    on-older (awaiting l w less) = record { next = m; comes = ignored (ap (earlier (place q (o .its-part))) w ∙ o .earlier); held = held; ready = awaiting l w less }
     on-older (starting z r e) =
         let g : Goes lawful sound q (o .its-part) m block = step-held lawful sound (o .is) m held in
         let l : q < p = before-it z in
@@ -191,6 +209,42 @@ module _ {D : Type 0} {coding : Kind → Coding D} (lawful : AllLawful coding) {
     pub held : Held lawful sound last
     pub stands : last .standing ≡ T.InStep p
     pub wants : last .wanted ≡ place (p + 1) 0
+    pub finishes : W.Finishes (step coding) sent p (worldAt clip kind m) blocks
+
+  -- older blocks after it change nothing
+  record Stays (p : ℕ) (m : Moment) (blocks : List (List ℕ)) : Type 0 where
+    is : given (step coding) (worldAt clip kind m) blocks ≡ worldAt clip kind m
+    olds : W.EachOlder sent (p + 1) 0 blocks
+
+  stays : {p part : ℕ} {blocks : List (List ℕ)} → W.Arrives sent p part blocks → (m : Moment) → Held lawful sound m → Complete p part m → Stays p m blocks
+  unfolding given
+  stays (W.all x at e) m held c = record { is = refl; olds = tt }
+  stays (W.next h a) m held c = absurd (no-next h m held c)
+  stays {p} {part} (W.older {block = block} {blocks = blocks} o a) m held c =
+      let rest : Stays p m blocks = stays a m held c in
+      record {
+        is = ap (λ (w : World). given (step coding) w blocks) (after-comes lawful sound m block m (idle-older o m held c)) ∙ rest .is;
+        olds = (older-still o m held, rest .olds);
+      }
+
+  -- the block that finishes it
+  done : (p part : ℕ) (m : Moment) (block : List ℕ) (blocks : List (List ℕ)) (c : Completes p part m block) → Stays p (c .next) blocks → Ends p m (block ∷ blocks)
+  unfolding given
+  done p part m block blocks c s = record {
+    last = c .next;
+    is = ap (λ (w : World). given (step coding) w blocks) (after-comes lawful sound m block (c .next) (c .finishes .comes)) ∙ s .is;
+    held = c .held;
+    stands = c .complete .stands;
+    wants = c .complete .wants;
+    finishes = record {
+      before = [];
+      block = block;
+      after = blocks;
+      is = refl;
+      answers = ap (λ (x : Outcome). x .gave .answer) (c .finishes .comes .is) ∙ c .finishes .answers;
+      only-older = s .olds;
+    };
+  }
 
   more : (p : ℕ) (m n : Moment) (block : List ℕ) (blocks : List (List ℕ)) → Comes lawful clip kind m block n → Ends p n blocks → Ends p m (block ∷ blocks)
   unfolding given
@@ -200,31 +254,42 @@ module _ {D : Type 0} {coding : Kind → Coding D} (lawful : AllLawful coding) {
     held = e .held;
     stands = e .stands;
     wants = e .wants;
+    finishes = record {
+      before = block ∷ e .finishes .before;
+      block = e .finishes .block;
+      after = e .finishes .after;
+      is = ap (λ (l : List (List ℕ)). block ∷ l) (e .finishes .is);
+      answers =
+          ap (λ (w : World). upon (step coding) w (e .finishes .before) (e .finishes .block) .gave .answer) (after-comes lawful sound m block n c)
+          ∙ e .finishes .answers;
+      only-older = e .finishes .only-older;
+    };
   }
 
   some-parts : (n : ℕ) → 1 ≤ n → 0 < partCount n
   some-parts n l = omega arith
 
-  at-end : (p part : ℕ) (m : Moment) (x : Picture D) → getElem? sent p ≡ some x → part ≡ length (x .blocks) → Held lawful sound m → Ready p part m → Ends p m []
-  unfolding given
-  at-end p part m x at e held r = go r
+  -- a part is still to come
+  not-yet : (p part : ℕ) (m : Moment) (x : Picture D) → getElem? sent p ≡ some x → part ≡ length (x .blocks) → Ready p part m → ⊥
+  not-yet p part m x at e r = go r
     where
       all-parts : part ≡ blockCount x
       all-parts = e ∙ sound .whole p x at .count
 
-      go : Ready p part m → Ends p m []
-      go (awaiting l w less) = absurd (ne-of-lt (less x at) all-parts)
-      go (starting z s n) = absurd (ne-of-lt (some-parts (length (bitsOf coding kind x)) (lawful .each kind .has-bits (x .description))) (sym z ∙ all-parts))
-      go (complete s w c) = record { last = m; is = refl; held = held; stands = s; wants = w }
+      go : Ready p part m → ⊥
+      go (awaiting l w less) = ne-of-lt (less x at) all-parts
+      go (starting z s n) = ne-of-lt (some-parts (length (bitsOf coding kind x)) (lawful .each kind .has-bits (x .description))) (sym z ∙ all-parts)
 
   ends : {p part : ℕ} {blocks : List (List ℕ)} → W.Arrives sent p part blocks → (m : Moment) → Held lawful sound m → Ready p part m → Ends p m blocks
-  ends {p} {part} (W.all x at e) m held r = at-end p _ m x at e held r
+  ends {p} {part} (W.all x at e) m held r = absurd (not-yet p part m x at e r)
   ends {p} (W.older {part} {block} {blocks} o a) m held r =
       let g : Onward p part m block = on-older o m held r in
       more p m (g .next) block blocks (g .comes) (ends a (g .next) (g .held) (g .ready))
   ends {p} (W.next {part} {block} {blocks} h a) m held r =
-      let g : Onward p (part + 1) m block = on-next h m held r in
-      more p m (g .next) block blocks (g .comes) (ends a (g .next) (g .held) (g .ready))
+      ⊎-elim
+      (λ g. more p m (g .next) block blocks (g .comes) (ends a (g .next) (g .held) (g .ready)))
+      (λ c. done p (part + 1) m block blocks c (stays a (c .next) (c .held) (c .complete)))
+      (on-next h m held r)
 
   -- ---- pictures in a row
   run-append : (w : World) (a b : List (List ℕ)) → given (step coding) w (a ++ b) ≡ given (step coding) (given (step coding) w a) b
@@ -239,6 +304,17 @@ module _ {D : Type 0} {coding : Kind → Coding D} (lawful : AllLawful coding) {
     held = r .held;
     stands = r .stands;
     wants = r .wants;
+    finishes = record {
+      before = first ++ r .finishes .before;
+      block = r .finishes .block;
+      after = r .finishes .after;
+      is = ap (λ (l : List (List ℕ)). first ++ l) (r .finishes .is) ∙ sym (append-assoc first (r .finishes .before) (r .finishes .block ∷ r .finishes .after));
+      answers =
+          ap (λ (w : World). step coding (w .receiver) (r .finishes .block) (w .lent) .gave .answer)
+          (run-append (worldAt clip kind m) first (r .finishes .before) ∙ ap (λ (w : World). given (step coding) w (r .finishes .before)) (e .is))
+          ∙ r .finishes .answers;
+      only-older = r .finishes .only-older;
+    };
   }
 
   ready-on : (p : ℕ) (m : Moment) → m .standing ≡ T.InStep p → m .wanted ≡ place (p + 1) 0 → Ready (p + 1) 0 m
@@ -292,6 +368,7 @@ module _ {D : Type 0} {coding : Kind → Coding D} (lawful : AllLawful coding) {
       let l = last-of block blocks in
       let s = parts-split (l .0) (l .1 ∷ []) (subst (λ (r : List (List ℕ)). Parts lawful sound r) (l .2) t) in
       record {
+        finishes = e .finishes;
         before = l .0;
         block = l .1;
         is = l .2;

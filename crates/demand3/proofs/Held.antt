@@ -31,7 +31,7 @@ use Rattle.coding.specs.Described.{bytesIn}
 use Rattle.demand3.specs.Clip.{Picture, PartOf, afterBlock, given, Shows}
 use Rattle.demand3.proofs.Finished.{kept-reference, kept-sized, kept-shown, none-shown}
 use Rattle.demand3.proofs.Sent.{Whole, Part}
-use Rattle.demand3.proofs.Step.{Moment, progressAt, worldAt, marked, astray, further, arrived, bitsOf, refreshOf, headerOf, Block, stores-are, lengths-make, Comes, after-long, comes-old, comes-lost, Takes, takes-next, takes-anew, comes-further, collected-part, comes-arrived}
+use Rattle.demand3.proofs.Step.{Moment, progressAt, worldAt, marked, astray, further, arrived, bitsOf, refreshOf, headerOf, Block, stores-are, lengths-make, Comes, Finishing, after-long, comes-old, comes-lost, Takes, takes-next, takes-anew, comes-further, collected-part, comes-arrived}
 use Rattle.standing.specs.declared.Standing.the-variants as T
 
 -- what is known of the pictures that were sent
@@ -149,12 +149,12 @@ module _ {D : Type 0} {coding : Kind → Coding D} (lawful : AllLawful coding) {
     abbrev store : List ℕ
     store = coding kind .render (x .description) (reference (m .holder) (m .lent .both))
 
-    pub goes-further : (standing : Standing) → Takes lawful clip kind (block-of h) m (held .named) standing → eqb (part + 1) (partCount (length (bitsOf coding kind x))) ≡ false
+    unfoldable pub goes-further : (standing : Standing) → Takes lawful clip kind (block-of h) m (held .named) standing → eqb (part + 1) (partCount (length (bitsOf coding kind x))) ≡ false
         → Comes lawful clip kind m block (further m header standing block)
     goes-further standing t e = comes-further lawful clip kind (block-of h) m (held .named) standing t e
 
     pub goes-arrived : (standing : Standing) → Takes lawful clip kind (block-of h) m (held .named) standing → Fits → eqb (part + 1) (partCount (length (bitsOf coding kind x))) ≡ true
-        → Comes lawful clip kind m block (arrived m header block store)
+        → Finishing lawful clip kind p m block (arrived m header block store)
     goes-arrived standing t fits e =
         comes-arrived lawful clip kind (block-of h) m (held .named) valid (fits .collected) e standing t (fits .true-mark)
 
@@ -181,7 +181,7 @@ module _ {D : Type 0} {coding : Kind → Coding D} (lawful : AllLawful coding) {
     taken-on standing t fits shows = go (eqb (part + 1) (partCount (length (bitsOf coding kind (h .picture))))) refl
       where
         go : (last : Bool) → eqb (part + 1) (partCount (length (bitsOf coding kind (h .picture)))) ≡ last → Goes p part m block
-        go true e = record { next = _; comes = goes-arrived h m held standing t fits e; held = held-drawn h m held fits; wants = inr (inr refl) }
+        go true e = record { next = _; comes = goes-arrived h m held standing t fits e .comes; held = held-drawn h m held fits; wants = inr (inr refl) }
         go false e = record { next = _; comes = goes-further h m held standing t e; held = held-further h m held standing fits shows; wants = inr (inl refl) }
 
     on-next : lineOf (progressAt m) (headerOf coding kind (h .picture) clip p part) ≡ Next → both (same (place p part) (m .wanted)) (opposite (isLost (m .standing))) ≡ true → Goes p part m block

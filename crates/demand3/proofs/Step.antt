@@ -142,6 +142,11 @@ module _ {D : Type 0} {coding : Kind → Coding D} (lawful : AllLawful coding) (
     pub long : refusedLength answer ≡ false
     pub is : step coding (receiverAt clip kind m) block (m .lent) ≡ outcomeAt clip kind answer n
 
+  -- and answers that picture p is finished
+  pub record Finishing (p : ℕ) (m : Moment) (block : List ℕ) (n : Moment) : Type 0 where
+    pub comes : Comes m block n
+    pub answers : comes .answer ≡ A.Picture p
+
   module _ {x : Picture D} {p part : ℕ} {block : List ℕ} (b : Block coding kind x clip p part block) (m : Moment) (named : lengths (kindSize kind) (m .lent) ≡ true) where
     abbrev r : Receiver
     r = receiverAt clip kind m
@@ -180,7 +185,7 @@ module _ {D : Type 0} {coding : Kind → Coding D} (lawful : AllLawful coding) (
       is = decided (old header) (ap (λ (l : Line). byLine coding l r header block (m .lent .collection)) q);
     }
 
-    pub comes-lost : lineOf (progressAt m) header ≡ Otherwise → Comes m block (astray m)
+    unfoldable pub comes-lost : lineOf (progressAt m) header ≡ Otherwise → Comes m block (astray m)
     unfolding byLine cameTo
     comes-lost q = record {
       answer = A.Lost;
@@ -200,7 +205,7 @@ module _ {D : Type 0} {coding : Kind → Coding D} (lawful : AllLawful coding) (
     unfolding byLine
     takes-anew q = record { by = ap (λ (l : Line). byLine coding l r header block (m .lent .collection)) q }
 
-    pub comes-further : (standing : Standing) → Takes standing → eqb (part + 1) (partCount count) ≡ false → Comes m block (further m header standing block)
+    unfoldable pub comes-further : (standing : Standing) → Takes standing → eqb (part + 1) (partCount count) ≡ false → Comes m block (further m header standing block)
     unfolding tookOf cameTo
     comes-further standing t e = record {
       answer = A.Taken p part;
@@ -238,14 +243,17 @@ module _ {D : Type 0} {coding : Kind → Coding D} (lawful : AllLawful coding) (
           ∙ rw (true-mark (coding kind .refresh (x .description)) (marked m header) (sym e))
 
       pub comes-arrived : (standing : Standing) → Takes standing → marked m header ≡ refreshOf coding kind x
-          → Comes m block (arrived m header block (coding kind .render (x .description) (reference (m .holder) (m .lent .both))))
+          → Finishing p m block (arrived m header block (coding kind .render (x .description) (reference (m .holder) (m .lent .both))))
       unfolding tookOf cameTo
       comes-arrived standing t e = record {
-        answer = A.Picture p;
-        long = refl;
-        is =
-            decided (finished header (x .description))
-            (t .by
-            ∙ ap (λ (z : Bool). pick z (ended coding r header (coding kind .read after (4000 * part + usedAt count part))) (taken header standing)) is-last
-            ∙ finds e);
+        comes = record {
+          answer = A.Picture p;
+          long = refl;
+          is =
+              decided (finished header (x .description))
+              (t .by
+              ∙ ap (λ (z : Bool). pick z (ended coding r header (coding kind .read after (4000 * part + usedAt count part))) (taken header standing)) is-last
+              ∙ finds e);
+        };
+        answers = refl;
       }

@@ -21,8 +21,8 @@ use Rattle.standing.specs.Receive.{place, earlier, same, isLost, step}
 use Rattle.standing.specs.Run.{World, after, answers}
 use Rattle.demand3.specs.Clip.{Picture, PartOf, given, afterBlock}
 use Rattle.demand3.proofs.Finished.{none-shown}
-use Rattle.demand3.proofs.Step.{Moment, worldAt, astray, bitsOf, refreshOf, Comes, comes-lost, comes-further, comes-arrived, takes-next, takes-anew}
-use Rattle.demand3.proofs.Held.{Sound, Held, held-astray, block-of, fits-next, fits-anew, goes-further, goes-arrived, held-further, held-drawn, line-of, after-comes}
+use Rattle.demand3.proofs.Step.{Moment, worldAt, astray, bitsOf, refreshOf, Comes, comes-lost, comes-further, Takes, takes-next, takes-anew}
+use Rattle.demand3.proofs.Held.{Sound, Held, Fits, block-of, fits-next, fits-anew, goes-further, goes-arrived, held-further, held-drawn, line-of, after-comes}
 use Rattle.instances.specs.Instances.{arrival}
 use Rattle.standing.specs.declared.Standing.the-variants as T
 
@@ -88,14 +88,17 @@ module _ {D : Type 0} {coding : Kind → Coding D} (lawful : AllLawful coding) {
       wanted-now : both (same (place p part) (m .wanted)) (opposite (isLost (m .standing))) ≡ true
       wanted-now = (λ i. both (same (place p part) (w i)) (opposite (l i))) ∙ rw (eq-eqb p p refl, eq-eqb part part refl)
 
-      abbrev took = takes-next lawful clip kind (block-of lawful sound h) m (held .named) (line-of lawful sound h m held false true _ (ap (earlier (place p part)) w ∙ not-before p part) wanted-now refl)
+      took : Takes lawful clip kind (block-of lawful sound h) m (held .named) (m .standing)
+      took = takes-next lawful clip kind (block-of lawful sound h) m (held .named) (line-of lawful sound h m held false true _ (ap (earlier (place p part)) w ∙ not-before p part) wanted-now refl)
 
-      abbrev fits = fits-next lawful sound h m held l (sym (ap (λ (q : Place). q .picture) w)) (sym (ap (λ (q : Place). q .part) w))
+      fits : Fits lawful sound h m held
+      fits = fits-next lawful sound h m held l (sym (ap (λ (q : Place). q .picture) w)) (sym (ap (λ (q : Place). q .part) w))
 
       last-part : part + 1 ≡ count → Brings p m (block ∷ []) (picture p ∷ [])
-      unfolding given answers said goes-arrived comes-arrived
+      unfolding given answers said
       last-part c =
-          more p m _ block [] (picture p) [] (goes-arrived lawful sound h m held (m .standing) took fits (eq-eqb (part + 1) count c)) refl
+          let f = goes-arrived lawful sound h m held (m .standing) took fits (eq-eqb (part + 1) count c) in
+          more p m _ block [] (picture p) [] (f .comes) (ap said (f .answers))
           (record { last = _; is = refl; held = held-drawn lawful sound h m held fits; stands = refl; wants = refl; said-are = refl })
 
       next-part : (part + 1 ≡ count → ⊥) → (rest : List Said)
@@ -119,7 +122,8 @@ module _ {D : Type 0} {coding : Kind → Coding D} (lawful : AllLawful coding) {
       abbrev begun : PartOf sent p 0 block
       begun = part-of 0 block blocks own
 
-      abbrev tookAnew =
+      took-anew : Takes lawful clip kind (block-of lawful sound begun) m (held .named) T.Catching
+      took-anew =
           takes-anew lawful clip kind (block-of lawful sound begun) m (held .named)
           (line-of lawful sound begun m held false false true e (second-no (same (place p 0) (m .wanted)) (opposite (isLost (m .standing))) (ap opposite l)) (ap (λ (t : Bool). both t true) r))
 
@@ -127,7 +131,7 @@ module _ {D : Type 0} {coding : Kind → Coding D} (lawful : AllLawful coding) {
       unfolding said goes-further comes-further
       from-refresh left n c =
           let fits = fits-anew lawful sound begun m held refl r in
-          more p m _ block blocks (taken p 0) (arrival p (0 + 1) left) (goes-further lawful sound begun m held T.Catching tookAnew (ne-eqb (0 + 1) count (λ q. omega arith))) refl
+          more p m _ block blocks (taken p 0) (arrival p (0 + 1) left) (goes-further lawful sound begun m held T.Catching took-anew (ne-eqb (0 + 1) count (λ q. omega arith))) refl
           (from-part left (0 + 1) blocks (λ i. own (suc i) ∙ ap (getElem? (x .blocks)) (onward 0 i)) (omega arith) (omega arith) _ (held-further lawful sound begun m held T.Catching fits (none-shown (kindSize kind) (m .lent .both))) refl refl)
 
   -- ---- part 0 of a later picture that is no refresh

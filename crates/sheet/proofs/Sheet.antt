@@ -5,6 +5,8 @@ use mathlib.Core.List.{List, [], _∷_}
 use native.Mathlib.Omega.{arith}
 use Rattle.laws.specs.Floor.{floorDivided}
 use Rattle.laws.specs.Sum.{sumZ}
+use Rattle.refusals.specs.declared.Reason.the-variants.{BitsEnd, VectorOut}
+use Rattle.refusals.specs.Number.{number}
 use Rattle.bits.specs.Bits.{bitsIn}
 use Rattle.bits.specs.Read.{fieldFrom}
 use Rattle.bits.specs.Code.{longer, lookup, word}
@@ -32,12 +34,12 @@ unfolding pictureOf groupsOf groupOf macroblocksOf bytesOf byteFrom bitsIn field
 picture-1 = (refl, refl, refl, λ reference e. nothing-same Qcif (laid Qcif picture1) reference tt e)
 
 picture-2 : says P2
-unfolding pictureOf groupsOf groupOf macroblocksOf bytesOf byteFrom bitsIn fieldFrom longer lookup word table1 sparesFrom spares mba macroblocksFrom groupHead group groupsRead header picture reading
-picture-2 = refl
+unfolding pictureOf groupsOf groupOf macroblocksOf bytesOf byteFrom bitsIn fieldFrom longer lookup word table1 sparesFrom spares mba macroblocksFrom groupHead group groupsRead header picture reading number
+picture-2 = (BitsEnd, refl, refl)
 
 vector-12 : says P12
-unfolding componentRead longer lookup word table3
-vector-12 = λ place. refl
+unfolding componentRead longer lookup word table3 number
+vector-12 = λ place. (VectorOut, refl, refl)
 
 chroma-11 : says P11
 unfolding moved
