@@ -31,8 +31,9 @@ use Rattle.coding.specs.Described.{bytesIn}
 use Rattle.demand3.specs.Clip.{Picture, PartOf, afterBlock, given, Shows}
 use Rattle.demand3.proofs.Finished.{kept-reference, kept-sized, kept-shown, none-shown}
 use Rattle.demand3.proofs.Sent.{Whole, Part}
-use Rattle.demand3.proofs.Step.{Moment, progressAt, worldAt, marked, astray, further, arrived, bitsOf, refreshOf, headerOf, Block, stores-are, lengths-make, Comes, Finishing, after-long, comes-old, comes-lost, Takes, takes-next, takes-anew, comes-further, collected-part, comes-arrived}
+use Rattle.demand3.proofs.Step.{Moment, progressAt, worldAt, marked, astray, further, arrived, bitsOf, refreshOf, headerOf, Block, stores-are, lengths-make, Comes, Finishing, after-long, comes-old, comes-lost, Takes, takes-next, takes-anew, comes-further, further-answers, collected-part, comes-arrived}
 use Rattle.standing.specs.declared.Standing.the-variants as T
+use Rattle.standing.specs.declared.Answer.the-variants as A
 
 -- what is known of the pictures that were sent
 pub record Sound {D : Type 0} (coding : Kind → Coding D) (clip : ℕ) (kind : Kind) (sent : List (Picture D)) : Type 0 where
@@ -149,9 +150,14 @@ module _ {D : Type 0} {coding : Kind → Coding D} (lawful : AllLawful coding) {
     abbrev store : List ℕ
     store = coding kind .render (x .description) (reference (m .holder) (m .lent .both))
 
-    unfoldable pub goes-further : (standing : Standing) → Takes lawful clip kind (block-of h) m (held .named) standing → eqb (part + 1) (partCount (length (bitsOf coding kind x))) ≡ false
+    pub goes-further : (standing : Standing) → Takes lawful clip kind (block-of h) m (held .named) standing → eqb (part + 1) (partCount (length (bitsOf coding kind x))) ≡ false
         → Comes lawful clip kind m block (further m header standing block)
     goes-further standing t e = comes-further lawful clip kind (block-of h) m (held .named) standing t e
+
+    pub goes-answers : (standing : Standing) (t : Takes lawful clip kind (block-of h) m (held .named) standing) (e : eqb (part + 1) (partCount (length (bitsOf coding kind x))) ≡ false)
+        → goes-further standing t e .answer ≡ A.Taken p part
+    unfolding goes-further
+    goes-answers standing t e = further-answers lawful clip kind (block-of h) m (held .named) standing t e
 
     pub goes-arrived : (standing : Standing) → Takes lawful clip kind (block-of h) m (held .named) standing → Fits → eqb (part + 1) (partCount (length (bitsOf coding kind x))) ≡ true
         → Finishing lawful clip kind p m block (arrived m header block store)

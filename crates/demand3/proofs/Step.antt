@@ -185,13 +185,17 @@ module _ {D : Type 0} {coding : Kind → Coding D} (lawful : AllLawful coding) (
       is = decided (old header) (ap (λ (l : Line). byLine coding l r header block (m .lent .collection)) q);
     }
 
-    unfoldable pub comes-lost : lineOf (progressAt m) header ≡ Otherwise → Comes m block (astray m)
+    pub comes-lost : lineOf (progressAt m) header ≡ Otherwise → Comes m block (astray m)
     unfolding byLine cameTo
     comes-lost q = record {
       answer = A.Lost;
       long = refl;
       is = decided lost (ap (λ (l : Line). byLine coding l r header block (m .lent .collection)) q);
     }
+
+    pub lost-answers : (q : lineOf (progressAt m) header ≡ Otherwise) → comes-lost q .answer ≡ A.Lost
+    unfolding comes-lost
+    lost-answers q = refl
 
     -- taken, and standing so until the picture is finished
     pub record Takes (standing : Standing) : Type 0 where
@@ -205,13 +209,17 @@ module _ {D : Type 0} {coding : Kind → Coding D} (lawful : AllLawful coding) (
     unfolding byLine
     takes-anew q = record { by = ap (λ (l : Line). byLine coding l r header block (m .lent .collection)) q }
 
-    unfoldable pub comes-further : (standing : Standing) → Takes standing → eqb (part + 1) (partCount count) ≡ false → Comes m block (further m header standing block)
+    pub comes-further : (standing : Standing) → Takes standing → eqb (part + 1) (partCount count) ≡ false → Comes m block (further m header standing block)
     unfolding tookOf cameTo
     comes-further standing t e = record {
       answer = A.Taken p part;
       long = refl;
       is = decided (taken header standing) (t .by ∙ ap (λ (z : Bool). pick z (ended coding r header (coding kind .read after (4000 * part + usedAt count part))) (taken header standing)) e);
     }
+
+    pub further-answers : (standing : Standing) (t : Takes standing) (e : eqb (part + 1) (partCount count) ≡ false) → comes-further standing t e .answer ≡ A.Taken p part
+    unfolding comes-further
+    further-answers standing t e = refl
 
     -- the picture is read back
     pub collected-part : Collected (bytesIn (bitsOf coding kind x)) count part (m .lent .collection) → Collected (bytesIn (bitsOf coding kind x)) count (part + 1) after

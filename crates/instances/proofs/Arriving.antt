@@ -3,7 +3,7 @@ use mathlib.Core.Path.{_≡_, refl, sym, ap, subst, _∙_}
 use mathlib.Core.Bool.{Bool, true, false}
 use mathlib.Core.List.{List, [], _∷_, _++_}
 use mathlib.Core.Option.{some}
-use Prim.Native.Nat.{ℕ, zero, suc, _+_}
+use Prim.Native.Nat.{ℕ, zero, suc, _+_, _≤_}
 use native.Mathlib.Nat.{add-zero, le-refl}
 use native.Mathlib.Omega.{arith}
 use borrow.Author.Tests.{eq-eqb, ne-eqb, le-ltb}
@@ -16,13 +16,14 @@ use Rattle.coding.specs.Coding.{Coding}
 use Rattle.coding.specs.Kind.{kindSize, AllLawful}
 use Rattle.vault.specs.Parts.{partCount}
 use Rattle.standing.specs.declared.Place.{Place}
+use Rattle.standing.specs.declared.Line.the-variants.{Otherwise}
 use Rattle.standing.specs.Answered.{Said, taken, lost, picture, said}
-use Rattle.standing.specs.Receive.{place, earlier, same, isLost, step}
+use Rattle.standing.specs.Receive.{place, earlier, same, isLost, lineOf, step}
 use Rattle.standing.specs.Run.{World, after, answers}
 use Rattle.demand3.specs.Clip.{Picture, PartOf, given, afterBlock}
 use Rattle.demand3.proofs.Finished.{none-shown}
-use Rattle.demand3.proofs.Step.{Moment, worldAt, astray, bitsOf, refreshOf, Comes, comes-lost, comes-further, Takes, takes-next, takes-anew}
-use Rattle.demand3.proofs.Held.{Sound, Held, Fits, block-of, fits-next, fits-anew, goes-further, goes-arrived, held-further, held-drawn, line-of, after-comes}
+use Rattle.demand3.proofs.Step.{Moment, progressAt, worldAt, astray, bitsOf, refreshOf, headerOf, Comes, comes-lost, lost-answers, Takes, takes-next, takes-anew}
+use Rattle.demand3.proofs.Held.{Sound, Held, Fits, block-of, fits-next, fits-anew, goes-further, goes-answers, goes-arrived, held-further, held-drawn, line-of, after-comes}
 use Rattle.instances.specs.Instances.{arrival}
 use Rattle.standing.specs.declared.Standing.the-variants as T
 
@@ -77,7 +78,7 @@ module _ {D : Type 0} {coding : Kind → Coding D} (lawful : AllLawful coding) {
     abbrev Own : ℕ → List (List ℕ) → Type 0
     Own part blocks = (i : ℕ) → getElem? blocks i ≡ getElem? (x .blocks) (part + i)
 
-    part-of : (part : ℕ) (block : List ℕ) (blocks : List (List ℕ)) → Own part (block ∷ blocks) → PartOf sent p part block
+    abbrev part-of : (part : ℕ) (block : List ℕ) (blocks : List (List ℕ)) → Own part (block ∷ blocks) → PartOf sent p part block
     part-of part block blocks h = record { picture = x; at = at; has = ap (getElem? (x .blocks)) (sym (add-zero part)) ∙ sym (h 0) }
 
     -- ---- the parts that are wanted
@@ -103,9 +104,10 @@ module _ {D : Type 0} {coding : Kind → Coding D} (lawful : AllLawful coding) {
 
       next-part : (part + 1 ≡ count → ⊥) → (rest : List Said)
           → ((n : Moment) → Held lawful sound n → isLost (n .standing) ≡ false → n .wanted ≡ place p (part + 1) → Brings p n blocks rest) → Brings p m (block ∷ blocks) (taken p part ∷ rest)
-      unfolding said goes-further comes-further
+      unfolding said
       next-part c rest on =
-          more p m _ block blocks (taken p part) rest (goes-further lawful sound h m held (m .standing) took (ne-eqb (part + 1) count c)) refl
+          let e = ne-eqb (part + 1) count c in
+          more p m _ block blocks (taken p part) rest (goes-further lawful sound h m held (m .standing) took e) (ap said (goes-answers lawful sound h m held (m .standing) took e))
           (on _ (held-further lawful sound h m held (m .standing) fits (held .shows)) l refl)
 
     pub from-part : (left part : ℕ) (blocks : List (List ℕ)) → Own part blocks → length blocks ≡ suc left → part + suc left ≡ count → (m : Moment) → Held lawful sound m → isLost (m .standing) ≡ false → m .wanted ≡ place p part
@@ -127,20 +129,28 @@ module _ {D : Type 0} {coding : Kind → Coding D} (lawful : AllLawful coding) {
           takes-anew lawful clip kind (block-of lawful sound begun) m (held .named)
           (line-of lawful sound begun m held false false true e (second-no (same (place p 0) (m .wanted)) (opposite (isLost (m .standing))) (ap opposite l)) (ap (λ (t : Bool). both t true) r))
 
-      pub from-refresh : (left : ℕ) → length (block ∷ blocks) ≡ suc (suc left) → suc (suc left) ≡ count → Brings p m (block ∷ blocks) (arrival p 0 (suc left))
-      unfolding said goes-further comes-further
+      from-refresh : (left : ℕ) → length (block ∷ blocks) ≡ suc (suc left) → suc (suc left) ≡ count → Brings p m (block ∷ blocks) (arrival p 0 (suc left))
+      unfolding said
       from-refresh left n c =
           let fits = fits-anew lawful sound begun m held refl r in
-          more p m _ block blocks (taken p 0) (arrival p (0 + 1) left) (goes-further lawful sound begun m held T.Catching took-anew (ne-eqb (0 + 1) count (λ q. omega arith))) refl
+          let e : eqb (0 + 1) count ≡ false = ne-eqb (0 + 1) count (λ q. omega arith) in
+          more p m _ block blocks (taken p 0) (arrival p (0 + 1) left) (goes-further lawful sound begun m held T.Catching took-anew e) (ap said (goes-answers lawful sound begun m held T.Catching took-anew e))
           (from-part left (0 + 1) blocks (λ i. own (suc i) ∙ ap (getElem? (x .blocks)) (onward 0 i)) (omega arith) (omega arith) _ (held-further lawful sound begun m held T.Catching fits (none-shown (kindSize kind) (m .lent .both))) refl refl)
+
+    pub from-start : (left : ℕ) (blocks : List (List ℕ)) → Own 0 blocks → 1 ≤ left → length blocks ≡ suc left → suc left ≡ count → (m : Moment) → Held lawful sound m
+        → refreshOf coding kind x ≡ true → isLost (m .standing) ≡ true → earlier (place p 0) (m .wanted) ≡ false → Brings p m blocks (arrival p 0 left)
+    from-start zero blocks own o n c m held r l e = absurd (omega arith)
+    from-start (suc left) [] own o n c m held r l e = absurd (omega arith)
+    from-start (suc left) (block ∷ blocks) own o n c m held r l e = from-refresh block blocks own m held r l e left n c
 
   -- ---- part 0 of a later picture that is no refresh
   module _ {p : ℕ} {block : List ℕ} (h : PartOf sent p 0 block) (m : Moment) (held : Held lawful sound m) (r : refreshOf coding kind (h .picture) ≡ false) (e : earlier (place p 0) (m .wanted) ≡ false) (s : same (place p 0) (m .wanted) ≡ false) where
+    otherwise : lineOf (progressAt m) (headerOf coding kind (h .picture) clip p 0) ≡ Otherwise
+    otherwise = line-of lawful sound h m held false false false e (first-no (same (place p 0) (m .wanted)) (opposite (isLost (m .standing))) s) (ap (λ (t : Bool). both t true) r)
+
     pub goes-astray : Comes lawful clip kind m block (astray m)
-    goes-astray =
-        comes-lost lawful clip kind (block-of lawful sound h) m (held .named)
-        (line-of lawful sound h m held false false false e (first-no (same (place p 0) (m .wanted)) (opposite (isLost (m .standing))) s) (ap (λ (t : Bool). both t true) r))
+    goes-astray = comes-lost lawful clip kind (block-of lawful sound h) m (held .named) otherwise
 
     pub says-lost : said (goes-astray .answer) ≡ lost
-    unfolding said goes-astray comes-lost
-    says-lost = refl
+    unfolding said goes-astray
+    says-lost = ap said (lost-answers lawful clip kind (block-of lawful sound h) m (held .named) otherwise)

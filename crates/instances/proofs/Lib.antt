@@ -1,3 +1,4 @@
 pub mod Uniform
 pub mod Sending
 pub mod Arriving
+pub mod Instances

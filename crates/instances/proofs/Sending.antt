@@ -35,7 +35,7 @@ use Rattle.sender.specs.declared.Answer.the-variants as A
 use Rattle.standing.specs.Receive as R
 
 -- ---- buffers
-blank-long : (n : ℕ) → length (blank n) ≡ n
+pub blank-long : (n : ℕ) → length (blank n) ≡ n
 blank-long n = repeated-length n (0 ∷ []) ∙ mul-one n
 
 pub blank-sized : (size : Size) → bothSized size (blankStores size) ≡ true
@@ -97,6 +97,10 @@ module _ {D : Type 0} (coding : Kind → Coding D) (w : World) (d : D) where
       pub picture-first : length (coding kind .written d) ≤ limit (kindSize kind) → (rest : List (Call D)) → pictures coding w (call kind d ∷ rest) ≡ pictureOf ∷ pictures coding next rest
       unfolding cameTo
       picture-first l rest = by sends (below coding (w .sender) d lent passed l) rest
+
+      pub after-first : length (coding kind .written d) ≤ limit (kindSize kind) → after coding w (call kind d) ≡ next
+      unfolding after called step cameTo
+      after-first l = ap (λ (j : Judgement). let x : Outcome = cameTo coding (w .sender) d lent j in record { sender = x .gave .next; both = x .left .both }) (below coding (w .sender) d lent passed l)
 
       module _ (l : limit (kindSize kind) < length (coding kind .written d)) where
         pub none-first : (rest : List (Call D)) → pictures coding w (call kind d ∷ rest) ≡ pictures coding w rest

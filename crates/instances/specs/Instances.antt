@@ -18,12 +18,12 @@ use Rattle.coding.specs.declared.Kind.{Kind}
 use Rattle.coding.specs.Kind.{formatOf, kindSize, codingOf}
 use Rattle.sender.specs.Run.{called, after}
 use Rattle.standing.specs.Answered.{Said, taken, lost, picture}
-use Rattle.standing.specs.Receive.{place, earlier, lengths, step}
+use Rattle.standing.specs.Receive.{place, lengths, step}
 use Rattle.standing.specs.Run.{World, answers}
 use Rattle.standing.specs.Shown.{shownBy}
 use Rattle.demand3.specs.Clip.{Picture, opening, blocksIn, picturesIn, begin, Each, given}
 use Rattle.demand3.specs.Arrives.{InStepAt}
-use Rattle.instances.specs.Uniform.{still, grey, heavy}
+use Rattle.instances.specs.Uniform.{grey, heavy}
 use Rattle.instances.specs.Example.{newcomer, call, example}
 use Rattle.coding.specs.declared.Kind.the-variants as K
 use Rattle.sender.specs.declared.Answer.the-variants as A
@@ -58,6 +58,8 @@ pub record Example (kind : Kind) : Type 0 where
   pub sent : picturesIn codingOf (example kind) ≡ picture0 ∷ picture1 ∷ picture2 ∷ picture3 ∷ picture4 ∷ []
   -- the refused call, by 32
   pub refused : called codingOf (after codingOf (opening codingOf (example kind)) (call kind (grey (formatOf kind) 1))) (call kind (heavy (formatOf kind))) .gave .answer ≡ A.Refused (refusal AboveLimit 0)
+  pub described0 : picture0 .description ≡ grey (formatOf kind) 1
+  pub described3 : picture3 .description ≡ grey (formatOf kind) 2
   -- pictures 0 and 3 are refreshes, the others are not
   pub refresh0 : codingOf kind .refresh (picture0 .description) ≡ true
   pub plain1 : codingOf kind .refresh (picture1 .description) ≡ false
@@ -67,24 +69,26 @@ pub record Example (kind : Kind) : Type 0 where
 
 -- what is delivered, all but picture 1, and what comes of it: in step at 0, lost, catching up at 3, in step at 3 and at 4
 module _ {kind : Kind} (x : Example kind) where
-  abbrev pub beforeLoss : List (List ℕ)
-  beforeLoss = x .picture0 .blocks ++ x .picture2 .blocks
+  -- picture 2's block finds it lost
+  abbrev pub untilLost : List (List ℕ)
+  untilLost = x .picture0 .blocks ++ x .picture2 .blocks
 
   abbrev pub delivered : List (List ℕ)
-  delivered = beforeLoss ++ (x .picture3 .blocks ++ x .picture4 .blocks)
+  delivered = untilLost ++ (x .picture3 .blocks ++ x .picture4 .blocks)
 
   abbrev pub astray : World
-  astray = given (step codingOf) (begin (newcomer kind)) beforeLoss
+  astray = given (step codingOf) (begin (newcomer kind)) untilLost
 
   pub record Delivered : Type 0 where
-    -- what `in-step` and `catches-up` ask for
+    -- what `InStep` and `CatchesUp` ask for
     pub named : lengths (kindSize kind) (newcomer kind .lent) ≡ true
     pub each : Each (blocksIn codingOf (example kind)) delivered
-    pub not-past : earlier (place 3 0) (astray .receiver .progress .wanted) ≡ false
     -- what comes of it
     pub said : answers codingOf (begin (newcomer kind)) delivered ≡ arrival 0 0 (beforeLast kind) ++ (lost ∷ (arrival 3 0 (beforeLast kind) ++ (picture 4 ∷ [])))
     pub at-0 : InStepAt (step codingOf) shownBy (picturesIn codingOf (example kind)) 0 (begin (newcomer kind)) (x .picture0 .blocks)
+    -- lost, "wanted place kept": picture 3 isn't earlier
     pub is-lost : astray .receiver .progress .standing ≡ T.Lost
+    pub wants : astray .receiver .progress .wanted ≡ place 1 0
     pub at-3 : InStepAt (step codingOf) shownBy (picturesIn codingOf (example kind)) 3 astray (x .picture3 .blocks)
     pub at-4 : InStepAt (step codingOf) shownBy (picturesIn codingOf (example kind)) 4 astray (x .picture3 .blocks ++ x .picture4 .blocks)
 

@@ -1,6 +1,3 @@
 pub mod WrongPrograms
-pub mod Whole
-pub mod Example
-pub mod Renumbering
-pub mod Single
+pub mod Sampled
 pub mod WrongReceivers

@@ -1,19 +1,25 @@
 -- The wrong readers and writers that document 01 names don't meet demand 2. Assumes nothing.
-use Prim.Native.Nat.{ℕ, _*_, _≤_}
-use mathlib.Core.Path.{_≡_, refl, sym, ap, _∙_}
-use mathlib.Core.List.{List, []}
+use Prim.Native.Nat.{ℕ, _+_, _-_, _*_, _≤_, _<_}
+use mathlib.Core.Path.{_≡_, refl, sym, ap, subst, _∙_}
+use mathlib.Core.Bool.{Bool, true, false}
+use mathlib.Core.Logic.{_⊎_, inl, inr}
+use mathlib.Core.List.{List, [], _++_}
 use native.Mathlib.Omega.{arith}
-use borrow.Author.Tests.{le-ltb}
-use lib.Dec.{T, lit<, lit≤}
-use lib.Seq.{take-take}
-use lib.ListN.{length, take, replicate, getD, length-replicate, getD-replicate}
-use Rattle.laws.proofs.Zeros.{zeros, length-zeros}
-use Rattle.refusals.specs.declared.Reason.the-variants.{BitsEnd}
-use Rattle.bits.specs.Bits.{Bit, bitsIn}
+use borrow.Author.Tests.{ne-eqb}
+use lib.Dec.{T, eqb, ltb, lit<}
+use lib.Seq.{take-append-le, take-append-add}
+use lib.ListN.{length, take, drop, replicate, getD, length-replicate, getD-replicate, take-append-drop}
+use Rattle.laws.specs.Choice.{pick, either}
+use Rattle.laws.specs.Table.{allB}
+use Rattle.laws.proofs.Choice.{either-right}
+use Rattle.laws.proofs.Rows.{lt-or-ge}
+use Rattle.laws.proofs.Table.{all-at}
+use Rattle.refusals.specs.declared.Reason.the-variants.{Count, BitsEnd}
+use Rattle.bits.specs.Bits.{Bit, O, bitsIn}
 use Rattle.bits.specs.Code.{longer, lookup, word}
 use Rattle.bits.specs.Write.{bytesOf, byteFrom}
 use Rattle.h261_words.specs.Tables.{table1}
-use Rattle.bits.specs.Read.{got, bad, fieldFrom}
+use Rattle.bits.specs.Read.{Read, got, endless, refused as unread, bad, fieldFrom}
 use Rattle.h261_groups.specs.declared.Format.the-variants.{Qcif}
 use Rattle.h261_groups.specs.Format.{sizeOf}
 use Rattle.size.specs.Size.{limit, storeLength, outputLength}
@@ -21,19 +27,21 @@ use Rattle.coding.specs.declared.Kind.the-variants.{H261Qcif}
 use Rattle.h261_description.specs.Value.{Picture, laid}
 use Rattle.layout.specs.Flat.{Flat, putGroups, putMacroblocks}
 use Rattle.h261_description.specs.Valid.{valid}
+use Rattle.fields.specs.Answer.{mapRead}
 use Rattle.fields.specs.Rules.{sparesFrom, spares}
 use Rattle.h261_layers.specs.Grammar.{mba, macroblocksFrom, groupHead, group, groupsRead, header, picture, reading}
 use Rattle.h261_reader.proofs.Verdicts.{accepted-valid, accepted-described}
 use Rattle.h261_reader.specs.Described.{described}
 use Rattle.h261_writer.specs.declared.Written.the-variants.{Bits}
 use Rattle.h261_writer.specs.Write.{macroblocksOf, groupOf, groupsOf, pictureOf}
-use Rattle.h261_writer.specs.Output.{written, writeOf, outputOf}
-use Rattle.bits.specs.Write.{Holds}
-use Rattle.demand2.proofs.WrittenBack.{writes, written-held, written-back}
+use Rattle.h261_writer.specs.Output.{written, writeOf, filled, leaves, outputOf}
+use Rattle.demand2.proofs.WrittenBack.{writes, written-back}
 use Rattle.sheet.specs.Sheet.{picture1, bytes1, P1}
 use Rattle.sheet.proofs.Sheet.{shown}
 use Rattle.demand2.proofs.Demand2.{refused-accepted}
-use Rattle.wrong.specs.WrongPrograms.{first, short, RefusingWrong, FixedWrong, FixedSamplesWrong, FirstForAllWrong, RefusingAllWrong, OneShortWrong}
+use Rattle.instances.specs.Uniform.{repeated}
+use Rattle.instances.proofs.Sending.{blank-long}
+use Rattle.wrong.specs.WrongPrograms.{first, blankOutput, RefusingWrong, FixedWrong, FixedSamplesWrong, FirstForAllWrong, RefusingAllWrong, MadeUpWrong}
 use Rattle.demand2.specs.Demand2.{Follows}
 
 -- the P1 picture follows the rules
@@ -87,7 +95,7 @@ second-read : reading Qcif bytes2 110 ≡ got picture2 [] 110
 unfolding pictureOf groupsOf groupOf macroblocksOf bytesOf byteFrom bitsIn fieldFrom longer lookup word table1 sparesFrom spares mba macroblocksFrom groupHead group groupsRead header picture reading
 second-read = refl
 
-pub first-valid : T (valid Qcif first)
+first-valid : T (valid Qcif first)
 first-valid = accepted-valid Qcif bytes1 110 picture1 [] 110 (shown P1 .2)
 
 second-valid : T (valid Qcif (laid Qcif picture2))
@@ -98,27 +106,24 @@ first-bits : written Qcif first ≡ pictureOf Qcif picture1
 unfolding written
 first-bits = ap (pictureOf Qcif) (accepted-described Qcif bytes1 110 picture1 [] 110 (shown P1 .2))
 
-pub first-long : length (written Qcif first) ≡ 110
+first-long : length (written Qcif first) ≡ 110
 first-long = ap length first-bits ∙ shown P1 .0
 
-pub first-below : length (written Qcif first) ≤ limit (sizeOf Qcif)
+first-below : length (written Qcif first) ≤ limit (sizeOf Qcif)
 first-below = let e : length (written Qcif first) ≡ 110 = first-long in omega arith
 
 first-written : (out : List ℕ) → length out ≡ outputLength (sizeOf Qcif) → writeOf Qcif first (length out) ≡ Bits 110
 first-written out e = writes Qcif first out first-valid first-below e ∙ ap Bits first-long
 
 -- an output of its length
-abbrev outputBefore : List ℕ
-outputBefore = zeros (outputLength (sizeOf Qcif))
-
-output-long : length outputBefore ≡ outputLength (sizeOf Qcif)
-output-long = length-zeros (outputLength (sizeOf Qcif))
+output-long : length blankOutput ≡ outputLength (sizeOf Qcif)
+output-long = blank-long (outputLength (sizeOf Qcif))
 
 pub first-for-all-wrong : FirstForAllWrong
 unfolding laid putGroups putMacroblocks
 first-for-all-wrong h =
-    let as-second = h .back Qcif (laid Qcif picture2) outputBefore 110 second-valid output-long (first-written outputBefore output-long) in
-    let as-first = written-back Qcif first outputBefore 110 (first-written outputBefore output-long) .read in
+    let as-second = h .back Qcif (laid Qcif picture2) blankOutput 110 second-valid output-long (first-written blankOutput output-long) in
+    let as-first = written-back Qcif first blankOutput 110 (first-written blankOutput output-long) .read in
     let same : laid Qcif picture1 ≡ laid Qcif picture2 = got-same (laid Qcif picture1) (laid Qcif picture2) (sym as-first ∙ as-second) in
     let z : _≡_ {A = ℕ} 1 2 = ap (λ (x : Flat). getD (x .head) 0 0) same in
     omega arith
@@ -127,28 +132,67 @@ first-for-all-wrong h =
     got-same a b e = cc
 
 pub refusing-all-wrong : RefusingAllWrong
-refusing-all-wrong why h = h .else Qcif first outputBefore (why Qcif first) first-valid first-below output-long refl
+refusing-all-wrong why h = h .else Qcif first blankOutput (why Qcif first) first-valid first-below output-long refl
 
--- P2, out of any bytes that hold P1's bits first
-short-bits : picture Qcif (take 109 (pictureOf Qcif picture1)) 0 ≡ bad BitsEnd 109
+-- ---- a made-up N
+-- P1's bits, and 16 that are 0: two that fill the last byte, and those of an output that was all 0
+abbrev padded : List Bit
+padded = pictureOf Qcif picture1 ++ replicate 16 O
+
+abbrev isRefused : Read Picture → Bool
+isRefused (got p left at) = false
+isRefused (unread why) = true
+isRefused endless = true
+
+-- any other number of them than 110 is refused
+others-refused : T (allB 127 (λ m. either (eqb m 110) (isRefused (picture Qcif (take m padded) 0))))
 unfolding pictureOf groupsOf groupOf macroblocksOf fieldFrom longer lookup word table1 sparesFrom spares mba macroblocksFrom groupHead group groupsRead header picture
-short-bits = refl
+others-refused = tt
 
-cut-short : (s : List ℕ) → Holds s (written Qcif first) → described Qcif s 109 ≡ bad BitsEnd 109
-unfolding described reading
-cut-short s held =
-    let l : length (written Qcif first) ≡ 110 = first-long in
-    let room : 109 ≤ 8 * length s = omega (arith, held .room, l) in
-    let whole : take 110 (bitsIn s) ≡ pictureOf Qcif picture1 = ap (λ (k : ℕ). take k (bitsIn s)) (sym l) ∙ held .bits ∙ first-bits in
-    let part : take 109 (bitsIn s) ≡ take 109 (pictureOf Qcif picture1) = sym (take-take 109 110 (bitsIn s) (lit≤ tt)) ∙ ap (take 109) whole in
-    rw (le-ltb (8 * length s) 109 room, part, short-bits) refl
+-- and so are all of them, whatever comes after
+more-refused : (rest : List Bit) → T (isRefused (picture Qcif (padded ++ rest) 0))
+unfolding pictureOf groupsOf groupOf macroblocksOf fieldFrom longer lookup word table1 sparesFrom spares mba macroblocksFrom groupHead group groupsRead header picture
+more-refused rest = tt
 
-pub one-short-wrong : OneShortWrong
-one-short-wrong h =
-    let e : writeOf Qcif first (length outputBefore) ≡ Bits 110 = first-written outputBefore output-long in
-    let again = h .back Qcif first outputBefore 109 first-valid output-long (ap short e) in
-    let held = written-held Qcif first outputBefore 110 e in
-    never (sym (cut-short (outputOf Qcif first outputBefore) held) ∙ again)
+padded-refused : (rest : List Bit) (n : ℕ) → (n ≡ 110 → ⊥) → T (isRefused (picture Qcif (take n (padded ++ rest)) 0))
+padded-refused rest n other = go (lt-or-ge n 127)
   where
-    never : bad BitsEnd 109 ≡ got first [] 109 → ⊥
-    never q = let z : _≡_ {A = ℕ} 0 1 = cc in omega arith
+    go : (n < 127) ⊎ (127 ≤ n) → T (isRefused (picture Qcif (take n (padded ++ rest)) 0))
+    go (inl l) =
+        subst (λ (bs : List Bit). T (isRefused (picture Qcif bs 0))) (sym (take-append-le n padded rest (omega arith)))
+        (either-right (eqb n 110) (isRefused (picture Qcif (take n padded) 0)) (ne-eqb n 110 other) (all-at 127 (λ m. either (eqb m 110) (isRefused (picture Qcif (take m padded) 0))) others-refused n l))
+    go (inr l) =
+        let e : 126 + (n - 126) ≡ n = omega arith in
+        subst (λ (bs : List Bit). T (isRefused (picture Qcif bs 0))) (sym (ap (λ (k : ℕ). take k (padded ++ rest)) (sym e) ∙ take-append-add padded rest (n - 126))) (more-refused (take (n - 126) rest))
+
+-- what the writer leaves begins with them
+left-padded : take 126 (bitsIn (filled blankOutput (pictureOf Qcif picture1))) ≡ padded
+unfolding pictureOf groupsOf groupOf macroblocksOf bytesOf byteFrom bitsIn repeated
+left-padded = refl
+
+left-bits : bitsIn (outputOf Qcif first blankOutput) ≡ padded ++ drop 126 (bitsIn (filled blankOutput (pictureOf Qcif picture1)))
+unfolding leaves
+left-bits =
+    (λ i. bitsIn (leaves blankOutput (first-bits i) (first-written blankOutput output-long i)))
+    ∙ sym (take-append-drop 126 (bitsIn (filled blankOutput (pictureOf Qcif picture1))))
+    ∙ ap (λ (bs : List Bit). bs ++ drop 126 (bitsIn (filled blankOutput (pictureOf Qcif picture1)))) left-padded
+
+made-up-refused : (n : ℕ) → (n ≡ 110 → ⊥) → T (isRefused (reading Qcif (outputOf Qcif first blankOutput) n))
+unfolding reading
+made-up-refused n other = go (either (ltb (8 * length (outputOf Qcif first blankOutput)) n) (ltb (limit (sizeOf Qcif)) n))
+  where
+    go : (t : Bool) → T (isRefused (pick t (bad Count 0) (picture Qcif (take n (bitsIn (outputOf Qcif first blankOutput))) 0)))
+    go true = tt
+    go false = subst (λ (bs : List Bit). T (isRefused (picture Qcif (take n bs) 0))) (sym left-bits) (padded-refused (drop 126 (bitsIn (filled blankOutput (pictureOf Qcif picture1)))) n other)
+
+pub made-up-wrong : MadeUpWrong
+unfolding described
+made-up-wrong w n leaves-it answers other back =
+    let again : described Qcif (outputOf Qcif first blankOutput) n ≡ got first [] n =
+    ap (λ (s : List ℕ). described Qcif s n) (sym leaves-it) ∙ back .back Qcif first blankOutput n first-valid output-long answers in
+    refused-laid (reading Qcif (outputOf Qcif first blankOutput) n) (made-up-refused n other) again
+  where
+    refused-laid : (x : Read Picture) → T (isRefused x) → mapRead (laid Qcif) x ≡ got first [] n → ⊥
+    refused-laid (got p left at) t e = t
+    refused-laid (unread why) t e = let z : _≡_ {A = ℕ} 0 1 = cc in omega arith
+    refused-laid endless t e = let z : _≡_ {A = ℕ} 0 1 = cc in omega arith

@@ -1,3 +1,2 @@
 pub mod WrongPrograms
-pub mod Renumbering
 pub mod WrongReceivers

@@ -1,19 +1,20 @@
 -- The wrong readers and writers that document 01 names, "What the promises decide", don't meet demand 2. Assumes nothing.
-use Prim.Native.Nat.{ℕ, _-_}
+use Prim.Native.Nat.{ℕ}
 use mathlib.Core.Path.{_≡_}
 use mathlib.Core.List.{List}
-use lib.ListN.{length}
 use Rattle.refusals.specs.declared.Refusal.{Refusal}
 use Rattle.h261_groups.specs.declared.Format.{Format}
 use Rattle.h261_groups.specs.declared.Format.the-variants.{Qcif}
+use Rattle.h261_groups.specs.Format.{sizeOf}
+use Rattle.size.specs.Size.{outputLength}
 use Rattle.layout.specs.Flat.{Flat}
 use Rattle.h261_description.specs.Value.{laid}
 use Rattle.coding.specs.declared.Kind.{Kind}
 use Rattle.coding.specs.Coding.{accepted, refused}
-use Rattle.h261_writer.specs.declared.Written.{Written}
 use Rattle.h261_writer.specs.declared.Written.the-variants.{Bits, Refused}
-use Rattle.h261_writer.specs.Output.{writeOf, outputOf}
+use Rattle.h261_writer.specs.Output.{outputOf}
 use Rattle.sheet.specs.Sheet.{picture1}
+use Rattle.instances.specs.Example.{blank}
 use Rattle.demand2.specs.Demand2.{RefusedExactly, EverySample, AcceptedExactly, Writer, Follows, write, Decoder, ReadsBack}
 
 -- ---- wrong: "a reader that refuses everything"
@@ -53,13 +54,9 @@ refusingAll why f d out = record { answer = Refused (why f d); output = out }
 abbrev pub RefusingAllWrong : Type 0
 RefusingAllWrong = (why : Format → Flat → Refusal) → RefusedExactly (refusingAll why) → ⊥
 
--- ---- wrong: "a made-up N": one bit short of what was written
-abbrev pub short : Written → Written
-short (Bits n) = Bits (n - 1)
-short (Refused why) = Refused why
+-- ---- wrong: "a made-up N", whichever, shorter or longer: one that leaves the P1 picture's bytes, in an output that was all 0, and answers another number of bits
+abbrev pub blankOutput : List ℕ
+blankOutput = blank (outputLength (sizeOf Qcif))
 
-abbrev pub oneShort : Writer
-oneShort f d out = record { answer = short (writeOf f d (length out)); output = outputOf f d out }
-
-abbrev pub OneShortWrong : Type 0
-OneShortWrong = ReadsBack oneShort → ⊥
+abbrev pub MadeUpWrong : Type 0
+MadeUpWrong = (w : Writer) (n : ℕ) → w Qcif first blankOutput .output ≡ outputOf Qcif first blankOutput → w Qcif first blankOutput .answer ≡ Bits n → (n ≡ 110 → ⊥) → ReadsBack w → ⊥
