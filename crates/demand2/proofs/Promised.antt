@@ -3,21 +3,20 @@ use Prim.Native.Nat.{ℕ}
 use mathlib.Core.Path.{_≡_, refl, sym, ap, _∙_}
 use mathlib.Core.List.{List}
 use lib.ListN.{length}
+use Rattle.refusals.specs.Told.{Told, accepted, refused, verdictOn, foundOr}
 use Rattle.size.specs.Size.{storeLength}
 use Rattle.h261_reader.specs.Described.{described}
 use Rattle.coding.specs.declared.Kind.{Kind}
-use Rattle.coding.specs.Coding.{Found, accepted, refused}
 use Rattle.coding.specs.Kind.{kindSize}
-use Rattle.coding.specs.Described.{verdictOn, foundOr}
 use Rattle.decoder.specs.Decoded.{decoded}
 use Rattle.demand2.specs.Demand2.{decode, Accepts}
 use Rattle.demand2.specs.Promised.{DecodeProgram, KeepsDecode, decodedAs, decoderOf, DecodePromised, WritePromised}
 use Rattle.demand2.proofs.Demand2.{decode-exactly, decode-samples, write-back, write-refused}
 
 -- nothing is lost by a verdict and a store
-found-again : (before : List ℕ) (x : Found (List ℕ)) → decodedAs (verdictOn x) (foundOr before x) ≡ x
+found-again : (before : List ℕ) (x : Told (List ℕ)) → decodedAs (verdictOn x) (foundOr before x) ≡ x
 found-again before (accepted store) = refl
-found-again before (refused why) = refl
+found-again before (refused n place) = refl
 
 module _ (p : DecodeProgram) (keeps : KeepsDecode p) (before : Kind → List ℕ) (long : (k : Kind) → length (before k) ≡ storeLength (kindSize k)) where
   -- it is ours
@@ -41,7 +40,7 @@ decode-promised p keeps before long = record {
 }
 
 pub write-promised : WritePromised
-write-promised w keeps = record {
+write-promised p keeps = record {
   back = record {
     back = λ f d out n t l e. ap (λ (s : List ℕ). described f s n) (keeps .leaves f d out) ∙ write-back .back f d out n t l (sym (keeps .says f d out) ∙ e);
   };
@@ -49,6 +48,6 @@ write-promised w keeps = record {
     unnamed = λ f d out l. keeps .says f d out ∙ write-refused .unnamed f d out l;
     invalid = λ f d out l v. keeps .says f d out ∙ write-refused .invalid f d out l v;
     above = λ f d out l v m. keeps .says f d out ∙ write-refused .above f d out l v m;
-    else = λ f d out why t l e q. write-refused .else f d out why t l e (sym (keeps .says f d out) ∙ q);
+    else = λ f d out number place t l e q. write-refused .else f d out number place t l e (sym (keeps .says f d out) ∙ q);
   };
 }

@@ -4,15 +4,15 @@ use mathlib.Core.Path.{_≡_}
 use mathlib.Core.List.{List}
 use lib.ListN.{length}
 use Rattle.refusals.specs.declared.Verdict.{Verdict}
-use Rattle.refusals.specs.declared.Verdict.the-variants.{Accepted, Refused}
+use Rattle.refusals.specs.Told.{Told, accepted, refused, toldVerdict}
 use Rattle.h261_groups.specs.declared.Format.{Format}
 use Rattle.size.specs.Size.{storeLength}
 use Rattle.layout.specs.Flat.{Flat}
 use Rattle.coding.specs.declared.Kind.{Kind}
-use Rattle.coding.specs.Coding.{Found, accepted, refused}
 use Rattle.coding.specs.Kind.{kindSize}
 use Rattle.decoder.specs.Decoded.{DecodeSays, DecodeLeaves}
-use Rattle.h261_writer.specs.Output.{WriteSays, WriteLeaves}
+use Rattle.h261_writer.specs.declared.Written.{Written}
+use Rattle.h261_writer.specs.Output.{toldWritten, WriteSays, WriteLeaves}
 use Rattle.demand2.specs.Demand2.{Decoder, AcceptedExactly, EverySample, Writer, ReadsBack, RefusedExactly}
 
 -- ---- a program that decodes: what it answers, and what it leaves in the store that it was lent
@@ -30,13 +30,13 @@ pub record KeepsDecode (p : DecodeProgram) : Type 0 where
   pub leaves : (k : Kind) (bytes : List ℕ) (n : ℕ) (reference store : List ℕ) → DecodeLeaves k bytes n reference store (p k bytes n reference store .left)
 
 -- an accepted picture is the store that was left
-abbrev pub decodedAs : Verdict → List ℕ → Found (List ℕ)
-decodedAs Accepted left = accepted left
-decodedAs (Refused why) left = refused why
+abbrev pub decodedAs : Told (Unit {0}) → List ℕ → Told (List ℕ)
+decodedAs (accepted t) left = accepted left
+decodedAs (refused n place) left = refused n place
 
 -- the decoder that it is, with stores that hold this before
 abbrev pub decoderOf : DecodeProgram → (Kind → List ℕ) → Decoder
-decoderOf p before k bytes n reference = decodedAs (p k bytes n reference (before k) .verdict) (p k bytes n reference (before k) .left)
+decoderOf p before k bytes n reference = decodedAs (toldVerdict (p k bytes n reference (before k) .verdict)) (p k bytes n reference (before k) .left)
 
 pub record DecoderMeets (d : Decoder) : Type 0 where
   pub exactly : AcceptedExactly d
@@ -46,14 +46,26 @@ pub record DecoderMeets (d : Decoder) : Type 0 where
 abbrev pub DecodePromised : Type 0
 DecodePromised = (p : DecodeProgram) → KeepsDecode p → (before : Kind → List ℕ) → ((k : Kind) → length (before k) ≡ storeLength (kindSize k)) → DecoderMeets (decoderOf p before)
 
--- ---- a program that writes keeps the promise of `write`, on every input
-pub record KeepsWrite (w : Writer) : Type 0 where
-  pub says : (f : Format) (d : Flat) (out : List ℕ) → WriteSays f d out (w f d out .answer)
-  pub leaves : (f : Format) (d : Flat) (out : List ℕ) → WriteLeaves f d out (w f d out .output)
+-- ---- a program that writes: what it answers, and what it leaves in the output
+pub record Writing : Type 0 where
+  pub answer : Written
+  pub left : List ℕ
+
+abbrev pub WriteProgram : Type 0
+WriteProgram = Format → Flat → List ℕ → Writing
+
+-- it keeps the promise of `write`, on every input
+pub record KeepsWrite (p : WriteProgram) : Type 0 where
+  pub says : (f : Format) (d : Flat) (out : List ℕ) → WriteSays f d out (p f d out .answer)
+  pub leaves : (f : Format) (d : Flat) (out : List ℕ) → WriteLeaves f d out (p f d out .left)
+
+-- the writer that it is
+abbrev pub writerOf : WriteProgram → Writer
+writerOf p f d out = record { answer = toldWritten (p f d out .answer); output = p f d out .left }
 
 pub record WriterMeets (w : Writer) : Type 0 where
   pub back : ReadsBack w
   pub refused : RefusedExactly w
 
 abbrev pub WritePromised : Type 0
-WritePromised = (w : Writer) → KeepsWrite w → WriterMeets w
+WritePromised = (p : WriteProgram) → KeepsWrite p → WriterMeets (writerOf p)

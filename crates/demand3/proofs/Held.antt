@@ -33,7 +33,7 @@ use Rattle.demand3.proofs.Finished.{kept-reference, kept-sized, kept-sh
 use Rattle.demand3.proofs.Sent.{Whole, Part}
 use Rattle.demand3.proofs.Step.{Moment, progressAt, worldAt, marked, astray, further, arrived, bitsOf, refreshOf, headerOf, Block, stores-are, lengths-make, Comes, Finishing, after-long, comes-old, comes-lost, Takes, takes-next, takes-anew, comes-further, further-answers, collected-part, comes-arrived}
 use Rattle.standing.specs.declared.Standing.the-variants as T
-use Rattle.standing.specs.declared.Answer.the-variants as A
+use Rattle.standing.specs.Answered as A
 
 -- what is known of the pictures that were sent
 pub record Sound {D : Type 0} (coding : Kind → Coding D) (clip : ℕ) (kind : Kind) (sent : List (Picture D)) : Type 0 where
@@ -155,7 +155,7 @@ module _ {D : Type 0} {coding : Kind → Coding D} (lawful : AllLawful coding) {
     goes-further standing t e = comes-further lawful clip kind (block-of h) m (held .named) standing t e
 
     pub goes-answers : (standing : Standing) (t : Takes lawful clip kind (block-of h) m (held .named) standing) (e : eqb (part + 1) (partCount (length (bitsOf coding kind x))) ≡ false)
-        → goes-further standing t e .answer ≡ A.Taken p part
+        → goes-further standing t e .answer ≡ A.taken p part
     unfolding goes-further
     goes-answers standing t e = further-answers lawful clip kind (block-of h) m (held .named) standing t e
 

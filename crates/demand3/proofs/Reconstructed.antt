@@ -11,11 +11,12 @@ use lib.ListN.{length, getElem?}
 use lib.Seq.{take-all}
 use Rattle.laws.specs.Row.{row}
 use Rattle.laws.proofs.Row.{length-row, row-append}
+use Rattle.refusals.specs.Told.{accepted}
 use Rattle.size.specs.Size.{storeLength}
 use Rattle.bits.specs.Bits.{Bit}
 use Rattle.layout.specs.Flat.{Flat}
 use Rattle.coding.specs.declared.Kind.{Kind}
-use Rattle.coding.specs.Coding.{Coding, accepted}
+use Rattle.coding.specs.Coding.{Coding}
 use Rattle.coding.specs.Kind.{kindSize, codingOf, AllLawful}
 use Rattle.coding.specs.Described.{bytesIn}
 use Rattle.coding.proofs.H261.{coding-lawful}

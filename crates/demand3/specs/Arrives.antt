@@ -7,7 +7,7 @@ use Prim.Native.Nat.{ℕ, _+_}
 use lib.ListN.{length, getElem?}
 use Rattle.standing.specs.Run.{World}
 use Rattle.demand3.specs.Clip.{Picture, PartOf, Receive, Show, Right, upon}
-use Rattle.standing.specs.declared.Answer.the-variants as A
+use Rattle.standing.specs.Answered as A
 use Rattle.standing.specs.declared.Standing.the-variants as T
 use Rattle.standing.specs.Receive as R
 
@@ -45,7 +45,7 @@ pub record Finishes {D : Type 0} (receive : Receive) (sent : List (Picture D)) (
   pub block : List ℕ
   pub after : List (List ℕ)
   pub is : blocks ≡ before ++ (block ∷ after)
-  pub answers : upon receive w before block .gave .answer ≡ A.Picture k
+  pub answers : upon receive w before block .gave .answer ≡ A.picture k
   pub only-older : EachOlder sent (k + 1) 0 after
 
 -- "finishes that picture in step": and with the last of these blocks the receiver stands in step at picture k, and shows the sender's store after it

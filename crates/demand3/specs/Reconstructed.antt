@@ -5,10 +5,11 @@ use mathlib.Core.List.{List, [], _∷_, _++_}
 use mathlib.Core.Option.{some}
 use Prim.Native.Nat.{ℕ, _+_}
 use lib.ListN.{length, getElem?}
+use Rattle.refusals.specs.Told.{accepted}
 use Rattle.size.specs.Size.{storeLength}
 use Rattle.layout.specs.Flat.{Flat}
 use Rattle.coding.specs.declared.Kind.{Kind}
-use Rattle.coding.specs.Coding.{Coding, accepted}
+use Rattle.coding.specs.Coding.{Coding}
 use Rattle.coding.specs.Kind.{kindSize, codingOf, AllLawful}
 use Rattle.vault.specs.Block.{headerOf, payloadOf}
 use Rattle.standing.specs.Receive.{countOf}

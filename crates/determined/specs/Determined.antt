@@ -38,8 +38,10 @@ use Rattle.samples.specs.Wrote.{Wrote, Macroblock}
 use Rattle.coding.specs.declared.Kind.{Kind}
 use Rattle.decoder.specs.Decoded.{DecodeSays, DecodeLeaves}
 use Rattle.standing.specs.declared.Receiver.{Receiver}
+use Rattle.standing.specs.declared.Received.{Received}
 use Rattle.receiver.specs.Receiving.{ReceiveDoes}
 use Rattle.sender.specs.declared.Sender.{Sender}
+use Rattle.sender.specs.declared.Sent.{Sent as SentBack}
 use Rattle.sender.specs.Sending.{SendDoes}
 use Rattle.text.specs.Puts.{Puts}
 use Rattle.standing.specs.Receive as R
@@ -73,10 +75,12 @@ abbrev pub WriteLeavesOnce : Type 0
 WriteLeavesOnce = (f : Format) (d : Flat) (out : List ℕ) → Once (WriteLeaves f d out)
 
 abbrev pub ReceiveOnce : Type 0
-ReceiveOnce = (r : Receiver) (block : List ℕ) (b : R.Buffers) → Once (ReceiveDoes r block b)
+ReceiveOnce = (r : Receiver) (block : List ℕ) (b : R.Buffers) (x y : Received) (left after : R.Buffers) → ReceiveDoes r block b x left → ReceiveDoes r block b y after
+    → (x ≡ y) × (left ≡ after)
 
 abbrev pub SendOnce : Type 0
-SendOnce = (s : Sender) (d : Flat) (b : S.Buffers) → Once (SendDoes s d b)
+SendOnce = (s : Sender) (d : Flat) (b : S.Buffers) (x y : SentBack) (left after : S.Buffers) → SendDoes s d b x left → SendDoes s d b y after
+    → (x ≡ y) × (left ≡ after)
 
 -- ---- an equation with what the answer says: nothing of the answer is lost by that
 abbrev pub FieldOnce : Type 0

@@ -1,5 +1,5 @@
 -- What is said of a picture's blocks as they arrive in order, and of a block that comes after a gap. Assumes nothing.
-use mathlib.Core.Path.{_≡_, refl, sym, ap, subst, _∙_}
+use mathlib.Core.Path.{_≡_, refl, sym, ap, _∙_}
 use mathlib.Core.Bool.{Bool, true, false}
 use mathlib.Core.List.{List, [], _∷_, _++_}
 use mathlib.Core.Option.{some}
@@ -17,7 +17,7 @@ use Rattle.coding.specs.Kind.{kindSize, AllLawful}
 use Rattle.vault.specs.Parts.{partCount}
 use Rattle.standing.specs.declared.Place.{Place}
 use Rattle.standing.specs.declared.Line.the-variants.{Otherwise}
-use Rattle.standing.specs.Answered.{Said, taken, lost, picture, said}
+use Rattle.standing.specs.Answered.{Said, taken, lost, picture}
 use Rattle.standing.specs.Receive.{place, earlier, same, isLost, lineOf, step}
 use Rattle.standing.specs.Run.{World, after, answers}
 use Rattle.demand3.specs.Clip.{Picture, PartOf, given, afterBlock}
@@ -32,7 +32,7 @@ pub answers-append : {D : Type 0} (coding : Kind → Coding D) (w : World) (a b 
 unfolding answers given after
 answers-append coding w [] b = refl
 answers-append coding w (block ∷ a) b =
-    ap (λ (l : List Said). said (step coding (w .receiver) block (w .lent) .gave .answer) ∷ l) (answers-append coding (afterBlock (step coding) w block) a b)
+    ap (λ (l : List Said). step coding (w .receiver) block (w .lent) .gave .answer ∷ l) (answers-append coding (afterBlock (step coding) w block) a b)
 
 -- no place is earlier than itself
 not-before : (p part : ℕ) → earlier (place p part) (place p part) ≡ false
@@ -52,14 +52,14 @@ module _ {D : Type 0} {coding : Kind → Coding D} (lawful : AllLawful coding) {
     pub said-are : answers coding (worldAt clip kind m) blocks ≡ says
 
   -- what is said of one block, and then of the others
-  pub answers-on : (m n : Moment) (block : List ℕ) (blocks : List (List ℕ)) (a : Said) (c : Comes lawful clip kind m block n) → said (c .answer) ≡ a
+  pub answers-on : (m n : Moment) (block : List ℕ) (blocks : List (List ℕ)) (a : Said) (c : Comes lawful clip kind m block n) → c .answer ≡ a
       → answers coding (worldAt clip kind m) (block ∷ blocks) ≡ a ∷ answers coding (worldAt clip kind n) blocks
   unfolding answers after
   answers-on m n block blocks a c e =
-      (λ i. said (c .is i .gave .answer) ∷ answers coding (record { receiver = c .is i .gave .next; lent = c .is i .left }) blocks)
+      (λ i. c .is i .gave .answer ∷ answers coding (record { receiver = c .is i .gave .next; lent = c .is i .left }) blocks)
       ∙ ap (λ (s : Said). s ∷ answers coding (worldAt clip kind n) blocks) e
 
-  more : (p : ℕ) (m n : Moment) (block : List ℕ) (blocks : List (List ℕ)) (a : Said) (rest : List Said) (c : Comes lawful clip kind m block n) → said (c .answer) ≡ a
+  more : (p : ℕ) (m n : Moment) (block : List ℕ) (blocks : List (List ℕ)) (a : Said) (rest : List Said) (c : Comes lawful clip kind m block n) → c .answer ≡ a
       → Brings p n blocks rest → Brings p m (block ∷ blocks) (a ∷ rest)
   unfolding given
   more p m n block blocks a rest c e r = record {
@@ -96,18 +96,17 @@ module _ {D : Type 0} {coding : Kind → Coding D} (lawful : AllLawful coding) {
       fits = fits-next lawful sound h m held l (sym (ap (λ (q : Place). q .picture) w)) (sym (ap (λ (q : Place). q .part) w))
 
       last-part : part + 1 ≡ count → Brings p m (block ∷ []) (picture p ∷ [])
-      unfolding given answers said
+      unfolding given answers
       last-part c =
           let f = goes-arrived lawful sound h m held (m .standing) took fits (eq-eqb (part + 1) count c) in
-          more p m _ block [] (picture p) [] (f .comes) (ap said (f .answers))
+          more p m _ block [] (picture p) [] (f .comes) (f .answers)
           (record { last = _; is = refl; held = held-drawn lawful sound h m held fits; stands = refl; wants = refl; said-are = refl })
 
       next-part : (part + 1 ≡ count → ⊥) → (rest : List Said)
           → ((n : Moment) → Held lawful sound n → isLost (n .standing) ≡ false → n .wanted ≡ place p (part + 1) → Brings p n blocks rest) → Brings p m (block ∷ blocks) (taken p part ∷ rest)
-      unfolding said
       next-part c rest on =
           let e = ne-eqb (part + 1) count c in
-          more p m _ block blocks (taken p part) rest (goes-further lawful sound h m held (m .standing) took e) (ap said (goes-answers lawful sound h m held (m .standing) took e))
+          more p m _ block blocks (taken p part) rest (goes-further lawful sound h m held (m .standing) took e) (goes-answers lawful sound h m held (m .standing) took e)
           (on _ (held-further lawful sound h m held (m .standing) fits (held .shows)) l refl)
 
     pub from-part : (left part : ℕ) (blocks : List (List ℕ)) → Own part blocks → length blocks ≡ suc left → part + suc left ≡ count → (m : Moment) → Held lawful sound m → isLost (m .standing) ≡ false → m .wanted ≡ place p part
@@ -130,11 +129,10 @@ module _ {D : Type 0} {coding : Kind → Coding D} (lawful : AllLawful coding) {
           (line-of lawful sound begun m held false false true e (second-no (same (place p 0) (m .wanted)) (opposite (isLost (m .standing))) (ap opposite l)) (ap (λ (t : Bool). both t true) r))
 
       from-refresh : (left : ℕ) → length (block ∷ blocks) ≡ suc (suc left) → suc (suc left) ≡ count → Brings p m (block ∷ blocks) (arrival p 0 (suc left))
-      unfolding said
       from-refresh left n c =
           let fits = fits-anew lawful sound begun m held refl r in
           let e : eqb (0 + 1) count ≡ false = ne-eqb (0 + 1) count (λ q. omega arith) in
-          more p m _ block blocks (taken p 0) (arrival p (0 + 1) left) (goes-further lawful sound begun m held T.Catching took-anew e) (ap said (goes-answers lawful sound begun m held T.Catching took-anew e))
+          more p m _ block blocks (taken p 0) (arrival p (0 + 1) left) (goes-further lawful sound begun m held T.Catching took-anew e) (goes-answers lawful sound begun m held T.Catching took-anew e)
           (from-part left (0 + 1) blocks (λ i. own (suc i) ∙ ap (getElem? (x .blocks)) (onward 0 i)) (omega arith) (omega arith) _ (held-further lawful sound begun m held T.Catching fits (none-shown (kindSize kind) (m .lent .both))) refl refl)
 
     pub from-start : (left : ℕ) (blocks : List (List ℕ)) → Own 0 blocks → 1 ≤ left → length blocks ≡ suc left → suc left ≡ count → (m : Moment) → Held lawful sound m
@@ -151,6 +149,6 @@ module _ {D : Type 0} {coding : Kind → Coding D} (lawful : AllLawful coding) {
     pub goes-astray : Comes lawful clip kind m block (astray m)
     goes-astray = comes-lost lawful clip kind (block-of lawful sound h) m (held .named) otherwise
 
-    pub says-lost : said (goes-astray .answer) ≡ lost
-    unfolding said goes-astray
-    says-lost = ap said (lost-answers lawful clip kind (block-of lawful sound h) m (held .named) otherwise)
+    pub says-lost : goes-astray .answer ≡ lost
+    unfolding goes-astray
+    says-lost = lost-answers lawful clip kind (block-of lawful sound h) m (held .named) otherwise

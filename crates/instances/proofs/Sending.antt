@@ -1,6 +1,6 @@
 -- What comes of the calls of a clip, into outputs and stores that are all 0: a picture for each that can be sent, none for one above the limit. Assumes nothing.
 use mathlib.Core.Path.{_≡_, refl, ap, _∙_}
-use mathlib.Core.Bool.{Bool, true}
+use mathlib.Core.Bool.{true}
 use mathlib.Core.List.{List, [], _∷_, _++_}
 use Prim.Native.Nat.{ℕ, _≤_, _<_}
 use native.Mathlib.Nat.{mul-one}
@@ -9,8 +9,7 @@ use lib.Dec.{T, eqb}
 use lib.ListN.{length}
 use Rattle.laws.specs.Choice.{both, either, opposite}
 use Rattle.laws.proofs.Choice.{T-true, both-left}
-use Rattle.refusals.specs.declared.Reason.the-variants.{AboveLimit}
-use Rattle.refusals.specs.Number.{refusal}
+use Rattle.refusals.specs.Told.{refused}
 use Rattle.size.specs.declared.Size.{Size}
 use Rattle.size.specs.Size.{limit, storeLength, collectionLength, blocksLength}
 use Rattle.layout.specs.Flat.{Flat}
@@ -31,7 +30,6 @@ use Rattle.demand3.proofs.Finished.{bothSized, kept-sized}
 use Rattle.demand3.proofs.Step.{lengths-make}
 use Rattle.instances.specs.Example.{blank, blankStores, newcomer, call}
 use Rattle.instances.proofs.Uniform.{repeated-length}
-use Rattle.sender.specs.declared.Answer.the-variants as A
 use Rattle.standing.specs.Receive as R
 
 -- ---- buffers
@@ -105,8 +103,8 @@ module _ {D : Type 0} (coding : Kind → Coding D) (w : World) (d : D) where
       module _ (l : limit (kindSize kind) < length (coding kind .written d)) where
         pub none-first : (rest : List (Call D)) → pictures coding w (call kind d ∷ rest) ≡ pictures coding w rest
         unfolding cameTo
-        none-first rest = by (refuses AboveLimit) (above coding (w .sender) d lent passed l) rest
+        none-first rest = by (refuses 32) (above coding (w .sender) d lent passed l) rest
 
-        pub above-refused : called coding w (call kind d) .gave .answer ≡ A.Refused (refusal AboveLimit 0)
+        pub above-refused : called coding w (call kind d) .gave .answer ≡ refused 32 0
         unfolding called step cameTo
         above-refused = ap (λ (j : Judgement). cameTo coding (w .sender) d lent j .gave .answer) (above coding (w .sender) d lent passed l)

@@ -5,14 +5,12 @@ use mathlib.Core.Bool.{true, false}
 use mathlib.Core.List.{List, [], _∷_, _++_}
 use lib.Dec.{T}
 use lib.ListN.{length}
-use Rattle.refusals.specs.declared.Reason.the-variants.{AboveLimit}
-use Rattle.refusals.specs.Number.{refusal}
+use Rattle.refusals.specs.Told.{refused}
 use Rattle.h261_groups.specs.declared.Format.{Format}
 use Rattle.h261_groups.specs.Format.{sizeOf}
 use Rattle.size.specs.Size.{limit, outputLength}
 use Rattle.layout.specs.Flat.{Flat}
 use Rattle.h261_description.specs.Valid.{valid}
-use Rattle.h261_writer.specs.declared.Written.the-variants.{Refused}
 use Rattle.h261_writer.specs.Output.{written, writeOf}
 use Rattle.coding.specs.declared.Kind.{Kind}
 use Rattle.coding.specs.Kind.{formatOf, kindSize, codingOf}
@@ -26,14 +24,13 @@ use Rattle.demand3.specs.Arrives.{InStepAt}
 use Rattle.instances.specs.Uniform.{grey, heavy}
 use Rattle.instances.specs.Example.{newcomer, call, example}
 use Rattle.coding.specs.declared.Kind.the-variants as K
-use Rattle.sender.specs.declared.Answer.the-variants as A
 use Rattle.standing.specs.declared.Standing.the-variants as T
 
 -- ---- 32: "written picture above the limit". There is a valid description of which that holds
 pub record Above (f : Format) (d : Flat) : Type 0 where
   pub is-valid : T (valid f d)
   pub above : limit (sizeOf f) < length (written f d)
-  pub answers-32 : (out : List ℕ) → length out ≡ outputLength (sizeOf f) → writeOf f d (length out) ≡ Refused (refusal AboveLimit 0)
+  pub answers-32 : (out : List ℕ) → length out ≡ outputLength (sizeOf f) → writeOf f d (length out) ≡ refused 32 0
 
 abbrev pub AboveLimitValid : Type 0
 AboveLimitValid = (f : Format) → Above f (heavy f)
@@ -57,7 +54,7 @@ pub record Example (kind : Kind) : Type 0 where
   pub picture4 : Picture Flat
   pub sent : picturesIn codingOf (example kind) ≡ picture0 ∷ picture1 ∷ picture2 ∷ picture3 ∷ picture4 ∷ []
   -- the refused call, by 32
-  pub refused : called codingOf (after codingOf (opening codingOf (example kind)) (call kind (grey (formatOf kind) 1))) (call kind (heavy (formatOf kind))) .gave .answer ≡ A.Refused (refusal AboveLimit 0)
+  pub is-refused : called codingOf (after codingOf (opening codingOf (example kind)) (call kind (grey (formatOf kind) 1))) (call kind (heavy (formatOf kind))) .gave .answer ≡ refused 32 0
   pub described0 : picture0 .description ≡ grey (formatOf kind) 1
   pub described3 : picture3 .description ≡ grey (formatOf kind) 2
   -- pictures 0 and 3 are refreshes, the others are not

@@ -5,7 +5,6 @@ use mathlib.Core.List.{List, [], _∷_}
 use native.Mathlib.Omega.{arith}
 use Rattle.laws.specs.Floor.{floorDivided}
 use Rattle.laws.specs.Sum.{sumZ}
-use Rattle.refusals.specs.declared.Reason.the-variants.{BitsEnd, VectorOut}
 use Rattle.refusals.specs.Number.{number}
 use Rattle.bits.specs.Bits.{bitsIn}
 use Rattle.bits.specs.Read.{fieldFrom}
@@ -35,11 +34,11 @@ picture-1 = (refl, refl, refl, λ reference e. nothing-same Qcif (laid Qcif pict
 
 picture-2 : says P2
 unfolding pictureOf groupsOf groupOf macroblocksOf bytesOf byteFrom bitsIn fieldFrom longer lookup word table1 sparesFrom spares mba macroblocksFrom groupHead group groupsRead header picture reading number
-picture-2 = (BitsEnd, refl, refl)
+picture-2 = refl
 
 vector-12 : says P12
 unfolding componentRead longer lookup word table3 number
-vector-12 = λ place. (VectorOut, refl, refl)
+vector-12 = λ place. refl
 
 chroma-11 : says P11
 unfolding moved

@@ -9,11 +9,11 @@ use lib.ListN.{length, replicate, take}
 use Rattle.laws.specs.Choice.{both}
 use Rattle.laws.specs.Table.{allB, eqZ}
 use Rattle.laws.specs.Block.{put}
-use Rattle.refusals.specs.declared.Reason.{Reason}
-use Rattle.refusals.specs.Number.{number}
+use Rattle.refusals.specs.Told.{refused}
 use Rattle.bits.specs.Bits.{Bit, bitsOf}
-use Rattle.bits.specs.Read.{Read, got, bad}
+use Rattle.bits.specs.Read.{got}
 use Rattle.bits.specs.Write.{started, bytesOf}
+use Rattle.fields.specs.Answer.{found}
 use Rattle.h261_groups.specs.declared.Format.the-variants.{Qcif}
 use Rattle.h261_groups.specs.Format.{sizeOf}
 use Rattle.size.specs.Size.{storeLength}
@@ -74,17 +74,13 @@ abbrev every : List Bool → Bool
 every [] = true
 every (b ∷ bs) = both b (every bs)
 
--- refused with this number of the table, at this place
-abbrev pub RefusedAs : {A : Type 0} → ℕ → ℕ → Read A → Type 0
-RefusedAs n place x = (reason : Reason) × (x ≡ bad reason place) × (number reason ≡ n)
-
 abbrev pub says : Example → Type 0
 -- "has 110 bits, begins 00 01 00 86 (hex), and copies the reference"
 says P1 =
     (length bits1 ≡ 110) × (take 4 bytes1 ≡ 0x00 ∷ 0x01 ∷ 0x00 ∷ 0x86 ∷ []) × (reading Qcif bytes1 110 ≡ got picture1 [] 110)
     × ((reference : List ℕ) → length reference ≡ storeLength (sizeOf Qcif) → rendered Qcif (laid Qcif picture1) reference ≡ reference)
 -- "cut to 109 bits: 3 at 109"
-says P2 = RefusedAs 3 109 (reading Qcif bytes1 109)
+says P2 = found (reading Qcif bytes1 109) ≡ refused 3 109
 -- "Q 8, L 1: 23"; "Q 7, L -2: -35"; "Q 31, L 127: 2047"
 says P3 = coefficient 8 (pos 1) ≡ pos 23
 says P4 = coefficient 7 (negsuc 1) ≡ negsuc 34
@@ -111,7 +107,7 @@ says P10 =
 -- "chroma of -3 is -1": in both planes, from any place
 says P11 = (place : ℕ) → (moved 1 place (negsuc 2) ≡ place - 1) × (moved 2 place (negsuc 2) ≡ place - 1)
 -- "preceding 0 with pair -16 & 16: refusal 12": the pair's codeword, at any place
-says P12 = (place : ℕ) → RefusedAs 12 place (componentRead (pos 0) (bitsOf 11 0b00000011001) place)
+says P12 = (place : ℕ) → found (componentRead (pos 0) (bitsOf 11 0b00000011001) place) ≡ refused 12 place
 
 -- ---- the single claim
 abbrev pub Each : (Example → Type 0) → List Example → Type 0

@@ -15,6 +15,8 @@ use Rattle.laws.proofs.Choice.{either-right}
 use Rattle.laws.proofs.Rows.{lt-or-ge}
 use Rattle.laws.proofs.Table.{all-at}
 use Rattle.refusals.specs.declared.Reason.the-variants.{Count, BitsEnd}
+use Rattle.refusals.specs.Told.{accepted}
+use Rattle.refusals.proofs.Told.{told-apart}
 use Rattle.bits.specs.Bits.{Bit, O, bitsIn}
 use Rattle.bits.specs.Code.{longer, lookup, word}
 use Rattle.bits.specs.Write.{bytesOf, byteFrom}
@@ -32,13 +34,11 @@ use Rattle.fields.specs.Rules.{sparesFrom, spares}
 use Rattle.h261_layers.specs.Grammar.{mba, macroblocksFrom, groupHead, group, groupsRead, header, picture, reading}
 use Rattle.h261_reader.proofs.Verdicts.{accepted-valid, accepted-described}
 use Rattle.h261_reader.specs.Described.{described}
-use Rattle.h261_writer.specs.declared.Written.the-variants.{Bits}
 use Rattle.h261_writer.specs.Write.{macroblocksOf, groupOf, groupsOf, pictureOf}
 use Rattle.h261_writer.specs.Output.{written, writeOf, filled, leaves, outputOf}
 use Rattle.demand2.proofs.WrittenBack.{writes, written-back}
 use Rattle.sheet.specs.Sheet.{picture1, bytes1, P1}
 use Rattle.sheet.proofs.Sheet.{shown}
-use Rattle.demand2.proofs.Demand2.{refused-accepted}
 use Rattle.instances.specs.Uniform.{repeated}
 use Rattle.instances.proofs.Sending.{blank-long}
 use Rattle.wrong.specs.WrongPrograms.{first, blankOutput, RefusingWrong, FixedWrong, FixedSamplesWrong, FirstForAllWrong, RefusingAllWrong, MadeUpWrong}
@@ -61,9 +61,9 @@ unfolding grey
 grey-first k = getD-replicate (storeLength (sizeOf Qcif)) 0 k 0 (lit< tt)
 
 pub refusing-wrong : RefusingWrong
-refusing-wrong why h =
+refusing-wrong number place h =
     let a = h .then H261Qcif bytes1 110 (grey 0) (grey-long 0) first-follows in
-    refused-accepted (why H261Qcif bytes1 110) (a .store) (a .is)
+    told-apart (sym (a .is))
 
 nothing-refused : reading Qcif [] 0 ≡ bad BitsEnd 0
 unfolding reading picture header fieldFrom bitsIn
@@ -112,8 +112,8 @@ first-long = ap length first-bits ∙ shown P1 .0
 first-below : length (written Qcif first) ≤ limit (sizeOf Qcif)
 first-below = let e : length (written Qcif first) ≡ 110 = first-long in omega arith
 
-first-written : (out : List ℕ) → length out ≡ outputLength (sizeOf Qcif) → writeOf Qcif first (length out) ≡ Bits 110
-first-written out e = writes Qcif first out first-valid first-below e ∙ ap Bits first-long
+first-written : (out : List ℕ) → length out ≡ outputLength (sizeOf Qcif) → writeOf Qcif first (length out) ≡ accepted 110
+first-written out e = writes Qcif first out first-valid first-below e ∙ ap accepted first-long
 
 -- an output of its length
 output-long : length blankOutput ≡ outputLength (sizeOf Qcif)
@@ -132,7 +132,7 @@ first-for-all-wrong h =
     got-same a b e = cc
 
 pub refusing-all-wrong : RefusingAllWrong
-refusing-all-wrong why h = h .else Qcif first blankOutput (why Qcif first) first-valid first-below output-long refl
+refusing-all-wrong number place h = h .else Qcif first blankOutput (number Qcif first) (place Qcif first) first-valid first-below output-long refl
 
 -- ---- a made-up N
 -- P1's bits, and 16 that are 0: two that fill the last byte, and those of an output that was all 0
@@ -154,15 +154,19 @@ more-refused : (rest : List Bit) → T (isRefused (picture Qcif (padded ++ rest)
 unfolding pictureOf groupsOf groupOf macroblocksOf fieldFrom longer lookup word table1 sparesFrom spares mba macroblocksFrom groupHead group groupsRead header picture
 more-refused rest = tt
 
+padded-long : length padded ≡ 126
+unfolding pictureOf groupsOf groupOf macroblocksOf
+padded-long = refl
+
 padded-refused : (rest : List Bit) (n : ℕ) → (n ≡ 110 → ⊥) → T (isRefused (picture Qcif (take n (padded ++ rest)) 0))
 padded-refused rest n other = go (lt-or-ge n 127)
   where
     go : (n < 127) ⊎ (127 ≤ n) → T (isRefused (picture Qcif (take n (padded ++ rest)) 0))
     go (inl l) =
-        subst (λ (bs : List Bit). T (isRefused (picture Qcif bs 0))) (sym (take-append-le n padded rest (omega arith)))
+        subst (λ (bs : List Bit). T (isRefused (picture Qcif bs 0))) (sym (take-append-le n padded rest (omega (arith, padded-long))))
         (either-right (eqb n 110) (isRefused (picture Qcif (take n padded) 0)) (ne-eqb n 110 other) (all-at 127 (λ m. either (eqb m 110) (isRefused (picture Qcif (take m padded) 0))) others-refused n l))
     go (inr l) =
-        let e : 126 + (n - 126) ≡ n = omega arith in
+        let e : length padded + (n - 126) ≡ n = omega (arith, padded-long) in
         subst (λ (bs : List Bit). T (isRefused (picture Qcif bs 0))) (sym (ap (λ (k : ℕ). take k (padded ++ rest)) (sym e) ∙ take-append-add padded rest (n - 126))) (more-refused (take (n - 126) rest))
 
 -- what the writer leaves begins with them

@@ -2,7 +2,7 @@
 use Prim.Native.Nat.{ℕ}
 use mathlib.Core.Path.{_≡_}
 use mathlib.Core.List.{List}
-use Rattle.refusals.specs.declared.Refusal.{Refusal}
+use Rattle.refusals.specs.Told.{accepted, refused}
 use Rattle.h261_groups.specs.declared.Format.{Format}
 use Rattle.h261_groups.specs.declared.Format.the-variants.{Qcif}
 use Rattle.h261_groups.specs.Format.{sizeOf}
@@ -10,19 +10,17 @@ use Rattle.size.specs.Size.{outputLength}
 use Rattle.layout.specs.Flat.{Flat}
 use Rattle.h261_description.specs.Value.{laid}
 use Rattle.coding.specs.declared.Kind.{Kind}
-use Rattle.coding.specs.Coding.{accepted, refused}
-use Rattle.h261_writer.specs.declared.Written.the-variants.{Bits, Refused}
 use Rattle.h261_writer.specs.Output.{outputOf}
 use Rattle.sheet.specs.Sheet.{picture1}
 use Rattle.instances.specs.Example.{blank}
 use Rattle.demand2.specs.Demand2.{RefusedExactly, EverySample, AcceptedExactly, Writer, Follows, write, Decoder, ReadsBack}
 
 -- ---- wrong: "a reader that refuses everything"
-abbrev pub refusing : (Kind → List ℕ → ℕ → Refusal) → Decoder
-refusing why k bytes n reference = refused (why k bytes n)
+abbrev pub refusing : (Kind → List ℕ → ℕ → ℕ) → (Kind → List ℕ → ℕ → ℕ) → Decoder
+refusing number place k bytes n reference = refused (number k bytes n) (place k bytes n)
 
 abbrev pub RefusingWrong : Type 0
-RefusingWrong = (why : Kind → List ℕ → ℕ → Refusal) → AcceptedExactly (refusing why) → ⊥
+RefusingWrong = (number place : Kind → List ℕ → ℕ → ℕ) → AcceptedExactly (refusing number place) → ⊥
 
 -- ---- wrong: one that "returns one fixed picture": whatever it is asked, or for all that it rightly accepts
 abbrev pub fixed : List ℕ → Decoder
@@ -48,15 +46,15 @@ abbrev pub FirstForAllWrong : Type 0
 FirstForAllWrong = ReadsBack firstForAll → ⊥
 
 -- ---- wrong: one that "refuses all"
-abbrev pub refusingAll : (Format → Flat → Refusal) → Writer
-refusingAll why f d out = record { answer = Refused (why f d); output = out }
+abbrev pub refusingAll : (Format → Flat → ℕ) → (Format → Flat → ℕ) → Writer
+refusingAll number place f d out = record { answer = refused (number f d) (place f d); output = out }
 
 abbrev pub RefusingAllWrong : Type 0
-RefusingAllWrong = (why : Format → Flat → Refusal) → RefusedExactly (refusingAll why) → ⊥
+RefusingAllWrong = (number place : Format → Flat → ℕ) → RefusedExactly (refusingAll number place) → ⊥
 
 -- ---- wrong: "a made-up N", whichever, shorter or longer: one that leaves the P1 picture's bytes, in an output that was all 0, and answers another number of bits
 abbrev pub blankOutput : List ℕ
 blankOutput = blank (outputLength (sizeOf Qcif))
 
 abbrev pub MadeUpWrong : Type 0
-MadeUpWrong = (w : Writer) (n : ℕ) → w Qcif first blankOutput .output ≡ outputOf Qcif first blankOutput → w Qcif first blankOutput .answer ≡ Bits n → (n ≡ 110 → ⊥) → ReadsBack w → ⊥
+MadeUpWrong = (w : Writer) (n : ℕ) → w Qcif first blankOutput .output ≡ outputOf Qcif first blankOutput → w Qcif first blankOutput .answer ≡ accepted n → (n ≡ 110 → ⊥) → ReadsBack w → ⊥

@@ -11,23 +11,24 @@ use Rattle.standing.specs.declared.Holder.{Holder}
 use Rattle.standing.specs.declared.Holder.the-variants.{Neither}
 use Rattle.standing.specs.Stores.{Stores, stores, shown}
 use Rattle.standing.specs.declared.Received.{Received}
+use Rattle.standing.specs.Answered.{said, toldReceived}
 use Rattle.standing.specs.Shown.{whereShown, refusedLength, shownBy}
 use Rattle.standing.proofs.show.Statement.{statement}
 use Rattle.standing.proofs.show.Tie as tie
 
-module _ {length : Bool} {size : Size} (x : Received) (s : Stores) (sz : size ≡ kindSize (x .next .kind)) (is : length ≡ refusedLength (x .answer)) where
+module _ {length : Bool} {size : Size} (x : Received) (s : Stores) (sz : size ≡ kindSize (x .next .kind)) (is : length ≡ refusedLength (said (x .answer))) where
   -- the store that is shown where the length isn't refused
   abbrev holding : Holder
   holding = whereShown (x .next .progress .standing) (x .next .last .holder)
 
-  by-length : (b : Bool) → length ≡ b → shown size (pick b Neither holding) s ≡ shownBy x s
+  by-length : (b : Bool) → length ≡ b → shown size (pick b Neither holding) s ≡ shownBy (toldReceived x) s
   unfolding shownBy
   by-length b e = λ i. shown (sz i) (pick ((sym e ∙ is) i) Neither holding) s
 
-  nothing : {part : List ℕ} → length ≡ true → part ≡ shown size Neither s → part ≡ shownBy x s
+  nothing : {part : List ℕ} → length ≡ true → part ≡ shown size Neither s → part ≡ shownBy (toldReceived x) s
   nothing e h = h ∙ by-length true e
 
-  standing : {part : List ℕ} {holder : Holder} → length ≡ false → holder ≡ holding → part ≡ shown size holder s → part ≡ shownBy x s
+  standing : {part : List ℕ} {holder : Holder} → length ≡ false → holder ≡ holding → part ≡ shown size holder s → part ≡ shownBy (toldReceived x) s
   standing e k h = h ∙ ap (λ (m : Holder). shown size m s) k ∙ by-length false e
 
 returns : tie.Need-returns
