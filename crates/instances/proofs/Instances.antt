@@ -1,13 +1,13 @@
 -- The example comes to what it says: call by call for the sender, block by block for the receiver. Assumes nothing.
 use mathlib.Core.Path.{_≡_, refl, sym, ap, subst, _∙_}
-use mathlib.Core.Bool.{Bool, true, false}
-use mathlib.Core.List.{List, [], _∷_, _++_, append-nil, append-assoc, List·Memᴰ, List·Memᴰ·head, List·Memᴰ·tail, Memᴰ·append-left, Memᴰ·append-right}
+use mathlib.Core.Bool.{true, false}
+use mathlib.Core.List.{List, [], _∷_, _++_, append-nil, append-assoc, List·Memᴰ, Memᴰ·append-left, Memᴰ·append-right}
 use mathlib.Core.Option.{some, Option·some-injective}
 use Prim.Native.Nat.{ℕ, zero, suc, _+_, _*_, _≤_, _<_}
 use native.Mathlib.Nat.{zero-add}
 use native.Mathlib.Omega.{arith}
 use borrow.Author.Tests.{eq-eqb}
-use lib.Dec.{T, lit<, lit≤}
+use lib.Dec.{lit<, lit≤}
 use lib.ListN.{length, getElem?}
 use Rattle.laws.proofs.Choice.{T-true, both-left}
 use Rattle.refusals.specs.declared.Reason.the-variants.{AboveLimit}
@@ -17,22 +17,21 @@ use Rattle.h261_groups.specs.declared.Format.the-variants.{Qcif, Cif}
 use Rattle.h261_groups.specs.Format.{sizeOf}
 use Rattle.size.specs.Size.{limit, outputLength}
 use Rattle.layout.specs.Flat.{Flat}
-use Rattle.h261_description.specs.Fields.{refresh}
 use Rattle.h261_description.specs.Valid.{valid, lengthsOf}
-use Rattle.h261_writer.specs.Output.{written, writeOf}
+use Rattle.h261_writer.specs.Output.{written}
 use Rattle.coding.specs.declared.Kind.{Kind}
 use Rattle.coding.specs.Kind.{formatOf, kindSize, codingOf}
 use Rattle.coding.proofs.H261.{coding-lawful}
 use Rattle.vault.specs.Parts.{partCount}
 use Rattle.standing.specs.declared.Place.{Place}
-use Rattle.standing.specs.Answered.{Said, lost, picture}
+use Rattle.standing.specs.Answered.{lost, picture}
 use Rattle.standing.specs.Receive.{place, earlier, same, isLost, step}
 use Rattle.standing.specs.Run.{World, answers}
 use Rattle.standing.specs.Shown.{shownBy}
 use Rattle.sender.specs.Run.{called, after}
 use Rattle.demand2.proofs.WrittenBack.{one-of}
 use Rattle.demand2.proofs.Demand2.{write-refused}
-use Rattle.demand3.specs.Clip.{Picture, PartOf, Clip, pictures, opening, blocksIn, picturesIn, begin, Each, given}
+use Rattle.demand3.specs.Clip.{Picture, PartOf, pictures, opening, blocksIn, picturesIn, begin, Each, given}
 use Rattle.demand3.specs.Arrives.{Follow, inTurn, InStepAt}
 use Rattle.demand3.proofs.Finished.{bothSized}
 use Rattle.demand3.proofs.Step.{Moment, worldAt, astray, Comes}
@@ -41,14 +40,13 @@ use Rattle.demand3.proofs.InStep.{start, start-held, sound-clip}
 use Rattle.demand3.proofs.Calls.{each-of, given-append}
 use Rattle.demand3.proofs.WholeClip.{blocksEach, clip-in-turn, own-arrive}
 use Rattle.demand3.proofs.Meets.{codings-meet}
-use Rattle.instances.specs.Uniform.{uniform, still, grey, heavy, intra, greyLevels, heavyLevels}
+use Rattle.instances.specs.Uniform.{still, grey, heavy, greyLevels}
 use Rattle.instances.specs.Example.{newcomer, call, calls, example}
-use Rattle.instances.specs.Instances.{Above, AboveLimitValid, arrival, beforeLast, Example, Delivered, ExampleDelivered}
+use Rattle.instances.specs.Instances.{AboveLimitValid, arrival, beforeLast, Example, Delivered, ExampleDelivered}
 use Rattle.instances.proofs.Uniform.{still-valid, still-long, still-no-refresh, Code, one, two, codeOf, grey-valid, grey-long, intra-refresh, heavy-valid, heavy-above}
 use Rattle.instances.proofs.Sending.{blank-sized, newcomer-named, Described, described, pictureOf, next, next-sized, picture-first, none-first, after-first, above-refused}
 use Rattle.instances.proofs.Arriving.{answers-append, Brings, answers-on, from-part, from-start, goes-astray, says-lost}
 use Rattle.coding.specs.declared.Kind.the-variants as K
-use Rattle.standing.specs.declared.Standing.the-variants as T
 use Rattle.sender.specs.declared.Answer.the-variants as A
 use Rattle.sender.specs.Run as S
 

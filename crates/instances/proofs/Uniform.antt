@@ -1,5 +1,5 @@
 -- Descriptions whose macroblocks are all alike: validity and the number of bits, whatever the number of macroblocks. Assumes nothing.
-use Prim.Native.Nat.{ℕ, zero, suc, _+_, _-_, _*_, _≤_, _<_}
+use Prim.Native.Nat.{ℕ, zero, suc, _+_, _-_, _*_, _<_}
 use mathlib.Core.Path.{_≡_, refl, sym, ap, subst, _∙_}
 use mathlib.Core.Bool.{Bool, true, false}
 use mathlib.Core.List.{List, [], _∷_, _++_, append-assoc}
@@ -7,11 +7,10 @@ use native.Mathlib.Nat.{zero-add, suc-add, zero-mul, suc-mul, add-comm}
 use native.Mathlib.Omega.{arith}
 use borrow.Author.Tests.{eq-eqb}
 use lib.Dec.{T}
-use lib.ListN.{length, replicate, take, drop, length-append, length-replicate}
+use lib.ListN.{length, replicate, take, drop, length-append}
 use lib.Seq.{take-at, drop-at}
 use Rattle.laws.specs.Choice.{both}
 use Rattle.laws.proofs.Choice.{both-make, true-T}
-use Rattle.bits.specs.Bits.{Bit}
 use Rattle.bits.specs.Code.{wordOf}
 use Rattle.h261_words.specs.Tables.{table1, table2, pairs, laterTable5}
 use Rattle.h261_words.specs.Words.{tcoeffOf}
@@ -21,8 +20,8 @@ use Rattle.h261_groups.specs.Format.{sizeOf, groupNumbers, groupCount}
 use Rattle.h261_groups.specs.Order.{macroblockCount}
 use Rattle.size.specs.Size.{limit}
 use Rattle.layout.specs.Value.{Vector, Block, Macroblock, Group}
-use Rattle.layout.specs.Flat.{Flat, vectorIn, gather, gathers, macroblocksIn, groupsIn}
-use Rattle.layout.specs.Numbers.{all, isQuantiser, codesFirst}
+use Rattle.layout.specs.Flat.{vectorIn, gather, gathers, macroblocksIn, groupsIn}
+use Rattle.layout.specs.Numbers.{codesFirst}
 use Rattle.layout.specs.Valid.{everyMacroblock, everyGroup}
 use Rattle.h261_description.specs.Value.{pictureIn}
 use Rattle.h261_description.specs.Vector.{Before, atStart}

@@ -154,15 +154,19 @@ more-refused : (rest : List Bit) → T (isRefused (picture Qcif (padded ++ rest)
 unfolding pictureOf groupsOf groupOf macroblocksOf fieldFrom longer lookup word table1 sparesFrom spares mba macroblocksFrom groupHead group groupsRead header picture
 more-refused rest = tt
 
+padded-long : length padded ≡ 126
+unfolding pictureOf groupsOf groupOf macroblocksOf
+padded-long = refl
+
 padded-refused : (rest : List Bit) (n : ℕ) → (n ≡ 110 → ⊥) → T (isRefused (picture Qcif (take n (padded ++ rest)) 0))
 padded-refused rest n other = go (lt-or-ge n 127)
   where
     go : (n < 127) ⊎ (127 ≤ n) → T (isRefused (picture Qcif (take n (padded ++ rest)) 0))
     go (inl l) =
-        subst (λ (bs : List Bit). T (isRefused (picture Qcif bs 0))) (sym (take-append-le n padded rest (omega arith)))
+        subst (λ (bs : List Bit). T (isRefused (picture Qcif bs 0))) (sym (take-append-le n padded rest (omega (arith, padded-long))))
         (either-right (eqb n 110) (isRefused (picture Qcif (take n padded) 0)) (ne-eqb n 110 other) (all-at 127 (λ m. either (eqb m 110) (isRefused (picture Qcif (take m padded) 0))) others-refused n l))
     go (inr l) =
-        let e : 126 + (n - 126) ≡ n = omega arith in
+        let e : length padded + (n - 126) ≡ n = omega (arith, padded-long) in
         subst (λ (bs : List Bit). T (isRefused (picture Qcif bs 0))) (sym (ap (λ (k : ℕ). take k (padded ++ rest)) (sym e) ∙ take-append-add padded rest (n - 126))) (more-refused (take (n - 126) rest))
 
 -- what the writer leaves begins with them

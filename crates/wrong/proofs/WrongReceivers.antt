@@ -6,7 +6,7 @@ use mathlib.Core.List.{List, [], _∷_, _++_, append-nil}
 use mathlib.Core.Option.{some, Option·some-injective}
 use Prim.Native.Nat.{ℕ, _+_}
 use native.Mathlib.Omega.{arith}
-use lib.ListN.{length, getElem?, getD}
+use lib.ListN.{getElem?, getD}
 use Rattle.laws.specs.Choice.{both, opposite}
 use Rattle.coding.specs.declared.Kind.the-variants.{H261Qcif}
 use Rattle.layout.specs.Flat.{Flat}
