@@ -1,4 +1,4 @@
--- `listing::list` meets its contract: by the clip, and by what is found. Assumes nothing.
+-- `listing::list` meets its contract: by the clip, by the lengths, and by what is found. Assumes nothing.
 use borrow.Author.Needs.{needs}
 use Prim.Native.Nat.{ℕ}
 use mathlib.Core.Path.{_≡_, sym, ap, _∙_}
@@ -56,25 +56,53 @@ module _ (kind : Kind) (clip : Clip) (block : List ℕ) (b : Buffers) where
       not-yet g o = ap (λ (y : Listed). came y b) o ∙ on g
 
 returns : tie.Need-returns
-returns c = let a = c .before .before .before .before .before .before .before .before .before .before .before .before .before .before .before .before .before .args in c .before .before .before .before .before .before .go-on .ensures ∙ known (a .kind) (a .clip) (a .block .now) (buffers (a .collection .now) (a .first .now) (a .second .now)) (c .before .before .before .before .before .before .before .before .before .before .before .clip .given .1)
+returns c =
+    let at-go-on = c .before .before .before .before .before .before in
+    let at-clip = at-go-on .before .before .before .before .before in
+    let start = at-clip .before .before .before .before .before .before in
+    let a = start .args in
+    at-go-on .go-on .ensures ∙ known (a .kind) (a .clip) (a .block .now) (buffers (a .collection .now) (a .first .now) (a .second .now)) (at-clip .clip .given .1)
 
 returns-2 : tie.Need-returns-2
 returns-2 c =
     let at-go-on2 = c .before .before .before .before .before .before in
     let at-receiver = at-go-on2 .before .before .before .before .before in
     let at-find = at-receiver .before .before in
-    let at-enum-told = at-find .before in
+    let at-named = at-find .before .before in
+    let at-size-of = at-named .before in
+    let at-enum-told = at-size-of .before in
     let start = at-enum-told .before .before .before .before .before .before in
     let a = start .args in
     at-go-on2 .go-on2 .ensures ∙ first-good (a .kind) (a .clip) (a .block .now) (buffers (a .collection .now) (a .first .now) (a .second .now))
-    (at-enum-told .enum-told .given .1) (at-find .find .ensures) (at-receiver .receiver .given .1)
+    (at-enum-told .enum-told .given .1) (at-size-of .size-of .ensures) (at-named .named .ensures) (at-find .before .if1 .taken) (at-find .find .ensures)
+    (ap toldOpened (at-receiver .receiver .given .1))
 
 returns-3 : tie.Need-returns-3
-returns-3 c = let a = c .before .before .before .before .before .before .before .before .before .before .args in not-yet (a .kind) (a .clip) (a .block .now) (buffers (a .collection .now) (a .first .now) (a .second .now)) (c .before .before .before .before .enum-told .given .1) (c .before .before .before .find .ensures) (c .before .why .given .1)
+returns-3 c =
+    let at-why = c .before .before in
+    let at-find = at-why .before .before in
+    let at-named = at-find .before .before in
+    let at-size-of = at-named .before in
+    let at-enum-told = at-size-of .before in
+    let start = at-enum-told .before .before .before .before .before .before in
+    let a = start .args in
+    not-yet (a .kind) (a .clip) (a .block .now) (buffers (a .collection .now) (a .first .now) (a .second .now)) (at-enum-told .enum-told .given .1)
+    (at-size-of .size-of .ensures) (at-named .named .ensures) (at-find .before .if1 .taken) (at-find .find .ensures) (ap toldOpened (at-why .why .given .1)) (c .refused .ensures)
+
+returns-4 : tie.Need-returns-4
+returns-4 c =
+    let at-named = c .before .before in
+    let at-size-of = at-named .before in
+    let at-enum-told = at-size-of .before in
+    let start = at-enum-told .before .before .before .before .before .before in
+    let a = start .args in
+    unfit (a .kind) (a .clip) (a .block .now) (buffers (a .collection .now) (a .first .now) (a .second .now)) (at-enum-told .enum-told .given .1)
+    (at-size-of .size-of .ensures) (at-named .named .ensures) (c .before .if1 .left) (c .refused2 .ensures)
 
 pub list-spec : {M : Type 1} → statement M
 list-spec =
     tie.close
-    (tie.spec (λ c. search needs) (λ c κs. search needs) (λ c. search needs) (λ c κs. search needs) (λ c. search needs)
-    (λ c κs. search needs) (λ c. search needs) (λ c. search needs) (λ c. search needs) (λ c. search needs) returns (λ c. search needs)
-    (λ c. search needs) (λ c. search needs) returns-2 returns-3)
+    (tie.spec (λ c. search needs) (λ c κs. search needs) (λ c. search needs) (λ c κs. search needs) (λ c κs. search needs)
+    (λ c κs. search needs) (λ c. search needs) (λ c κs. search needs) (λ c. search needs) (λ c κs. search needs) (λ c κs. search needs)
+    (λ c. search needs) (λ c. search needs) (λ c. search needs) returns (λ c. search needs) (λ c. search needs) (λ c. search needs)
+    returns-2 returns-3 returns-4)
