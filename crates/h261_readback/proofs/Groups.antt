@@ -39,15 +39,15 @@ back-spares rest =
 
 -- ---- groups
 -- GN, GQUANT, GEI
-abbrev headOf : ℕ → ℕ → List Bit
+abbrev pub headOf : ℕ → ℕ → List Bit
 headOf number q = bitsOf 4 number ++ (bitsOf 5 q ++ bitsOf 1 0)
 
-back-head : (number q : ℕ) (rest : List Bit) → number < 16 → T (isQuantiser q) → Back (groupHead number) (headOf number q) rest q
+pub back-head : (number q : ℕ) (rest : List Bit) → number < 16 → T (isQuantiser q) → Back (groupHead number) (headOf number q) rest q
 unfolding groupHead
 back-head number q rest l h =
     back-next _ (back-expected 4 number OtherGroup _ l) (back-next _ (back-quantiser q _ h) (back-end _ (back-spares rest) refl))
 
-back-group : (f : Format) (last : Bool) (number : ℕ) (g : Group) (rest : List Bit) → number < 16 → T (isQuantiser (g .gquant))
+pub back-group : (f : Format) (last : Bool) (number : ℕ) (g : Group) (rest : List Bit) → number < 16 → T (isQuantiser (g .gquant))
     → Rising f number 0 (g .macroblocks) → Ended last rest
     → Back (group f last number) (headOf number (g .gquant) ++ (macroblocksOf atStart (g .macroblocks) ++ ending last)) rest g
 unfolding group

@@ -43,7 +43,7 @@ back-mquant true q rest h = back-quantiser q rest h
 back-mquant false q rest h = rw h (back-done 0 rest)
 
 -- what is written after MBA
-abbrev bodyOf : Before → Macroblock → List Bit
+abbrev pub bodyOf : Before → Macroblock → List Bit
 bodyOf before m =
     wordOf table2 (m .type)
     ++ (given (hasMQUANT (m .type)) (bitsOf 5 (m .quant))
@@ -63,7 +63,7 @@ module _ (f : Format) (number : ℕ) (before : Before) (m : Macroblock) (l : bef
       → _≡_ {A = Macroblock} (record { address = a; type = m .type; quant = m .quant; vector = m .vector; blocks = m .blocks }) m
   same a e = ap (λ (a : ℕ). record { address = a; type = m .type; quant = m .quant; vector = m .vector; blocks = m .blocks }) e
 
-  back-body : (rest : List Bit) → Back (macroblock f number before stepTo) (bodyOf before m) rest m
+  pub back-body : (rest : List Bit) → Back (macroblock f number before stepTo) (bodyOf before m) rest m
   unfolding macroblock
   back-body rest =
       let points : Pointed f number (before .address + stepTo) (isMC (m .type)) (m .vector) = rw steps (p .pointed) in
@@ -76,7 +76,7 @@ module _ (f : Format) (number : ℕ) (before : Before) (m : Macroblock) (l : bef
       (back-end _ (back-blocks (m .type) (m .blocks) rest (p .blocked)) (ap done (same _ steps))))))
 
 -- ---- what stands at an MBA place
-not-ended : {A : Type 0} (a : A) (r : Reader A) (bs : List Bit) (at : ℕ) → 1 ≤ length bs → orEnd a r bs at ≡ r bs at
+pub not-ended : {A : Type 0} (a : A) (r : Reader A) (bs : List Bit) (at : ℕ) → 1 ≤ length bs → orEnd a r bs at ≡ r bs at
 not-ended a r [] at l = absurd (omega arith)
 not-ended a r (b ∷ bs) at l = refl
 
@@ -84,7 +84,7 @@ module _ (address s : ℕ) (rest : List Bit) (some : 0 < s) (in-group : address 
   is-step : (last : Bool) → mbaOf last address s ≡ fine (step s)
   is-step last = rw (ne-eqb s 34 (λ e. omega arith), ne-eqb s 35 (λ e. omega arith), le-ltb 33 (address + s) in-group)
 
-  back-step : (last : Bool) → Back (judged (word table1) (mbaOf last address)) (wordOf table1 s) rest (step s)
+  pub back-step : (last : Bool) → Back (judged (word table1) (mbaOf last address)) (wordOf table1 s) rest (step s)
   back-step last = back-judged (mbaOf last address) (step s) (back-mba s rest some (omega arith)) (is-step last)
 
   back-place : (last : Bool) → Back (mba last address) (wordOf table1 s) rest (step s)

@@ -41,7 +41,7 @@ repeated-length (suc n) l =
 repeated-long : (n width : ℕ) (l : List ℕ) → length l ≡ width → length (repeated n l) ≡ n * width
 repeated-long n width l e = repeated-length n l ∙ ap (λ (k : ℕ). n * k) e
 
-repeated-add : (m n : ℕ) (l : List ℕ) → repeated (m + n) l ≡ repeated m l ++ repeated n l
+pub repeated-add : (m n : ℕ) (l : List ℕ) → repeated (m + n) l ≡ repeated m l ++ repeated n l
 unfolding repeated
 repeated-add zero n l = ap (λ (k : ℕ). repeated k l) (zero-add n)
 repeated-add (suc m) n l =

@@ -1,3 +1,4 @@
 pub mod WrongPrograms
+pub mod MadeUp
 pub mod Sampled
 pub mod WrongReceivers

@@ -1,27 +1,18 @@
 -- The wrong readers and writers that document 01 names don't meet demand 2. Assumes nothing.
-use Prim.Native.Nat.{ℕ, _+_, _-_, _*_, _≤_, _<_}
-use mathlib.Core.Path.{_≡_, refl, sym, ap, subst, _∙_}
-use mathlib.Core.Bool.{Bool, true, false}
-use mathlib.Core.Logic.{_⊎_, inl, inr}
-use mathlib.Core.List.{List, [], _++_}
+use Prim.Native.Nat.{ℕ, _≤_}
+use mathlib.Core.Path.{_≡_, refl, sym, ap, _∙_}
+use mathlib.Core.List.{List, []}
 use native.Mathlib.Omega.{arith}
-use borrow.Author.Tests.{ne-eqb}
-use lib.Dec.{T, eqb, ltb, lit<}
-use lib.Seq.{take-append-le, take-append-add}
-use lib.ListN.{length, take, drop, replicate, getD, length-replicate, getD-replicate, take-append-drop}
-use Rattle.laws.specs.Choice.{pick, either}
-use Rattle.laws.specs.Table.{allB}
-use Rattle.laws.proofs.Choice.{either-right}
-use Rattle.laws.proofs.Rows.{lt-or-ge}
-use Rattle.laws.proofs.Table.{all-at}
-use Rattle.refusals.specs.declared.Reason.the-variants.{Count, BitsEnd}
+use lib.Dec.{T, lit<}
+use lib.ListN.{length, replicate, getD, length-replicate, getD-replicate}
+use Rattle.refusals.specs.declared.Reason.the-variants.{BitsEnd}
 use Rattle.refusals.specs.Told.{accepted}
 use Rattle.refusals.proofs.Told.{told-apart}
-use Rattle.bits.specs.Bits.{Bit, O, bitsIn}
+use Rattle.bits.specs.Bits.{Bit, bitsIn}
 use Rattle.bits.specs.Code.{longer, lookup, word}
 use Rattle.bits.specs.Write.{bytesOf, byteFrom}
 use Rattle.h261_words.specs.Tables.{table1}
-use Rattle.bits.specs.Read.{Read, got, endless, refused as unread, bad, fieldFrom}
+use Rattle.bits.specs.Read.{got, bad, fieldFrom}
 use Rattle.h261_groups.specs.declared.Format.the-variants.{Qcif}
 use Rattle.h261_groups.specs.Format.{sizeOf}
 use Rattle.size.specs.Size.{limit, storeLength, outputLength}
@@ -29,19 +20,16 @@ use Rattle.coding.specs.declared.Kind.the-variants.{H261Qcif}
 use Rattle.h261_description.specs.Value.{Picture, laid}
 use Rattle.layout.specs.Flat.{Flat, putGroups, putMacroblocks}
 use Rattle.h261_description.specs.Valid.{valid}
-use Rattle.fields.specs.Answer.{mapRead}
 use Rattle.fields.specs.Rules.{sparesFrom, spares}
 use Rattle.h261_layers.specs.Grammar.{mba, macroblocksFrom, groupHead, group, groupsRead, header, picture, reading}
 use Rattle.h261_reader.proofs.Verdicts.{accepted-valid, accepted-described}
-use Rattle.h261_reader.specs.Described.{described}
 use Rattle.h261_writer.specs.Write.{macroblocksOf, groupOf, groupsOf, pictureOf}
-use Rattle.h261_writer.specs.Output.{written, writeOf, filled, leaves, outputOf}
+use Rattle.h261_writer.specs.Output.{written, writeOf}
 use Rattle.demand2.proofs.WrittenBack.{writes, written-back}
 use Rattle.sheet.specs.Sheet.{picture1, bytes1, P1}
 use Rattle.sheet.proofs.Sheet.{shown}
-use Rattle.instances.specs.Uniform.{repeated}
 use Rattle.instances.proofs.Sending.{blank-long}
-use Rattle.wrong.specs.WrongPrograms.{first, blankOutput, RefusingWrong, FixedWrong, FixedSamplesWrong, FirstForAllWrong, RefusingAllWrong, MadeUpWrong}
+use Rattle.wrong.specs.WrongPrograms.{first, blankOutput, RefusingWrong, FixedWrong, FixedSamplesWrong, FirstForAllWrong, RefusingAllWrong}
 use Rattle.demand2.specs.Demand2.{Follows}
 
 -- the P1 picture follows the rules
@@ -116,14 +104,14 @@ first-written : (out : List ℕ) → length out ≡ outputLength (sizeOf Qcif) �
 first-written out e = writes Qcif first out first-valid first-below e ∙ ap accepted first-long
 
 -- an output of its length
-output-long : length blankOutput ≡ outputLength (sizeOf Qcif)
+output-long : length (blankOutput Qcif) ≡ outputLength (sizeOf Qcif)
 output-long = blank-long (outputLength (sizeOf Qcif))
 
 pub first-for-all-wrong : FirstForAllWrong
 unfolding laid putGroups putMacroblocks
 first-for-all-wrong h =
-    let as-second = h .back Qcif (laid Qcif picture2) blankOutput 110 second-valid output-long (first-written blankOutput output-long) in
-    let as-first = written-back Qcif first blankOutput 110 (first-written blankOutput output-long) .read in
+    let as-second = h .back Qcif (laid Qcif picture2) (blankOutput Qcif) 110 second-valid output-long (first-written (blankOutput Qcif) output-long) in
+    let as-first = written-back Qcif first (blankOutput Qcif) 110 (first-written (blankOutput Qcif) output-long) .read in
     let same : laid Qcif picture1 ≡ laid Qcif picture2 = got-same (laid Qcif picture1) (laid Qcif picture2) (sym as-first ∙ as-second) in
     let z : _≡_ {A = ℕ} 1 2 = ap (λ (x : Flat). getD (x .head) 0 0) same in
     omega arith
@@ -132,71 +120,4 @@ first-for-all-wrong h =
     got-same a b e = cc
 
 pub refusing-all-wrong : RefusingAllWrong
-refusing-all-wrong number place h = h .else Qcif first blankOutput (number Qcif first) (place Qcif first) first-valid first-below output-long refl
-
--- ---- a made-up N
--- P1's bits, and 16 that are 0: two that fill the last byte, and those of an output that was all 0
-abbrev padded : List Bit
-padded = pictureOf Qcif picture1 ++ replicate 16 O
-
-abbrev isRefused : Read Picture → Bool
-isRefused (got p left at) = false
-isRefused (unread why) = true
-isRefused endless = true
-
--- any other number of them than 110 is refused
-others-refused : T (allB 127 (λ m. either (eqb m 110) (isRefused (picture Qcif (take m padded) 0))))
-unfolding pictureOf groupsOf groupOf macroblocksOf fieldFrom longer lookup word table1 sparesFrom spares mba macroblocksFrom groupHead group groupsRead header picture
-others-refused = tt
-
--- and so are all of them, whatever comes after
-more-refused : (rest : List Bit) → T (isRefused (picture Qcif (padded ++ rest) 0))
-unfolding pictureOf groupsOf groupOf macroblocksOf fieldFrom longer lookup word table1 sparesFrom spares mba macroblocksFrom groupHead group groupsRead header picture
-more-refused rest = tt
-
-padded-long : length padded ≡ 126
-unfolding pictureOf groupsOf groupOf macroblocksOf
-padded-long = refl
-
-padded-refused : (rest : List Bit) (n : ℕ) → (n ≡ 110 → ⊥) → T (isRefused (picture Qcif (take n (padded ++ rest)) 0))
-padded-refused rest n other = go (lt-or-ge n 127)
-  where
-    go : (n < 127) ⊎ (127 ≤ n) → T (isRefused (picture Qcif (take n (padded ++ rest)) 0))
-    go (inl l) =
-        subst (λ (bs : List Bit). T (isRefused (picture Qcif bs 0))) (sym (take-append-le n padded rest (omega (arith, padded-long))))
-        (either-right (eqb n 110) (isRefused (picture Qcif (take n padded) 0)) (ne-eqb n 110 other) (all-at 127 (λ m. either (eqb m 110) (isRefused (picture Qcif (take m padded) 0))) others-refused n l))
-    go (inr l) =
-        let e : length padded + (n - 126) ≡ n = omega (arith, padded-long) in
-        subst (λ (bs : List Bit). T (isRefused (picture Qcif bs 0))) (sym (ap (λ (k : ℕ). take k (padded ++ rest)) (sym e) ∙ take-append-add padded rest (n - 126))) (more-refused (take (n - 126) rest))
-
--- what the writer leaves begins with them
-left-padded : take 126 (bitsIn (filled blankOutput (pictureOf Qcif picture1))) ≡ padded
-unfolding pictureOf groupsOf groupOf macroblocksOf bytesOf byteFrom bitsIn repeated
-left-padded = refl
-
-left-bits : bitsIn (outputOf Qcif first blankOutput) ≡ padded ++ drop 126 (bitsIn (filled blankOutput (pictureOf Qcif picture1)))
-unfolding leaves
-left-bits =
-    (λ i. bitsIn (leaves blankOutput (first-bits i) (first-written blankOutput output-long i)))
-    ∙ sym (take-append-drop 126 (bitsIn (filled blankOutput (pictureOf Qcif picture1))))
-    ∙ ap (λ (bs : List Bit). bs ++ drop 126 (bitsIn (filled blankOutput (pictureOf Qcif picture1)))) left-padded
-
-made-up-refused : (n : ℕ) → (n ≡ 110 → ⊥) → T (isRefused (reading Qcif (outputOf Qcif first blankOutput) n))
-unfolding reading
-made-up-refused n other = go (either (ltb (8 * length (outputOf Qcif first blankOutput)) n) (ltb (limit (sizeOf Qcif)) n))
-  where
-    go : (t : Bool) → T (isRefused (pick t (bad Count 0) (picture Qcif (take n (bitsIn (outputOf Qcif first blankOutput))) 0)))
-    go true = tt
-    go false = subst (λ (bs : List Bit). T (isRefused (picture Qcif (take n bs) 0))) (sym left-bits) (padded-refused (drop 126 (bitsIn (filled blankOutput (pictureOf Qcif picture1)))) n other)
-
-pub made-up-wrong : MadeUpWrong
-unfolding described
-made-up-wrong w n leaves-it answers other back =
-    let again : described Qcif (outputOf Qcif first blankOutput) n ≡ got first [] n =
-    ap (λ (s : List ℕ). described Qcif s n) (sym leaves-it) ∙ back .back Qcif first blankOutput n first-valid output-long answers in
-    refused-laid (reading Qcif (outputOf Qcif first blankOutput) n) (made-up-refused n other) again
-  where
-    refused-laid : (x : Read Picture) → T (isRefused x) → mapRead (laid Qcif) x ≡ got first [] n → ⊥
-    refused-laid (got p left at) t e = t
-    refused-laid (unread why) t e = let z : _≡_ {A = ℕ} 0 1 = cc in omega arith
-    refused-laid endless t e = let z : _≡_ {A = ℕ} 0 1 = cc in omega arith
+refusing-all-wrong number place h = h .else Qcif first (blankOutput Qcif) (number Qcif first) (place Qcif first) first-valid first-below output-long refl

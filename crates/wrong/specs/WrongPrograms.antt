@@ -1,16 +1,19 @@
 -- The wrong readers and writers that document 01 names, "What the promises decide", don't meet demand 2. Assumes nothing.
-use Prim.Native.Nat.{ℕ}
+use Prim.Native.Nat.{ℕ, _≤_}
 use mathlib.Core.Path.{_≡_}
 use mathlib.Core.List.{List}
+use lib.Dec.{T}
+use lib.ListN.{length}
 use Rattle.refusals.specs.Told.{accepted, refused}
 use Rattle.h261_groups.specs.declared.Format.{Format}
 use Rattle.h261_groups.specs.declared.Format.the-variants.{Qcif}
 use Rattle.h261_groups.specs.Format.{sizeOf}
-use Rattle.size.specs.Size.{outputLength}
+use Rattle.size.specs.Size.{limit, outputLength}
 use Rattle.layout.specs.Flat.{Flat}
 use Rattle.h261_description.specs.Value.{laid}
+use Rattle.h261_description.specs.Valid.{valid}
 use Rattle.coding.specs.declared.Kind.{Kind}
-use Rattle.h261_writer.specs.Output.{outputOf}
+use Rattle.h261_writer.specs.Output.{written, outputOf}
 use Rattle.sheet.specs.Sheet.{picture1}
 use Rattle.instances.specs.Example.{blank}
 use Rattle.demand2.specs.Demand2.{RefusedExactly, EverySample, AcceptedExactly, Writer, Follows, write, Decoder, ReadsBack}
@@ -52,9 +55,11 @@ refusingAll number place f d out = record { answer = refused (number f d) (place
 abbrev pub RefusingAllWrong : Type 0
 RefusingAllWrong = (number place : Format → Flat → ℕ) → RefusedExactly (refusingAll number place) → ⊥
 
--- ---- wrong: "a made-up N", whichever, shorter or longer: one that leaves the P1 picture's bytes, in an output that was all 0, and answers another number of bits
-abbrev pub blankOutput : List ℕ
-blankOutput = blank (outputLength (sizeOf Qcif))
+-- ---- wrong: "a made-up N", whichever, shorter or longer: one that, for one valid description within the limit, leaves the right bytes in an output that was all 0 and answers another
+-- number of bits
+abbrev pub blankOutput : Format → List ℕ
+blankOutput f = blank (outputLength (sizeOf f))
 
 abbrev pub MadeUpWrong : Type 0
-MadeUpWrong = (w : Writer) (n : ℕ) → w Qcif first blankOutput .output ≡ outputOf Qcif first blankOutput → w Qcif first blankOutput .answer ≡ accepted n → (n ≡ 110 → ⊥) → ReadsBack w → ⊥
+MadeUpWrong = (w : Writer) (f : Format) (d : Flat) (n : ℕ) → T (valid f d) → length (written f d) ≤ limit (sizeOf f)
+    → w f d (blankOutput f) .output ≡ outputOf f d (blankOutput f) → w f d (blankOutput f) .answer ≡ accepted n → (n ≡ length (written f d) → ⊥) → ReadsBack w → ⊥
