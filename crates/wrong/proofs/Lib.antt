@@ -1,3 +1,4 @@
 pub mod WrongPrograms
 pub mod Sampled
 pub mod WrongReceivers
+pub mod DrawingFirst
