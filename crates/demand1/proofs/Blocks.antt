@@ -101,12 +101,12 @@ module _ (r : Receiver) (block : List ℕ) (b : Buffers) where
   Fails e = (n place : ℕ) → eventVerdict e ≡ refused n place
       → (advance r e ≡ failing r header) × (collected block (b .collection) e ≡ after) × (storedBy codingOf r (b .both) e ≡ b .both)
 
-  ended-due : (rules : List Verdict) (found : Told Flat) → verdictOn found ≡ firstOf rules → eventVerdict (ended codingOf r header found) ≡ firstOf (rules ++ (markRule r block found ∷ []))
+  ended-due : (rules : List Verdict) (found : Told Flat) → verdictOn found ≡ firstOf rules → eventVerdict (ended codingOf r header found) ≡ firstOf (rules ++ (markRule r header found ∷ []))
   unfolding ended
   ended-due rules (refused n place) h = sym (first-append rules (accepted tt ∷ []) ∙ ap (λ (v : Verdict). orElse v (accepted tt)) (sym h))
   ended-due rules (accepted d) h =
       go (alike (codingOf (r .kind) .refresh d) (markOf (r .progress) header))
-      ∙ sym (first-append rules (markRule r block (accepted d) ∷ []) ∙ ap (λ (v : Verdict). orElse v (firstOf (markRule r block (accepted d) ∷ []))) (sym h))
+      ∙ sym (first-append rules (markRule r header (accepted d) ∷ []) ∙ ap (λ (v : Verdict). orElse v (firstOf (markRule r header (accepted d) ∷ []))) (sym h))
     where
       go : (true-mark : Bool) → eventVerdict (pick true-mark (finished header d) (failed header 24 0)) ≡ firstOf (when 24 (opposite true-mark) ∷ [])
       go true = refl
@@ -122,7 +122,7 @@ module _ (r : Receiver) (block : List ℕ) (b : Buffers) where
       go false = λ m at h. (refl, refl, refl)
 
   abbrev lastOnes : List Verdict
-  lastOnes = pictureRules (formatOf (r .kind)) after (countOf header) ++ (markRule r block (codingOf (r .kind) .read after (countOf header)) ∷ [])
+  lastOnes = pictureRules (formatOf (r .kind)) after (countOf header) ++ (markRule r header (codingOf (r .kind) .read after (countOf header)) ∷ [])
 
   took-due : (standing : Standing) → eventVerdict (tookOf codingOf r header standing after) ≡ firstOf (pick (lastOf block) lastOnes [])
   unfolding tookOf

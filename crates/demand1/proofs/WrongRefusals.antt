@@ -1,4 +1,4 @@
--- A reader whose refusal has another number of the table, and a receiver that draws before it judges, don't meet demand 1. Assumes nothing.
+-- A reader whose refusal has another number of the table, and a receiver whose refusal changes a store, don't meet demand 1. Assumes nothing.
 use Prim.Native.Nat.{ℕ}
 use mathlib.Core.Path.{_≡_, refl, sym, ap, _∙_}
 use mathlib.Core.List.{[]}
@@ -16,7 +16,7 @@ use Rattle.h261_layers.specs.Grammar.{header, picture}
 use Rattle.demand1.specs.Order.{firstOf}
 use Rattle.demand1.specs.Rules.{readRules}
 use Rattle.demand1.specs.Demand1.{Programs, Keeps, Demand1}
-use Rattle.demand1.specs.WrongRefusals.{MisnumberedWrong, renamed, namingOne, NamingOneWrong, DrawingFirstWrong}
+use Rattle.demand1.specs.WrongRefusals.{MisnumberedWrong, renamed, namingOne, NamingOneWrong, ChangedStoreWrong}
 use Rattle.demand1.proofs.Pictures.{reader-due}
 use Rattle.demand1.specs.Order as O
 
@@ -52,5 +52,5 @@ module _ (p : Programs) (keeps : Keeps p) (reason : Reason) (d : Demand1 (naming
 pub naming-one-wrong : NamingOneWrong
 naming-one-wrong p keeps reason d = let z : _≡_ {A = ℕ} 3 2 = sym (named p keeps reason d 0 3 no-bits) ∙ named p keeps reason d 1 2 too-many in omega arith
 
-pub drawing-first-wrong : DrawingFirstWrong
-drawing-first-wrong p r block b n place says drawn d = drawn (d .receives r block b .stores n place says)
+pub changed-store-wrong : ChangedStoreWrong
+changed-store-wrong p r block b n place says drawn d = drawn (d .receives r block b .stores n place says)

@@ -19,6 +19,7 @@ use Rattle.h261_layers.specs.Grammar.{picture}
 use Rattle.h261_writer.specs.Output.{written, lengths}
 use Rattle.coding.specs.declared.Kind.{Kind}
 use Rattle.coding.specs.Kind.{formatOf, kindSize, codingOf}
+use Rattle.vault.specs.declared.Header.{Header}
 use Rattle.vault.specs.Block.{clipOf, partOf, lastOf, checkSumOf, headerOf, follows, sumOf, pictures}
 use Rattle.vault.specs.Parts.{placed}
 use Rattle.standing.specs.declared.Line.{Line}
@@ -81,9 +82,9 @@ takes Anew = true
 takes Otherwise = false
 
 -- 24: "accepted picture, untrue refresh mark"
-abbrev pub markRule : Receiver → List ℕ → Told Flat → Verdict
-markRule r block (accepted d) = when 24 (opposite (alike (codingOf (r .kind) .refresh d) (markOf (r .progress) (headerOf block))))
-markRule r block (refused n place) = accepted tt
+abbrev pub markRule : Receiver → Header → Told Flat → Verdict
+markRule r header (accepted d) = when 24 (opposite (alike (codingOf (r .kind) .refresh d) (markOf (r .progress) header)))
+markRule r header (refused n place) = accepted tt
 
 -- a taken part that is the last: the picture's own refusals, and then 24
 abbrev pub lastRules : Receiver → List ℕ → Buffers → List Verdict
@@ -91,7 +92,7 @@ lastRules r block b =
     let collection : List ℕ = placed block (partOf block) (b .collection) in
     let n : ℕ = countOf (headerOf block) in
     pick (both (takes (lineOf (r .progress) (headerOf block))) (lastOf block))
-    (pictureRules (formatOf (r .kind)) collection n ++ (markRule r block (codingOf (r .kind) .read collection n) ∷ []))
+    (pictureRules (formatOf (r .kind)) collection n ++ (markRule r (headerOf block) (codingOf (r .kind) .read collection n) ∷ []))
     []
 
 -- ---- the table: what a picture's bits are refused by has a number from 2 to 13, and a place up to N, which is 0 for 2

@@ -1,4 +1,4 @@
--- Programs that demand 1 rules out: a reader whose refusal has another number of the table, and a receiver that draws before it judges. Assumes nothing.
+-- Programs that demand 1 rules out: a reader whose refusal has another number of the table, and a receiver whose refusal changes a store. Assumes nothing.
 use Prim.Native.Nat.{ℕ}
 use mathlib.Core.Path.{_≡_}
 use mathlib.Core.List.{List}
@@ -43,7 +43,7 @@ namingOne reason p = record {
 abbrev pub NamingOneWrong : Type 0
 NamingOneWrong = (p : Programs) → Keeps p → (reason : Reason) → Demand1 (namingOne reason p) → ⊥
 
--- ---- wrong: a receiver that draws before it judges: after a call that is refused, a store is another
-abbrev pub DrawingFirstWrong : Type 0
-DrawingFirstWrong = (p : Programs) (r : Receiver) (block : List ℕ) (b : Buffers) (n place : ℕ) → verdictSaid (said (p .receive r block b .answer .answer)) ≡ refused n place
+-- ---- wrong: a receiver that has changed a store after a call that is refused, as one does that draws before it judges
+abbrev pub ChangedStoreWrong : Type 0
+ChangedStoreWrong = (p : Programs) (r : Receiver) (block : List ℕ) (b : Buffers) (n place : ℕ) → verdictSaid (said (p .receive r block b .answer .answer)) ≡ refused n place
     → (p .receive r block b .left .both ≡ b .both → ⊥) → Demand1 p → ⊥

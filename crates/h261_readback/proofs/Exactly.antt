@@ -168,7 +168,6 @@ module _ (f : Format) (number : ℕ) (before : Before) (m : Macroblock) (ms : Li
             inner .none at b left q (ap (λ (x : Read Mba). next x on) (sym (not-ended ended mbaRead (all ++ rest) at (omega (arith, some, length-append all rest)))) ∙ e);
       }
 
-
 -- the macroblocks of the last group
 cut-macroblocks : (ms : List Macroblock) (turns : ℕ) (f : Format) (number : ℕ) (before : Before) → Rising f number (before .address) ms → Ranged (before .vector)
     → Cut (macroblocksFrom turns f true number before) (macroblocksOf before ms) ms

@@ -2,3 +2,4 @@ pub mod WrongPrograms
 pub mod MadeUp
 pub mod Sampled
 pub mod WrongReceivers
+pub mod DrawingFirst

@@ -83,7 +83,7 @@ second-read : reading Qcif bytes2 110 ≡ got picture2 [] 110
 unfolding pictureOf groupsOf groupOf macroblocksOf bytesOf byteFrom bitsIn fieldFrom longer lookup word table1 sparesFrom spares mba macroblocksFrom groupHead group groupsRead header picture reading
 second-read = refl
 
-first-valid : T (valid Qcif first)
+pub first-valid : T (valid Qcif first)
 first-valid = accepted-valid Qcif bytes1 110 picture1 [] 110 (shown P1 .2)
 
 second-valid : T (valid Qcif (laid Qcif picture2))
@@ -94,10 +94,10 @@ first-bits : written Qcif first ≡ pictureOf Qcif picture1
 unfolding written
 first-bits = ap (pictureOf Qcif) (accepted-described Qcif bytes1 110 picture1 [] 110 (shown P1 .2))
 
-first-long : length (written Qcif first) ≡ 110
+pub first-long : length (written Qcif first) ≡ 110
 first-long = ap length first-bits ∙ shown P1 .0
 
-first-below : length (written Qcif first) ≤ limit (sizeOf Qcif)
+pub first-below : length (written Qcif first) ≤ limit (sizeOf Qcif)
 first-below = let e : length (written Qcif first) ≡ 110 = first-long in omega arith
 
 first-written : (out : List ℕ) → length out ≡ outputLength (sizeOf Qcif) → writeOf Qcif first (length out) ≡ accepted 110

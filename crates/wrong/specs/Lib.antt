@@ -1,2 +1,3 @@
 pub mod WrongPrograms
 pub mod WrongReceivers
+pub mod DrawingFirst
