@@ -22,7 +22,7 @@ use Rattle.demand3.specs.Arrives.{InStepAt}
 use Rattle.demand3.specs.Demand3.{CatchesUp}
 use Rattle.demand3.proofs.InStep.{sound-clip}
 use Rattle.demand3.proofs.WholeClip.{own-arrive, whole-clip}
-use Rattle.demand3.proofs.Calls.{every-all, each-of, given-append, always, Ends, ends}
+use Rattle.demand3.proofs.Calls.{each-of, given-append, always, Ends, ends}
 use Rattle.instances.specs.Uniform.{grey}
 use Rattle.instances.specs.Example.{newcomer, example}
 use Rattle.instances.specs.Instances.{Example, Delivered, astray}
@@ -81,7 +81,7 @@ module _ {receive : Receive} {show : Show} (catches : CatchesUp codingOf receive
   staying P begins on never =
       let e : Ends receive show sent 4 opened (blocksIn codingOf clip) = ends receive all-come in
       let stays : P (given receive opened (blocksIn codingOf clip) .receiver) =
-      always receive (λ (v : World). P (v .receiver)) (λ _. Unit {0}) (λ v block _ p. on (v .receiver) block (v .lent) p) opened begins (blocksIn codingOf clip) (every-all (λ _. Unit {0}) (λ _. tt) (blocksIn codingOf clip)) in
+      always receive (λ (v : World). P (v .receiver)) (λ v block p. on (v .receiver) block (v .lent) p) opened begins (blocksIn codingOf clip) in
       never (e .last .gave .next) (subst (λ (v : World). P (v .receiver)) (e .is) stays) (e .stands)
 
 pub idle-wrong : IdleWrong
@@ -103,7 +103,7 @@ module _ {receive : Receive} {show : Show} (ours : (r : Receiver) (block : List 
     (for-ever : (r : Receiver) (block : List ℕ) (b : Buffers) → wasLost r ≡ true → wasLost (receive r block b .gave .next) ≡ true) (catches : CatchesUp codingOf receive show) where
   goes-on : (w : World) (blocks : List (List ℕ)) → wasLost (w .receiver) ≡ true → wasLost (given receive w blocks .receiver) ≡ true
   goes-on w blocks e =
-      always receive (λ (v : World). wasLost (v .receiver) ≡ true) (λ _. Unit {0}) (λ v block _ p. for-ever (v .receiver) block (v .lent) p) w e blocks (every-all (λ _. Unit {0}) (λ _. tt) blocks)
+      always receive (λ (v : World). wasLost (v .receiver) ≡ true) (λ v block p. for-ever (v .receiver) block (v .lent) p) w e blocks
 
   as-ours : (w : World) (block : List ℕ) → wasLost (w .receiver) ≡ false → afterBlock receive w block ≡ afterBlock (step codingOf) w block
   as-ours w block e = ap (λ (o : Outcome). record { receiver = o .gave .next; lent = o .left }) (ours (w .receiver) block (w .lent) e)
