@@ -4,6 +4,8 @@ use mathlib.Core.List.{List}
 use denote.Ref.{RefT, now}
 use Rattle.bits.specs.Bits.{Bit, bitsLeft}
 use Rattle.bits.specs.Answer.{Within}
+use Rattle.bits.specs.declared.FieldRead.{FieldRead}
+use Rattle.bits.specs.declared.FieldRead.the-variants.{Got, Refused}
 use Rattle.bit_reader.specs.declared.BitReader.{BitReader}
 
 -- "A bit reader carries the lent bytes together with its place."
@@ -17,3 +19,12 @@ left r = bitsLeft (now (r .bytes)) (r .count) (r .place)
 -- its place is within the bits, and these within the bytes
 abbrev pub Inside : BitReader → Type 0
 Inside r = Within (now (r .bytes)) (r .count) (r .place)
+
+-- the place after a field; where it was refused, the end of the bits
+abbrev pub placeAfter : ℕ → FieldRead → ℕ
+placeAfter count (Got v p) = p
+placeAfter count (Refused r) = count
+
+-- the reader after a field that it read
+abbrev pub past : BitReader → FieldRead → BitReader
+past r read = over (r .bytes) (r .count) (placeAfter (r .count) read)
