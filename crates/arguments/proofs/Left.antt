@@ -1,5 +1,5 @@
 -- What a word names, by what is left of it after some of its characters. Assumes nothing.
-use Prim.Native.Nat.{ℕ, zero, suc, _+_, _≤_, _<_}
+use Prim.Native.Nat.{ℕ, _+_, _≤_, _<_}
 use native.Mathlib.Omega.{arith}
 use borrow.Author.Tests.{le-leb, lt-leb, leb-true}
 use mathlib.Core.Path.{_≡_, refl, sym, ap, _∙_}
@@ -13,7 +13,6 @@ use Rattle.laws.specs.Lists.{alike}
 use Rattle.h261_groups.specs.declared.Format.the-variants.{Qcif, Cif}
 use Rattle.arguments.specs.declared.FormatWord.{FormatWord}
 use Rattle.arguments.specs.declared.FormatWord.the-variants as F
-use Rattle.arguments.specs.declared.ClipWord.{ClipWord}
 use Rattle.arguments.specs.declared.ClipWord.the-variants as C
 use Rattle.arguments.specs.Words.{qcifWord, cifWord, formatNamed, digit, longer, clipAfter, clipNamed}
 

@@ -51,6 +51,10 @@ module _ {M : Type 1} (𝓤 : URA M) (H : Heap 𝓤) (A : Atoms 𝓤) (W : Given
   pub typed-in-body : (κ : Lft) (r : BitReader) (u : Val) → Is (B (κ, tt)) r (u ∷ []) → Holds (hasTy (T′.mir erased) u) × WT u
   typed-in-body κ r u is = LL.lawful (T.the-type (in-body κ)) (T′.the-laws (in-body κ)) 𝓤 H A W .typed r (u ∷ []) is .0
 
+  -- what a call returned is had twice
+  pub twice-at : (κ : Lft) (r : BitReader) (u : Val) → ent 𝓤 (sem 𝓤 H A (OwnAt κ r u)) (sep 𝓤 (sem 𝓤 H A (OwnAt κ r u)) (sem 𝓤 H A (OwnAt κ r u)))
+  twice-at κ r u = LL.copy (D (κ, tt)) (T′.the-copy (lone κ)) 𝓤 H A W .twice r (u ∷ [])
+
 -- ---- at any lifetime
 module _ (ℓ : NamedLft) (d : BitReader) where
   -- the fields' values of d

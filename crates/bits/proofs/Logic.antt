@@ -14,7 +14,7 @@ use Rattle.refusals.specs.declared.Reason.the-variants.{BitsEnd, NoCodeword}
 use Rattle.refusals.specs.declared.Refusal.{Refusal}
 use Rattle.refusals.specs.Number.{number}
 use Rattle.bits.specs.Bits.{Bit, num}
-use Rattle.bits.specs.Read.{Read, got, refused, endless, Reader, next, _>>=_, done, fieldFrom, field, Judged, fine, against, settle, judged, moved, whole, orEnd, loop}
+use Rattle.bits.specs.Read.{Read, got, refused, endless, Reader, next, _>>=_, done, fieldFrom, field, Judged, fine, against, settle, judgedRead, movedRead, whole, orEnd, loop}
 use Rattle.bits.specs.Code.{Entry, entry, starts, longer, lookup, word}
 use Rattle.bits.proofs.Codes.{each, word-got}
 use Rattle.bits.proofs.Numbers.{num-small}
@@ -153,7 +153,7 @@ settled start Fine (against reason) left place l h = record { listed = h; within
 
 -- "The place is the first bit of the field or codeword"
 pub reads-judged : {A B : Type 0} {bound least : ℕ} {Good : A → List Bit → Type 0} {Fine : B → List Bit → Type 0} {r : Reader A} {rule : A → Judged B}
-    → Reads bound least Good r → ((a : A) (left : List Bit) → Good a left → Judges (λ b. Fine b left) (rule a)) → Reads bound least Fine (judged r rule)
+    → Reads bound least Good r → ((a : A) (left : List Bit) → Good a left → Judges (λ b. Fine b left) (rule a)) → Reads bound least Fine (judgedRead r rule)
 reads-judged {bound = bound} {least} {Good} {Fine} {r} {rule} h f =
     record {
       gives = λ bs at b. after least 0 Good Fine bs at (r bs at) (λ a. settle at (rule a)) (h .gives bs at b)
@@ -167,7 +167,7 @@ reads-judged {bound = bound} {least} {Good} {Fine} {r} {rule} h f =
 pub reads-whole : {A : Type 0} {bound least : ℕ} {Good : A → List Bit → Type 0} {r : Reader A} → Reads bound least Good r → Reads bound least Good (whole r)
 reads-whole {A} {least = least} {Good} {r} h = record { gives = λ bs at b. back bs at (r bs at) (h .gives bs at b) }
   where
-    back : (bs : List Bit) (at : ℕ) (x : Read A) → Gives least Good bs at x → Gives least Good bs at (moved at x)
+    back : (bs : List Bit) (at : ℕ) (x : Read A) → Gives least Good bs at x → Gives least Good bs at (movedRead at x)
     back bs at (got a left p) g = g
     back bs at (refused r) g = record { listed = g .listed; within = omega arith }
     back bs at endless g = g

@@ -8,7 +8,7 @@ use native.Mathlib.Omega.{arith}
 use lib.Dec.{T}
 use lib.ListN.{length, length-append}
 use Rattle.bits.specs.Bits.{Bit, bitsOf}
-use Rattle.bits.specs.Read.{got, Reader, _>>=_, done, field, Judged, fine, judged, loop}
+use Rattle.bits.specs.Read.{got, Reader, _>>=_, done, field, Judged, fine, judgedRead, loop}
 use Rattle.bits.specs.Code.{Entry, wordOf, has}
 use Rattle.bits.proofs.Fields.{length-bitsOf, field-back}
 use Rattle.bits.proofs.Codes.{free, each, word-got, word-back}
@@ -22,7 +22,7 @@ module _ {A : Type 0} where
   back-done a rest = record { reads = λ at. ap (λ (p : ℕ). got a rest p) (sym (add-zero at)) }
 
   pub back-judged : {B : Type 0} {r : Reader A} {w rest : List Bit} {a : A} (rule : A → Judged B) (b : B) → Back r w rest a → rule a ≡ fine b
-      → Back (judged r rule) w rest b
+      → Back (judgedRead r rule) w rest b
   back-judged rule b h e = record { reads = λ at. rw (h .reads at, e) }
 
   pub back-next : {B : Type 0} {r : Reader A} {w v rest : List Bit} {a : A} {b : B} (k : A → Reader B) → Back r w (v ++ rest) a → Back (k a) v rest b

@@ -1,21 +1,22 @@
 -- A word that is put by whole bytes: the bits kept of the first byte, the word and the zeros behind it are one number, stored byte by byte.
 -- Assumes nothing.
 use mathlib.Core.Path.{_≡_, refl, sym, ap, _∙_}
-use mathlib.Core.List.{List, [], _∷_, _++_, append-assoc, append-nil}
+use mathlib.Core.List.{List, [], _∷_, _++_, append-assoc}
 use Prim.Native.Nat.{ℕ, zero, suc, _+_, _-_, _*_, _/_, _%_, _^_, _<_, _≤_}
-use native.Mathlib.Nat.{add-zero, zero-add, add-assoc, mod-lt, mod-eq-of-lt, zero-div, div-add-mod', add-mul, mul-le-mul-right, lt-of-lt-of-le}
+use native.Mathlib.Nat.{add-zero, sub-zero, zero-add, mod-lt, mod-eq-of-lt, zero-div, div-add-mod', add-mul, mul-le-mul-right, lt-of-lt-of-le}
 use native.Mathlib.Omega.{arith}
 use lib.Dec.{lit<}
-use lib.Pow.{split, shl-lt, shr-lt, shl-exact, pow-pos, pow-mono, pow-add}
+use lib.Pow.{split, shr-lt, shl-exact, pow-pos, pow-mono, pow-add}
 use lib.ListN.{length, getD, take, drop, set}
 use lib.Seq.{sets, sets-eq, getD-drop, drop-nil}
-use Rattle.bits.specs.Bits.{Bit, O, I, bitOf, num, bitsOf, value, bitsFrom}
-use Rattle.bits.specs.Read.{Read, got, fieldFrom}
+use Rattle.bits.specs.Bits.{Bit, O, num, bitsOf, bitsFrom}
+use Rattle.bits.specs.Read.{got, fieldFrom}
 use Rattle.bits.proofs.Value.{byte-part}
 use Rattle.bits.proofs.Source.{bits-byte}
 use Rattle.bits.proofs.Numbers.{bitsOf-mod, bitsOf-append, bits-value}
 use Rattle.bits.proofs.Fields.{length-bitsOf, field-back}
-use Rattle.bits.specs.Write.{byteFrom, bytesOf, started, written}
+use Rattle.bits.specs.Write.{byteFrom, bytesOf, startedBytes, bytesWith}
+use Rattle.bits.specs.Appended.{FieldFits}
 use Rattle.bits.proofs.Write.{written-is}
 
 -- the n bytes of a number
@@ -122,7 +123,7 @@ kept-bits s j r h l =
 
 -- ---- what the code stores
 module _ (s : List ℕ) (at k v : ℕ) (f : (i : ℕ) → getD s i 0 < 256) (room : at + k ≤ 8 * length s) (some : 1 ≤ k) (small : v < 2 ^ k) where
-  pub put-is : written s at (bitsOf k v)
+  put-is : bytesWith s at (bitsOf k v)
       ≡ sets s (at / 8) (bytesIn ((at % 8 + k + 7) / 8) ((getD s (at / 8) 0 / 2 ^ (8 - at % 8) * 2 ^ k + v) * 2 ^ ((at % 8 + k + 7) / 8 * 8 - (at % 8 + k))))
   put-is =
       let j = at / 8 in
@@ -130,7 +131,7 @@ module _ (s : List ℕ) (at k v : ℕ) (f : (i : ℕ) → getD s i 0 < 256) (roo
       let m = (r + k + 7) / 8 in
       let y = getD s j 0 / 2 ^ (8 - r) * 2 ^ k + v in
       let x = y * 2 ^ (m * 8 - (r + k)) in
-      let n : started (at + length (bitsOf k v)) ≡ j + m = omega (arith, length-bitsOf k v) in
+      let n : startedBytes (at + length (bitsOf k v)) ≡ j + m = omega (arith, length-bitsOf k v) in
       let p : at ≡ j * 8 + r = sym (div-add-mod' at 8) in
       let w : bitsFrom (drop j s) 0 r ++ bitsOf k v ≡ bitsOf (r + k) y =
       ap (λ (l : List Bit). l ++ bitsOf k v) (kept-bits s j r (f j) (omega arith)) ∙ bitsOf-append r k (getD s j 0 / 2 ^ (8 - r)) v small in
@@ -165,11 +166,35 @@ module _ (b r k v m : ℕ) (hb : b < 256) (hr : r < 8) (hv : v < 2 ^ k) (hk : k 
   joined-shl = shl-exact (r + k) (m * 8 - (r + k)) 32 joined-lt (omega arith)
 
   -- the number that the code makes
-  pub number-is : (((b / 2 ^ (8 - r) * 2 ^ k) % 2 ^ 32 + v) * 2 ^ (m * 8 - (r + k))) % 2 ^ 32 ≡ (b / 2 ^ (8 - r) * 2 ^ k + v) * 2 ^ (m * 8 - (r + k))
+  number-is : (((b / 2 ^ (8 - r) * 2 ^ k) % 2 ^ 32 + v) * 2 ^ (m * 8 - (r + k))) % 2 ^ 32 ≡ (b / 2 ^ (8 - r) * 2 ^ k + v) * 2 ^ (m * 8 - (r + k))
   number-is = rw kept-shl joined-shl
 
-  pub number-fits : (b / 2 ^ (8 - r) * 2 ^ k) % 2 ^ 32 + v < 2 ^ 32
+  number-fits : (b / 2 ^ (8 - r) * 2 ^ k) % 2 ^ 32 + v < 2 ^ 32
   number-fits = rw kept-shl (lt-of-lt-of-le joined-lt (pow-mono {j = 32} (omega arith)))
+
+-- ---- a field at a place, in a list of bytes
+module _ (s : List ℕ) (at : ℕ) {k v : ℕ} (f : FieldFits k v) (bytes : (i : ℕ) → getD s i 0 < 256) where
+  abbrev first : ℕ
+  first = getD s (at / 8) 0
+
+  abbrev many : ℕ
+  many = (at % 8 + k + 7) / 8
+
+  in-many : at % 8 + k ≤ many * 8
+  in-many = omega (arith, f .short)
+
+  four-most : many ≤ 4
+  four-most = omega (arith, f .short)
+
+  pub field-low : (first / 2 ^ (8 - at % 8) * 2 ^ k) % 2 ^ 32 + v < 2 ^ 32
+  field-low = number-fits first (at % 8) k v many (bytes (at / 8)) (mod-lt at (lit< tt)) (f .small) (f .short) in-many four-most
+
+  -- before the first turn all is yet to be stored
+  pub stored-none : at + k ≤ 8 * length s
+      → sets s (at / 8 + 0) (bytesIn (many - 0) ((((first / 2 ^ (8 - at % 8) * 2 ^ k) % 2 ^ 32 + v) * 2 ^ (many * 8 - (at % 8 + k))) % 2 ^ 32)) ≡ bytesWith s at (bitsOf k v)
+  stored-none room =
+      rw (number-is first (at % 8) k v many (bytes (at / 8)) (mod-lt at (lit< tt)) (f .small) (f .short) in-many four-most, add-zero (at / 8), sub-zero many)
+      (sym (put-is s at k v bytes room (f .some) (f .small)))
 
 -- ---- the turns
 -- what is yet to be stored, stored, leaves what was to be left

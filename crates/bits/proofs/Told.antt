@@ -5,14 +5,11 @@ use Prim.Native.Nat.{ℕ}
 use native.Mathlib.Omega.{arith}
 use denote.Enum.Declared.{tagOf}
 use Rattle.bits.proofs.FieldRead.{the-type as field-type}
-use Rattle.bits.proofs.WordRead.{the-type as word-type}
 use Rattle.bits.specs.Bits.{bitsLeft}
 use Rattle.bits.specs.Read.{Read, got, refused}
-use Rattle.bits.specs.Answer.{asField, asWord, fieldRefusal, wordRefusal}
+use Rattle.bits.specs.Answer.{asField, fieldRefusal}
 use Rattle.bits.specs.declared.FieldRead.{FieldRead}
 use Rattle.bits.specs.declared.FieldRead.the-variants.{Got as GotField, Refused as NoField}
-use Rattle.bits.specs.declared.WordRead.{WordRead}
-use Rattle.bits.specs.declared.WordRead.the-variants.{Got as GotWord, Refused as NoWord}
 
 module _ {x : Read ℕ} (s : List ℕ) (n : ℕ) where
   pub no-field : (r : FieldRead) → tagOf field-type r ≡ 1 → asField s n r ≡ x → x ≡ refused (fieldRefusal r)
@@ -21,10 +18,3 @@ module _ {x : Read ℕ} (s : List ℕ) (n : ℕ) where
 
   pub is-field : (r : FieldRead) (v p : ℕ) → asField s n r ≡ x → r ≡ GotField v p → x ≡ got v (bitsLeft s n p) p
   is-field r v p w e = sym w ∙ ap (asField s n) e
-
-  pub is-word : (r : WordRead) (m p : ℕ) → asWord s n r ≡ x → r ≡ GotWord m p → x ≡ got m (bitsLeft s n p) p
-  is-word r m p w e = sym w ∙ ap (asWord s n) e
-
-  pub no-word : (r : WordRead) → tagOf word-type r ≡ 1 → asWord s n r ≡ x → x ≡ refused (wordRefusal r)
-  no-word (GotWord m p) e w = absurd (omega arith)
-  no-word (NoWord r) e w = sym w

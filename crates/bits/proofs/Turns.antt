@@ -1,15 +1,15 @@
 -- The walk through a tree, one bit on: what each outcome of the code's tests makes of it. Assumes nothing.
-use mathlib.Core.Path.{_≡_, refl, sym, ap, _∙_}
-use mathlib.Core.List.{List, [], _∷_}
-use Prim.Native.Nat.{ℕ, zero, suc, _+_, _-_, _*_, _/_, _%_, _^_, _<_, _≤_}
+use mathlib.Core.Path.{_≡_, sym, ap, _∙_}
+use mathlib.Core.List.{List}
+use Prim.Native.Nat.{ℕ, suc, _+_, _-_, _*_, _/_, _%_, _^_, _<_, _≤_}
 use native.Mathlib.Omega.{arith}
 use borrow.Author.Tests.{lt-ltb, le-ltb, eq-eqb, ne-eqb}
 use lib.Dec.{eqb, ltb}
 use lib.ListN.{getD}
 use Rattle.laws.specs.Choice.{pick}
 use Rattle.refusals.specs.declared.Reason.the-variants.{BitsEnd, NoCodeword}
-use Rattle.bits.specs.Bits.{num, bitNum, value, bitsLeft}
-use Rattle.bits.specs.Read.{Read, got, bad}
+use Rattle.bits.specs.Bits.{bitNum, value, bitsLeft}
+use Rattle.bits.specs.Read.{got, bad}
 use Rattle.bits.specs.Tree.{walkOf}
 use Rattle.bits.proofs.Value.{num-bit, value-one, value-within, left-none, left-more}
 

@@ -10,10 +10,10 @@ use Rattle.bits.specs.Bits.{Bit, O, I, num, bitsOf, bitsIn, source, bits
 use Rattle.bits.proofs.Value.{length-bits}
 use Rattle.bits.proofs.Source.{source-left}
 use Rattle.bits.proofs.Numbers.{bitsOf-append, num-small}
-use Rattle.bits.specs.Write.{bytesOf, written, started, byteFrom}
+use Rattle.bits.specs.Write.{bytesOf, bytesWith, startedBytes, byteFrom}
 
-pub written-is : (s : List ℕ) (at : ℕ) (w : List Bit) → written s at w ≡ bytesOf (started (at + length w)) (bitsFrom s 0 at ++ w) ++ drop (started (at + length w)) s
-unfolding written
+pub written-is : (s : List ℕ) (at : ℕ) (w : List Bit) → bytesWith s at w ≡ bytesOf (startedBytes (at + length w)) (bitsFrom s 0 at ++ w) ++ drop (startedBytes (at + length w)) s
+unfolding bytesWith
 written-is s at w = refl
 
 -- ---- the bits of those bytes
@@ -73,49 +73,49 @@ module _ (s : List ℕ) (at : ℕ) (w : List Bit) (room : at + length w ≤ 8 * 
   before-word : length (bitsFrom s 0 at ++ w) ≡ at + length w
   before-word = length-append (bitsFrom s 0 at) w ∙ ap (λ (k : ℕ). k + length w) (length-bits s 0 at)
 
-  pub length-written : length (written s at w) ≡ length s
-  unfolding written
+  pub length-written : length (bytesWith s at w) ≡ length s
+  unfolding bytesWith
   length-written =
-      let n = started (at + length w) in
+      let n = startedBytes (at + length w) in
       let a = length-append (bytesOf n (bitsFrom s 0 at ++ w)) (drop n s) in
       let b = length-bytesOf n (bitsFrom s 0 at ++ w) in
       let c = length-drop n s in
       omega arith
 
-  written-source : source (written s at w) (at + length w) ≡ bitsFrom s 0 at ++ w
-  unfolding written
+  written-source : source (bytesWith s at w) (at + length w) ≡ bitsFrom s 0 at ++ w
+  unfolding bytesWith
   written-source =
-      let n = started (at + length w) in
+      let n = startedBytes (at + length w) in
       let l : length (bitsFrom s 0 at ++ w) ≤ n * 8 = omega (arith, before-word) in
       ap (take (at + length w)) (bytes-bits n (bitsFrom s 0 at ++ w) (drop n s))
       ∙ ap (λ (k : ℕ). take k (padded (n * 8) (bitsFrom s 0 at ++ w) ++ bitsIn (drop n s))) (sym before-word)
       ∙ take-padded (n * 8) (bitsFrom s 0 at ++ w) (bitsIn (drop n s)) l
 
-  pub written-bits : bitsFrom (written s at w) 0 (at + length w) ≡ bitsFrom s 0 at ++ w
+  pub written-bits : bitsFrom (bytesWith s at w) 0 (at + length w) ≡ bitsFrom s 0 at ++ w
   written-bits =
-      let l : at + length w ≤ 8 * length (written s at w) = omega (arith, length-written) in
+      let l : at + length w ≤ 8 * length (bytesWith s at w) = omega (arith, length-written) in
       let z : at + length w - 0 ≡ at + length w = omega arith in
-      rw z at (sym (source-left (written s at w) (at + length w) l)) ∙ written-source
+      rw z at (sym (source-left (bytesWith s at w) (at + length w) l)) ∙ written-source
 
-  drop-written : (k : ℕ) → drop (started (at + length w) + k) (written s at w) ≡ drop (started (at + length w) + k) s
-  unfolding written
+  drop-written : (k : ℕ) → drop (startedBytes (at + length w) + k) (bytesWith s at w) ≡ drop (startedBytes (at + length w) + k) s
+  unfolding bytesWith
   drop-written k =
-      let n = started (at + length w) in
+      let n = startedBytes (at + length w) in
       let x = bytesOf n (bitsFrom s 0 at ++ w) in
       ap (λ (i : ℕ). drop (i + k) (x ++ drop n s)) (sym (length-bytesOf n (bitsFrom s 0 at ++ w))) ∙ drop-append-add x (drop n s) k ∙ drop-drop k n s
 
   -- and another word after it
-  pub written-more : (v : List Bit) → written (written s at w) (at + length w) v ≡ written s at (w ++ v)
+  pub written-more : (v : List Bit) → bytesWith (bytesWith s at w) (at + length w) v ≡ bytesWith s at (w ++ v)
   written-more v =
       let e : at + length w + length v ≡ at + length (w ++ v) = add-assoc at (length w) (length v) ∙ ap (λ (k : ℕ). at + k) (sym (length-append w v)) in
-      let n = started (at + length w) in
-      let m = started (at + length w + length v) in
+      let n = startedBytes (at + length w) in
+      let m = startedBytes (at + length w + length v) in
       let k : m ≡ n + (m - n) = omega arith in
-      let b : bitsFrom (written s at w) 0 (at + length w) ++ v ≡ bitsFrom s 0 at ++ (w ++ v) =
+      let b : bitsFrom (bytesWith s at w) 0 (at + length w) ++ v ≡ bitsFrom s 0 at ++ (w ++ v) =
       ap (λ (l : List Bit). l ++ v) written-bits ∙ append-assoc (bitsFrom s 0 at) w v in
-      let d : drop m (written s at w) ≡ drop m s =
-      ap (λ (i : ℕ). drop i (written s at w)) k ∙ drop-written (m - n) ∙ ap (λ (i : ℕ). drop i s) (sym k) in
-      written-is (written s at w) (at + length w) v
+      let d : drop m (bytesWith s at w) ≡ drop m s =
+      ap (λ (i : ℕ). drop i (bytesWith s at w)) k ∙ drop-written (m - n) ∙ ap (λ (i : ℕ). drop i s) (sym k) in
+      written-is (bytesWith s at w) (at + length w) v
       ∙ (λ i. bytesOf m (b i) ++ d i)
-      ∙ ap (λ (j : ℕ). bytesOf (started j) (bitsFrom s 0 at ++ (w ++ v)) ++ drop (started j) s) e
+      ∙ ap (λ (j : ℕ). bytesOf (startedBytes j) (bitsFrom s 0 at ++ (w ++ v)) ++ drop (startedBytes j) s) e
       ∙ sym (written-is s at (w ++ v))

@@ -10,8 +10,6 @@ use Rattle.bits.specs.Bits.{bitsLeft}
 use Rattle.bits.specs.Read.{Read, got, refused}
 use Rattle.bits.specs.declared.FieldRead.{FieldRead}
 use Rattle.bits.specs.declared.FieldRead.the-variants.{Got, Refused}
-use Rattle.bits.specs.declared.WordRead.{WordRead}
-use Rattle.bits.specs.declared.WordRead.the-variants.{Got as Meant, Refused as Not}
 
 -- n bits, which the bytes s have, and a place among them or at their end
 pub record Within (s : List ℕ) (n at : ℕ) : Type 0 where
@@ -22,15 +20,7 @@ abbrev pub asField : List ℕ → ℕ → FieldRead → Read ℕ
 asField s n (Got v p) = got v (bitsLeft s n p) p
 asField s n (Refused r) = refused r
 
-abbrev pub asWord : List ℕ → ℕ → WordRead → Read ℕ
-asWord s n (Meant m p) = got m (bitsLeft s n p) p
-asWord s n (Not r) = refused r
-
 -- the refusal of a read that was refused; of another it is never asked
 abbrev pub fieldRefusal : FieldRead → Refusal
 fieldRefusal (Got v p) = refusal BitsEnd p
 fieldRefusal (Refused r) = r
-
-abbrev pub wordRefusal : WordRead → Refusal
-wordRefusal (Meant m p) = refusal BitsEnd p
-wordRefusal (Not r) = r

@@ -58,17 +58,17 @@ settle start (fine a) = done a
 settle start (against reason) = λ bs at. bad reason start
 
 -- "The place is the first bit of the field or codeword": a rule's refusal of what was read is placed where it began
-abbrev pub judged : {A B : Type 0} → Reader A → (A → Judged B) → Reader B
-judged r rule = λ bs at. next (r bs at) (λ a. settle at (rule a))
+abbrev pub judgedRead : {A B : Type 0} → Reader A → (A → Judged B) → Reader B
+judgedRead r rule = λ bs at. next (r bs at) (λ a. settle at (rule a))
 
 -- several fields that are one codeword: any refusal inside is placed at its first bit
-abbrev pub moved : {A : Type 0} → ℕ → Read A → Read A
-moved start (got a bs p) = got a bs p
-moved start (refused r) = bad (r .reason) start
-moved start endless = endless
+abbrev pub movedRead : {A : Type 0} → ℕ → Read A → Read A
+movedRead start (got a bs p) = got a bs p
+movedRead start (refused r) = bad (r .reason) start
+movedRead start endless = endless
 
 abbrev pub whole : {A : Type 0} → Reader A → Reader A
-whole r = λ bs at. moved at (r bs at)
+whole r = λ bs at. movedRead at (r bs at)
 
 -- "no bits left there ends the picture"
 abbrev pub orEnd : {A : Type 0} → A → Reader A → Reader A

@@ -18,12 +18,12 @@ bytesOf zero bs = []
 bytesOf (suc n) bs = byteFrom 8 0 bs ∷ bytesOf n (drop 8 bs)
 
 -- how many bytes n bits start
-abbrev pub started : ℕ → ℕ
-started n = (n + 7) / 8
+abbrev pub startedBytes : ℕ → ℕ
+startedBytes n = (n + 7) / 8
 
 -- "It fills the output's last started byte with zeros and touches nothing after."
-unfoldable pub written : List ℕ → ℕ → List Bit → List ℕ
-written s at w = bytesOf (started (at + length w)) (bitsFrom s 0 at ++ w) ++ drop (started (at + length w)) s
+unfoldable pub bytesWith : List ℕ → ℕ → List Bit → List ℕ
+bytesWith s at w = bytesOf (startedBytes (at + length w)) (bitsFrom s 0 at ++ w) ++ drop (startedBytes (at + length w)) s
 
 -- the first bits of the bytes s are w
 pub record Holds (s : List ℕ) (w : List Bit) : Type 0 where

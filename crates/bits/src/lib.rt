@@ -2,22 +2,18 @@
 use refusals::Reason;
 use refusals::Refusal;
 ghost use mathlib.Core.Path.{_≡_};
-ghost use Prim.Native.Nat.{_+_, _*_, _^_, _≤_, _<_};
+ghost use Prim.Native.Nat.{_+_, _*_, _≤_, _<_};
 ghost use lib.ListN.{length, getD};
 ghost use Rattle.bits.specs.Bits.{bitsOf, value, bitsLeft};
 ghost use Rattle.bits.specs.Read.{field as fieldRead};
-ghost use Rattle.bits.specs.Answer.{Within, asField, asWord, fieldRefusal, wordRefusal};
+ghost use Rattle.bits.specs.Answer.{Within, asField, fieldRefusal};
 ghost use Rattle.bits.specs.Tree.{walkOf};
-ghost use Rattle.bits.specs.Write.{written};
+ghost use Rattle.bits.specs.Write.{bytesWith};
+ghost use Rattle.bits.specs.Appended.{FieldFits, WroteBits, CountablePlace};
 
-// "each read gives either a meaning with the next place or a refusal"
+// "each read gives either a meaning with the next place or a refusal": a field's number, or what a codeword means.
 pub enum FieldRead {
     Got(u32, usize),
-    Refused(Refusal),
-}
-
-pub enum WordRead {
-    Got(u16, usize),
     Refused(Refusal),
 }
 
@@ -31,19 +27,6 @@ pub fn field_refusal(read: FieldRead) -> Refusal
             place: at,
         },
         FieldRead::Refused(refusal) => refusal,
-    }
-}
-
-// The refusal of a codeword that was refused.
-pub fn word_refusal(read: WordRead) -> Refusal
-    ensures { λ r. ⌜ r ≡ wordRefusal read ⌝ }
-{
-    match read {
-        WordRead::Got(_, at) => Refusal {
-            reason: Reason::BitsEnd,
-            place: at,
-        },
-        WordRead::Refused(refusal) => refusal,
     }
 }
 
@@ -104,9 +87,9 @@ pub fn field(bytes: &[u8], count: usize, at: usize, width: usize) -> FieldRead
 
 // The codeword at `at` by a tree of depth 16 at most, over one window: node q has its two children at 2 q and 2 q + 1. A child is 0 (no
 // codeword goes that way), the number of a node below 256, or 256 more than a codeword's meaning.
-pub fn walk(tree: &[u16], root: usize, bytes: &[u8], count: usize, at: usize) -> WordRead
+pub fn walk(tree: &[u16], root: usize, bytes: &[u8], count: usize, at: usize) -> FieldRead
     requires { ⌜ (Within (now bytes) count at) × (root < 256) ⌝ }
-    ensures { λ r. ⌜ asWord (now (bytes .entry)) count r ≡ walkOf 16 (now (tree .entry)) root (bitsLeft (now (bytes .entry)) count at) at at ⌝ }
+    ensures { λ r. ⌜ asField (now (bytes .entry)) count r ≡ walkOf 16 (now (tree .entry)) root (bitsLeft (now (bytes .entry)) count at) at at ⌝ }
 {
     let bits = window(bytes, at);
     let left = count - at;
@@ -114,7 +97,7 @@ pub fn walk(tree: &[u16], root: usize, bytes: &[u8], count: usize, at: usize) ->
     let mut taken: usize = 0;
     while taken < 16 {
         if left <= taken {
-            return WordRead::Refused(Refusal {
+            return FieldRead::Refused(Refusal {
                 reason: Reason::BitsEnd,
                 place: at,
             });
@@ -123,25 +106,25 @@ pub fn walk(tree: &[u16], root: usize, bytes: &[u8], count: usize, at: usize) ->
         let bit = ((bits >> after) % 2) as usize;
         let i = node * 2 + bit;
         if tree.len() <= i {
-            return WordRead::Refused(Refusal {
+            return FieldRead::Refused(Refusal {
                 reason: Reason::NoCodeword,
                 place: at,
             });
         }
         let v = tree[i];
         if v == 0 {
-            return WordRead::Refused(Refusal {
+            return FieldRead::Refused(Refusal {
                 reason: Reason::NoCodeword,
                 place: at,
             });
         }
         taken += 1;
         if 256 <= v {
-            return WordRead::Got(v - 256, at + taken);
+            return FieldRead::Got((v - 256) as u32, at + taken);
         }
         node = v as usize;
     }
-    WordRead::Refused(Refusal {
+    FieldRead::Refused(Refusal {
         reason: Reason::NoCodeword,
         place: at,
     })
@@ -149,8 +132,8 @@ pub fn walk(tree: &[u16], root: usize, bytes: &[u8], count: usize, at: usize) ->
 
 // `value` in `width` bits at `at`. The rest of the last byte that they start is zeroed, and no byte after it is touched.
 pub fn put(out: &mut [u8], at: usize, width: usize, value: u32)
-    requires { ⌜ (1 ≤ width) × (width ≤ 24) × (value < 2 ^ width) × (at + width ≤ 8 * length (now out)) ⌝ }
-    ensures { λ r. ⌜ now (out .exit) ≡ written (now (out .entry)) at (bitsOf width value) ⌝ }
+    requires { ⌜ (FieldFits width value) × (at + width ≤ 8 * length (now out)) ⌝ }
+    ensures { λ r. ⌜ now (out .exit) ≡ bytesWith (now (out .entry)) at (bitsOf width value) ⌝ }
 {
     let from = at / 8;
     let before = at % 8;
@@ -163,4 +146,21 @@ pub fn put(out: &mut [u8], at: usize, width: usize, value: u32)
         out[from + i] = ((number >> after) % 256) as u8;
         i += 1;
     }
+}
+
+// `value` in `width` bits at `at`, as far as the output has room for them; the place after them, whether it has or not.
+pub fn append(out: &mut [u8], at: usize, width: usize, value: u32) -> usize
+    requires { ⌜ (FieldFits width value) × (CountablePlace at (bitsOf width value)) ⌝ }
+    ensures { λ r. ⌜ WroteBits (bitsOf width value) (now (out .entry)) at (now (out .exit)) r ⌝ }
+{
+    let after = at + width;
+    if (after + 7) / 8 <= out.len() {
+        put(out, at, width, value);
+        return after;
+    }
+    if at / 8 < out.len() {
+        let room = out.len() * 8 - at;
+        put(out, at, room, value >> (width - room));
+    }
+    after
 }

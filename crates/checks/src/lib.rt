@@ -5,6 +5,7 @@ use libc::STDIN_FILENO;
 use libc::STDOUT_FILENO;
 use refusals::Refusal;
 ghost use mathlib.Core.Path.{_≡_};
+ghost use mathlib.Core.Bool.{true};
 ghost use Prim.Native.Nat.{_+_, _-_, _*_, _<_, _≤_, min};
 ghost use lib.Dec.{eqb};
 ghost use lib.ListN.{length, replicate};
@@ -13,6 +14,7 @@ ghost use Rattle.laws.specs.Choice.{pick};
 ghost use Rattle.laws.specs.Lists.{alike};
 ghost use Rattle.h261_groups.specs.declared.Format.the-variants.{Qcif, Cif};
 ghost use Rattle.checks.specs.Check.{checkFrom};
+ghost use Rattle.checks.specs.Input.{Kept, roomFor};
 
 // ---- records
 
@@ -66,12 +68,17 @@ pub fn format_of(byte: u8) -> Format
 }
 
 // Whether the input fills a buffer.
-pub fn fills(buffer: &mut [u8]) -> bool {
+pub fn fills(buffer: &mut [u8]) -> bool
+    ensures { λ _. ⌜ Kept (now (buffer .entry)) (now (buffer .exit)) ⌝ }
+{
     io::read_full(STDIN_FILENO, buffer) == buffer.len()
 }
 
 // A description from the input: its lengths in four bytes each, and its slices. Ended too where a slice is beyond the room for it.
-pub fn next_description(head: &mut [u8], macroblocks: &mut [u8], levels: &mut [u8]) -> Description {
+pub fn next_description(head: &mut [u8], macroblocks: &mut [u8], levels: &mut [u8]) -> Description
+    ensures { λ r. ⌜ roomFor r (length (now (head .entry))) (length (now (macroblocks .entry))) (length (now (levels .entry))) ≡ true ⌝ }
+    ensures { λ _. ⌜ (Kept (now (head .entry)) (now (head .exit))) × (Kept (now (macroblocks .entry)) (now (macroblocks .exit))) × (Kept (now (levels .entry)) (now (levels .exit))) ⌝ }
+{
     let mut start = [0u8; 12];
     if !fills(&mut start) {
         return Description::Ended;
@@ -105,9 +112,15 @@ pub fn part(count: usize, buffer: &[u8]) -> usize
 }
 
 // Whether the input fills that many bytes of a buffer.
-pub fn fills_part(count: usize, buffer: &mut [u8]) -> bool {
+pub fn fills_part(count: usize, buffer: &mut [u8]) -> bool
+    ensures { λ r. ⌜ (r ≡ true → count ≤ length (now (buffer .entry))) ⌝ }
+    ensures { λ _. ⌜ Kept (now (buffer .entry)) (now (buffer .exit)) ⌝ }
+{
     let all = part(count, buffer);
-    all == count && fills(&mut buffer[..all])
+    if all < count {
+        return false;
+    }
+    fills(&mut buffer[..all])
 }
 
 // How much of a buffer is lent: without its last byte where it is the one that is too short.
@@ -167,24 +180,32 @@ pub fn check_description(head: &[u8], macroblocks: &[u8], levels: &[u8]) -> u64
     check_on(on, levels)
 }
 
-// ---- what is printed
+// ---- what is printed: no contract can say it, so each of these promises its answer alone
 
-pub fn say(text: &[u8]) {
+pub fn say(text: &[u8])
+    ensures { λ r. ⌜ r ≡ tt ⌝ }
+{
     io::write_all(STDOUT_FILENO, text);
 }
 
 // " 12"
-pub fn say_number(n: u64) {
+pub fn say_number(n: u64)
+    ensures { λ r. ⌜ r ≡ tt ⌝ }
+{
     say(b" ");
     io::print_decimal(STDOUT_FILENO, n);
 }
 
-pub fn say_check(bytes: &[u8]) {
+pub fn say_check(bytes: &[u8])
+    ensures { λ r. ⌜ r ≡ tt ⌝ }
+{
     say_number(check(bytes));
 }
 
 // The first bytes of a text that begins with a space, without it.
-pub fn say_unspaced(count: usize, text: &[u8]) {
+pub fn say_unspaced(count: usize, text: &[u8])
+    ensures { λ r. ⌜ r ≡ tt ⌝ }
+{
     let end = part(count, text);
     if 1 <= end {
         say(&text[1..end]);
@@ -192,7 +213,9 @@ pub fn say_unspaced(count: usize, text: &[u8]) {
 }
 
 // "refused 21", "refused 8 at 311"
-pub fn say_refusal(why: Refusal) {
+pub fn say_refusal(why: Refusal)
+    ensures { λ r. ⌜ r ≡ tt ⌝ }
+{
     let mut text = [0u8; 64];
     let count = text::put_refusal(why, 0, &mut text);
     say_unspaced(count, &text);

@@ -6,7 +6,7 @@ use Prim.Native.Nat.{ℕ}
 use lib.Dec.{T}
 use lib.ListN.{length}
 use Rattle.laws.proofs.Choice.{true-T}
-use Rattle.refusals.specs.declared.Verdict.{Verdict}
+use Rattle.refusals.specs.Told.{Told, verdictOn, foundOr}
 use Rattle.bits.specs.Read.{Read, got, endless, refused as unread}
 use Rattle.size.specs.Size.{storeLength, outputLength}
 use Rattle.h261_groups.specs.declared.Format.{Format}
@@ -15,18 +15,14 @@ use Rattle.layout.specs.Flat.{Flat, flat}
 use Rattle.h261_description.specs.Fields.{refresh}
 use Rattle.h261_description.specs.Valid.{valid}
 use Rattle.h261_description.proofs.Pictured.{valid-lists}
-use Rattle.h261_reader.specs.Described.{Blank, described, verdictOf, zeros, laidOr}
-use Rattle.h261_writer.specs.Output.{written, filledWithin}
+use Rattle.fields.specs.Answer.{found}
+use Rattle.h261_reader.specs.Described.{Blank, described, zeros, laidOr}
+use Rattle.h261_writer.specs.Output.{pictureBits, filledWithin}
 use Rattle.h261_render.specs.Sample.{rendered}
+use Rattle.h261_render.specs.Turn.{PictureOf}
 use Rattle.coding.specs.declared.Kind.{Kind}
-use Rattle.coding.specs.Coding.{found}
 use Rattle.coding.specs.Kind.{formatOf, kindSize, codingOf}
-use Rattle.coding.specs.Described.{BlankFor, verdictOn, foundOr, outputWith, Writable, Drawable}
-
-verdict-of : {A : Type 0} (x : Read A) → verdictOf x ≡ verdictOn (found x)
-verdict-of (got a left at) = refl
-verdict-of (unread why) = refl
-verdict-of endless = refl
+use Rattle.coding.specs.Described.{BlankFor, outputWith, Writable, Drawable}
 
 laid-or : (f : Format) (before : Flat) → before ≡ zeros f → (x : Read Flat) → laidOr f x ≡ foundOr before (found x)
 laid-or f before e (got d left at) = refl
@@ -39,9 +35,9 @@ module _ (k : Kind) {f : Format} (is : f ≡ formatOf k) where
   can-parse {head} {macroblocks} {levels} b = subst (λ (g : Format). Blank g head macroblocks levels) (sym is) b
 
   module _ {head macroblocks levels : List ℕ} (b : BlankFor k head macroblocks levels) (bytes : List ℕ) (n : ℕ) where
-    pub parsed-verdict : {v : Verdict} → v ≡ verdictOf (described f bytes n) → v ≡ verdictOn (codingOf k .read bytes n)
+    pub parsed-verdict : {v : Told (Unit {0})} → v ≡ verdictOn (found (described f bytes n)) → v ≡ verdictOn (codingOf k .read bytes n)
     unfolding codingOf
-    parsed-verdict e = e ∙ ap (λ (g : Format). verdictOf (described g bytes n)) is ∙ verdict-of (described (formatOf k) bytes n)
+    parsed-verdict e = e ∙ ap (λ (g : Format). verdictOn (found (described g bytes n))) is
 
     pub parsed-buffers : {d : Flat} → d ≡ laidOr f (described f bytes n) → d ≡ foundOr (flat head macroblocks levels) (codingOf k .read bytes n)
     unfolding codingOf
@@ -70,20 +66,19 @@ module _ (k : Kind) {f : Format} (is : f ≡ formatOf k) where
   pub can-write : (d : Flat) (out : List ℕ) → Writable k d out → (T (valid f d)) × (length out ≡ outputLength (sizeOf f))
   can-write d out w = (is-valid d (w .valid-is), w .out-long ∙ sym (ap (λ (g : Format). outputLength (sizeOf g)) is))
 
-  pub wrote-count : (d : Flat) {count : ℕ} → count ≡ length (written f d) → count ≡ length (codingOf k .written d)
+  pub wrote-count : (d : Flat) {count : ℕ} → count ≡ length (pictureBits f d) → count ≡ length (codingOf k .written d)
   unfolding codingOf
-  wrote-count d e = e ∙ ap (λ (g : Format). length (written g d)) is
+  wrote-count d e = e ∙ ap (λ (g : Format). length (pictureBits g d)) is
 
   pub wrote-bytes : (d : Flat) (out : List ℕ) {after : List ℕ} → after ≡ filledWithin f d out → after ≡ outputWith (kindSize k) (codingOf k .written d) out
   unfolding codingOf
   wrote-bytes d out e = e ∙ ap (λ (g : Format). filledWithin g d out) is
 
   -- ---- drawing
-  pub can-render : (d : Flat) (reference store : List ℕ) → Drawable k d reference store
-      → (T (valid f d)) × (length reference ≡ storeLength (sizeOf f)) × (length store ≡ storeLength (sizeOf f))
+  pub can-render : (d : Flat) (reference store : List ℕ) → Drawable k d reference store → PictureOf f d (length reference) (length store)
   can-render d reference store r =
       let size = sym (ap (λ (g : Format). storeLength (sizeOf g)) is) in
-      (is-valid d (r .valid-is), r .reference-long ∙ size, r .store-long ∙ size)
+      record { fine = is-valid d (r .valid-is); reference = r .reference-long ∙ size; store = r .store-long ∙ size }
 
   pub drew : (d : Flat) (reference : List ℕ) {store : List ℕ} → store ≡ rendered f d reference → store ≡ codingOf k .render d reference
   unfolding codingOf

@@ -6,15 +6,12 @@ use Prim.Native.Nat.{ℕ}
 use lib.Dec.{ltb}
 use lib.ListN.{length, drop}
 use Rattle.laws.specs.Choice.{pick}
-use Rattle.refusals.specs.declared.Verdict.{Verdict}
-use Rattle.refusals.specs.declared.Verdict.the-variants.{Accepted, Refused}
 use Rattle.bits.specs.Bits.{Bit}
-use Rattle.bits.specs.Write.{started, bytesOf}
+use Rattle.bits.specs.Write.{startedBytes, bytesOf}
 use Rattle.size.specs.declared.Size.{Size}
 use Rattle.size.specs.Size.{limit, storeLength, outputLength}
 use Rattle.h261_reader.specs.Described.{Blank}
 use Rattle.coding.specs.declared.Kind.{Kind}
-use Rattle.coding.specs.Coding.{Found, accepted, refused}
 use Rattle.layout.specs.Flat.{Flat}
 use Rattle.coding.specs.Kind.{formatOf, kindSize, codingOf}
 
@@ -23,23 +20,14 @@ use Rattle.coding.specs.Kind.{formatOf, kindSize, codingOf}
 abbrev pub BlankFor : Kind → List ℕ → List ℕ → List ℕ → Type 0
 BlankFor k head macroblocks levels = Blank (formatOf k) head macroblocks levels
 
-abbrev pub verdictOn : {A : Type 0} → Found A → Verdict
-verdictOn (accepted a) = Accepted
-verdictOn (refused why) = Refused why
-
--- what is found, or what was there before: "A refusal changes no buffer"
-abbrev pub foundOr : {A : Type 0} → A → Found A → A
-foundOr before (accepted a) = a
-foundOr before (refused why) = before
-
 -- ---- writing
 -- "fills the output's last started byte with zeros"
 abbrev pub bytesIn : List Bit → List ℕ
-bytesIn bits = bytesOf (started (length bits)) bits
+bytesIn bits = bytesOf (startedBytes (length bits)) bits
 
 -- "and touches nothing after"; a picture above the limit touches nothing at all
 abbrev pub outputWith : Size → List Bit → List ℕ → List ℕ
-outputWith size bits out = pick (ltb (limit size) (length bits)) out (bytesIn bits ++ drop (started (length bits)) out)
+outputWith size bits out = pick (ltb (limit size) (length bits)) out (bytesIn bits ++ drop (startedBytes (length bits)) out)
 
 -- a valid description, and an output of its named length
 pub record Writable (k : Kind) (d : Flat) (out : List ℕ) : Type 0 where

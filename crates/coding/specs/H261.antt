@@ -7,9 +7,10 @@ use Rattle.layout.specs.Flat.{Flat}
 use Rattle.h261_description.specs.Valid.{lengthsOf, valid}
 use Rattle.h261_description.specs.Fields.{refresh}
 use Rattle.h261_reader.specs.Described.{described}
-use Rattle.h261_writer.specs.Output.{written}
+use Rattle.h261_writer.specs.Output.{pictureBits}
 use Rattle.h261_render.specs.Sample.{rendered}
-use Rattle.coding.specs.Coding.{Coding, found}
+use Rattle.fields.specs.Answer.{found}
+use Rattle.coding.specs.Coding.{Coding}
 use Rattle.coding.specs.Lawful.{Lawful}
 
 -- the three slices have the lengths of one format; another than opened is no valid description
@@ -19,7 +20,7 @@ h261 f = record {
   named = λ d. either (lengthsOf Qcif d) (lengthsOf Cif d);
   valid = valid f;
   refresh = refresh f;
-  written = written f;
+  written = pictureBits f;
   render = rendered f;
 }
 

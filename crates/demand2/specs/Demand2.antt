@@ -6,31 +6,26 @@ use mathlib.Core.Bool.{true, false}
 use mathlib.Core.List.{List, []}
 use lib.Dec.{T}
 use lib.ListN.{length}
-use Rattle.refusals.specs.declared.Refusal.{Refusal}
-use Rattle.refusals.specs.declared.Reason.the-variants.{Length, Invalid, AboveLimit}
-use Rattle.refusals.specs.Number.{refusal}
+use Rattle.refusals.specs.Told.{Told, accepted, refused}
 use Rattle.bits.specs.Bits.{Bit}
 use Rattle.bits.specs.Read.{got}
 use Rattle.h261_groups.specs.declared.Format.{Format}
 use Rattle.h261_groups.specs.Format.{sizeOf}
 use Rattle.size.specs.Size.{limit, storeLength, outputLength}
-use Rattle.h261_description.specs.Value.{Picture, laid}
+use Rattle.h261_description.specs.Value.{Picture, laidPicture}
 use Rattle.layout.specs.Flat.{Flat}
 use Rattle.h261_description.specs.Valid.{valid}
 use Rattle.h261_layers.specs.Grammar.{picture, reading}
 use Rattle.h261_reader.specs.Described.{described}
 use Rattle.h261_render.specs.Sample.{rendered}
 use Rattle.coding.specs.declared.Kind.{Kind}
-use Rattle.coding.specs.Coding.{Found, accepted}
 use Rattle.coding.specs.Kind.{formatOf, kindSize}
 use Rattle.decoder.specs.Decoded.{decoded}
-use Rattle.h261_writer.specs.declared.Written.{Written}
-use Rattle.h261_writer.specs.declared.Written.the-variants.{Bits, Refused}
-use Rattle.h261_writer.specs.Output.{written, lengths, writeOf, outputOf}
+use Rattle.h261_writer.specs.Output.{pictureBits, lentLengths, writeOf, outputOf}
 
 -- ---- a decoder: the first N bits of bytes and a reference store to a store, or a refusal
 abbrev pub Decoder : Type 0
-Decoder = Kind → List ℕ → ℕ → List ℕ → Found (List ℕ)
+Decoder = Kind → List ℕ → ℕ → List ℕ → Told (List ℕ)
 
 -- what `decode`'s promise says, for stores of their length
 abbrev pub decode : Decoder
@@ -43,7 +38,7 @@ pub record Follows (k : Kind) (bytes : List ℕ) (n : ℕ) : Type 0 where
   pub at : ℕ
   pub reads : reading (formatOf k) bytes n ≡ got picture left at
 
-pub record Accepts (x : Found (List ℕ)) : Type 0 where
+pub record Accepts (x : Told (List ℕ)) : Type 0 where
   pub store : List ℕ
   pub is : x ≡ accepted store
 
@@ -55,7 +50,7 @@ pub record AcceptedExactly (d : Decoder) : Type 0 where
 -- "and then every sample is the one the rules give"
 pub record EverySample (d : Decoder) : Type 0 where
   pub samples : (k : Kind) (bytes : List ℕ) (n : ℕ) (reference store : List ℕ) (follows : Follows k bytes n) → length reference ≡ storeLength (kindSize k)
-      → d k bytes n reference ≡ accepted store → store ≡ rendered (formatOf k) (laid (formatOf k) (follows .picture)) reference
+      → d k bytes n reference ≡ accepted store → store ≡ rendered (formatOf k) (laidPicture (formatOf k) (follows .picture)) reference
 
 abbrev pub DecodeExactly : Type 0
 DecodeExactly = AcceptedExactly decode
@@ -65,7 +60,7 @@ DecodeSamples = EverySample decode
 
 -- ---- a writer: a description and what the output holds before, to the answer and what it holds after
 pub record Output : Type 0 where
-  pub answer : Written
+  pub answer : Told ℕ
   pub output : List ℕ
 
 abbrev pub Writer : Type 0
@@ -77,16 +72,21 @@ write f d out = record { answer = writeOf f d (length out); output = outputOf f 
 
 -- "What our writer writes for a valid description is read back as that description"; "reading back takes exactly N bits"
 pub record ReadsBack (w : Writer) : Type 0 where
-  pub back : (f : Format) (d : Flat) (out : List ℕ) (n : ℕ) → T (valid f d) → length out ≡ outputLength (sizeOf f) → w f d out .answer ≡ Bits n → described f (w f d out .output) n ≡ got d [] n
+  pub back : (f : Format) (d : Flat) (out : List ℕ) (n : ℕ) → T (valid f d) → length out ≡ outputLength (sizeOf f) → w f d out .answer ≡ accepted n → described f (w f d out .output) n ≡ got d [] n
 
--- "31 and 32, given exactly then"
+-- "31 and 32, given exactly then", and 1 before them
 pub record RefusedExactly (w : Writer) : Type 0 where
-  pub invalid : (f : Format) (d : Flat) (out : List ℕ) → lengths f d (length out) ≡ true → valid f d ≡ false → w f d out .answer ≡ Refused (refusal Invalid 0)
-  pub above : (f : Format) (d : Flat) (out : List ℕ) → lengths f d (length out) ≡ true → valid f d ≡ true → limit (sizeOf f) < length (written f d) → w f d out .answer ≡ Refused (refusal AboveLimit 0)
-  pub else : (f : Format) (d : Flat) (out : List ℕ) (why : Refusal) → T (valid f d) → length (written f d) ≤ limit (sizeOf f) → length out ≡ outputLength (sizeOf f) → w f d out .answer ≡ Refused why → ⊥
+  pub unnamed : (f : Format) (d : Flat) (out : List ℕ) → lentLengths f d (length out) ≡ false → w f d out .answer ≡ refused 1 0
+  pub invalid : (f : Format) (d : Flat) (out : List ℕ) → lentLengths f d (length out) ≡ true → valid f d ≡ false → w f d out .answer ≡ refused 31 0
+  pub above : (f : Format) (d : Flat) (out : List ℕ) → lentLengths f d (length out) ≡ true → valid f d ≡ true → limit (sizeOf f) < length (pictureBits f d) → w f d out .answer ≡ refused 32 0
+  pub else : (f : Format) (d : Flat) (out : List ℕ) (number place : ℕ) → T (valid f d) → length (pictureBits f d) ≤ limit (sizeOf f) → length out ≡ outputLength (sizeOf f) → w f d out .answer ≡ refused number place → ⊥
 
 abbrev pub WriteBack : Type 0
 WriteBack = ReadsBack write
 
 abbrev pub WriteRefused : Type 0
 WriteRefused = RefusedExactly write
+
+-- ---- wrong: a writer that answers 31 for a wrong length, once, whatever else it does
+abbrev pub LengthAsInvalidWrong : Type 0
+LengthAsInvalidWrong = (w : Writer) (f : Format) (d : Flat) (out : List ℕ) → lentLengths f d (length out) ≡ false → w f d out .answer ≡ refused 31 0 → RefusedExactly w → ⊥

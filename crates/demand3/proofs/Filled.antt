@@ -8,7 +8,7 @@ use lib.ListN.{length, getD, take, drop, length-drop, take-append-drop}
 use lib.Seq.{drop-drop, take-all}
 use Rattle.bits.specs.Bits.{Bit, num, bitsFrom}
 use Rattle.bits.proofs.Source.{source-left}
-use Rattle.bits.specs.Write.{byteFrom, bytesOf, started, written}
+use Rattle.bits.specs.Write.{byteFrom, bytesOf, startedBytes, bytesWith}
 use Rattle.bits.proofs.Write.{written-is, written-bits, length-bytesOf}
 use Rattle.vault.specs.Block.{unused}
 use Rattle.vault.specs.Parts.{partCount}
@@ -40,22 +40,22 @@ byte-at (suc n) bs (suc i) l =
 pub filled : (bits : List Bit) (i : ℕ) → i < (length bits + 7) / 8 → getD (bytesIn bits) i 0 % 2 ^ unused (length bits) i ≡ 0
 filled bits i l =
     let e : unused (length bits) i ≡ 8 - length (drop (8 * i) bits) = omega (arith, length-drop (8 * i) bits) in
-    rw (e, byte-at (started (length bits)) bits i l) (low 8 0 (drop (8 * i) bits))
+    rw (e, byte-at (startedBytes (length bits)) bits i l) (low 8 0 (drop (8 * i) bits))
 
 -- ---- all parts of a picture, collected, hold its bits
 module _ (bits : List Bit) (collection : List ℕ) (room : 500 * partCount (length bits) ≤ length collection) where
   fits : length bits ≤ 8 * length collection
   fits = omega arith
 
-  as-written : Collected (bytesIn bits) (length bits) (partCount (length bits)) collection → collection ≡ written collection 0 bits
+  as-written : Collected (bytesIn bits) (length bits) (partCount (length bits)) collection → collection ≡ bytesWith collection 0 bits
   unfolding bitsFrom
   as-written h =
-      let n : ℕ = started (length bits) in
+      let n : ℕ = startedBytes (length bits) in
       let long : length (bytesIn bits) ≡ n = length-bytesOf n bits in
       let front : take n collection ≡ take n (bytesIn bits) = collected-all (bytesIn bits) (length bits) collection (omega arith) room (filled bits) h in
       let whole : take n (bytesIn bits) ≡ bytesIn bits = take-all n (bytesIn bits) (omega arith) in
       sym (take-append-drop n collection) ∙ ap (λ (l : List ℕ). l ++ drop n collection) (front ∙ whole)
-      ∙ ap (λ (k : ℕ). bytesOf (started k) bits ++ drop (started k) collection) (sym (zero-add (length bits)))
+      ∙ ap (λ (k : ℕ). bytesOf (startedBytes k) bits ++ drop (startedBytes k) collection) (sym (zero-add (length bits)))
       ∙ sym (written-is collection 0 bits)
 
   pub collected-holds : Collected (bytesIn bits) (length bits) (partCount (length bits)) collection → Holds collection bits

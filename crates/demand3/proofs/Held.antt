@@ -16,23 +16,24 @@ use Rattle.laws.proofs.Choice.{two-of, both-true}
 use Rattle.coding.specs.declared.Kind.{Kind}
 use Rattle.size.specs.Size.{storeLength}
 use Rattle.vault.specs.declared.Header.{Header}
-use Rattle.vault.specs.Parts.{partCount, placed}
+use Rattle.vault.specs.Parts.{partCount, placedPayload}
 use Rattle.vault.specs.Collected.{Collected}
 use Rattle.vault.proofs.Collected.{collected-none}
-use Rattle.standing.specs.Stores.{reference, kept, shown}
+use Rattle.standing.specs.Stores.{reference, storesWith, shownStore}
 use Rattle.standing.specs.declared.Standing.{Standing}
 use Rattle.standing.specs.declared.Line.the-variants.{Earlier, Next, Anew, Otherwise}
 use Rattle.coding.specs.Coding.{Coding}
 use Rattle.coding.specs.Kind.{kindSize, AllLawful}
-use Rattle.standing.specs.Receive.{place, earlier, same, isLost, lineOf, lengths, Outcome, step}
+use Rattle.standing.specs.Receive.{place, earlierPlace, samePlace, isLost, lineOf, lentLengths, Outcome, step}
 use Rattle.standing.specs.Shown.{whereShown}
 use Rattle.standing.specs.Run.{World}
 use Rattle.coding.specs.Described.{bytesIn}
-use Rattle.demand3.specs.Clip.{Picture, PartOf, afterBlock, given, Shows}
+use Rattle.demand3.specs.Clip.{Picture, PartOf, afterBlock, worldGiven, Shows}
 use Rattle.demand3.proofs.Finished.{kept-reference, kept-sized, kept-shown, none-shown}
 use Rattle.demand3.proofs.Sent.{Whole, Part}
-use Rattle.demand3.proofs.Step.{Moment, progressAt, worldAt, marked, astray, further, arrived, bitsOf, refreshOf, headerOf, Block, stores-are, lengths-make, Comes, after-long, comes-old, comes-lost, Takes, takes-next, takes-anew, comes-further, collected-part, comes-arrived}
+use Rattle.demand3.proofs.Step.{Moment, progressAt, worldAt, marked, astray, further, arrived, bitsOf, refreshOf, headerOf, Block, stores-are, lengths-make, Comes, Finishing, after-long, comes-old, comes-lost, Takes, takes-next, takes-anew, comes-further, further-answers, collected-part, comes-arrived}
 use Rattle.standing.specs.declared.Standing.the-variants as T
+use Rattle.standing.specs.Answered as A
 
 -- what is known of the pictures that were sent
 pub record Sound {D : Type 0} (coding : Kind → Coding D) (clip : ℕ) (kind : Kind) (sent : List (Picture D)) : Type 0 where
@@ -63,9 +64,9 @@ module _ {D : Type 0} {coding : Kind → Coding D} (lawful : AllLawful coding) {
     pub draws : (x : Picture D) → getElem? sent (m .wanted .picture) ≡ some x → coding kind .render (x .description) (reference (m .holder) (m .lent .both)) ≡ x .store
 
   pub record Held (m : Moment) : Type 0 where
-    pub named : lengths (kindSize kind) (m .lent) ≡ true
+    pub named : lentLengths (kindSize kind) (m .lent) ≡ true
     pub collecting : isLost (m .standing) ≡ false → Collecting m
-    pub shows : Shows sent (m .standing) (shown (kindSize kind) (whereShown (m .standing) (m .holder)) (m .lent .both))
+    pub shows : Shows sent (m .standing) (shownStore (kindSize kind) (whereShown (m .standing) (m .holder)) (m .lent .both))
 
   -- ---- a part of a picture is a block of the clip
   pub block-of : {p part : ℕ} {block : List ℕ} (h : PartOf sent p part block) → Block coding kind (h .picture) clip p part block
@@ -97,11 +98,11 @@ module _ {D : Type 0} {coding : Kind → Coding D} (lawful : AllLawful coding) {
     one-picture : (P : Picture D → Type 0) → P x → (y : Picture D) → getElem? sent p ≡ some y → P y
     one-picture P z y e = subst P (Option·some-injective x y (sym (h .at) ∙ e)) z
 
-    pub held-further : (standing : Standing) → Fits → Shows sent standing (shown (kindSize kind) (whereShown standing (m .holder)) (m .lent .both)) → Held (further m header standing block)
+    pub held-further : (standing : Standing) → Fits → Shows sent standing (shownStore (kindSize kind) (whereShown standing (m .holder)) (m .lent .both)) → Held (further m header standing block)
     held-further standing fits shows = record {
-      named = lengths-make (kindSize kind) (placed block part (m .lent .collection)) (m .lent .both) (after-long lawful clip kind (block-of h) m (held .named)) (stores-are (kindSize kind) (m .lent) (held .named));
+      named = lengths-make (kindSize kind) (placedPayload block part (m .lent .collection)) (m .lent .both) (after-long lawful clip kind (block-of h) m (held .named)) (stores-are (kindSize kind) (m .lent) (held .named));
       collecting = λ _. record {
-        bytes = one-picture (λ (y : Picture D). Collected (bytesIn (bitsOf coding kind y)) (length (bitsOf coding kind y)) (part + 1) (placed block part (m .lent .collection))) (collected-part lawful clip kind (block-of h) m (held .named) (fits .collected));
+        bytes = one-picture (λ (y : Picture D). Collected (bytesIn (bitsOf coding kind y)) (length (bitsOf coding kind y)) (part + 1) (placedPayload block part (m .lent .collection))) (collected-part lawful clip kind (block-of h) m (held .named) (fits .collected));
         marks = λ y e _. one-picture (λ (y : Picture D). marked m header ≡ refreshOf coding kind y) (fits .true-mark) y e;
         draws = one-picture (λ (y : Picture D). coding kind .render (y .description) (reference (m .holder) (m .lent .both)) ≡ y .store) (fits .draws);
       };
@@ -111,7 +112,7 @@ module _ {D : Type 0} {coding : Kind → Coding D} (lawful : AllLawful coding) {
     pub held-arrived : Fits → (store : List ℕ) → store ≡ x .store → length store ≡ storeLength (kindSize kind) → Held (arrived m header block store)
     held-arrived fits store is long = record {
       named =
-          lengths-make (kindSize kind) (placed block part (m .lent .collection)) (kept (m .holder) store (m .lent .both)) (after-long lawful clip kind (block-of h) m (held .named))
+          lengths-make (kindSize kind) (placedPayload block part (m .lent .collection)) (storesWith (m .holder) store (m .lent .both)) (after-long lawful clip kind (block-of h) m (held .named))
           (kept-sized (kindSize kind) (m .holder) store (m .lent .both) long (stores-are (kindSize kind) (m .lent) (held .named)));
       collecting = λ _. record {
         bytes = λ y e. collected-none (bytesIn (bitsOf coding kind y)) (length (bitsOf coding kind y)) _;
@@ -153,8 +154,13 @@ module _ {D : Type 0} {coding : Kind → Coding D} (lawful : AllLawful coding) {
         → Comes lawful clip kind m block (further m header standing block)
     goes-further standing t e = comes-further lawful clip kind (block-of h) m (held .named) standing t e
 
+    pub goes-answers : (standing : Standing) (t : Takes lawful clip kind (block-of h) m (held .named) standing) (e : eqb (part + 1) (partCount (length (bitsOf coding kind x))) ≡ false)
+        → goes-further standing t e .answer ≡ A.taken p part
+    unfolding goes-further
+    goes-answers standing t e = further-answers lawful clip kind (block-of h) m (held .named) standing t e
+
     pub goes-arrived : (standing : Standing) → Takes lawful clip kind (block-of h) m (held .named) standing → Fits → eqb (part + 1) (partCount (length (bitsOf coding kind x))) ≡ true
-        → Comes lawful clip kind m block (arrived m header block store)
+        → Finishing lawful clip kind p m block (arrived m header block store)
     goes-arrived standing t fits e =
         comes-arrived lawful clip kind (block-of h) m (held .named) valid (fits .collected) e standing t (fits .true-mark)
 
@@ -170,23 +176,23 @@ module _ {D : Type 0} {coding : Kind → Coding D} (lawful : AllLawful coding) {
     pub wants : (next .wanted ≡ m .wanted) ⊎ ((next .wanted ≡ place p (part + 1)) ⊎ (next .wanted ≡ place (p + 1) 0))
 
   module _ {p part : ℕ} {block : List ℕ} (h : PartOf sent p part block) (m : Moment) (held : Held m) where
-    pub line-of : (a b c : Bool) → earlier (place p part) (m .wanted) ≡ a → both (same (place p part) (m .wanted)) (opposite (isLost (m .standing))) ≡ b
+    pub line-of : (a b c : Bool) → earlierPlace (place p part) (m .wanted) ≡ a → both (samePlace (place p part) (m .wanted)) (opposite (isLost (m .standing))) ≡ b
         → both (eqb part 0) (both (refreshOf coding kind (h .picture)) (eqb part 0)) ≡ c
         → lineOf (progressAt m) (headerOf coding kind (h .picture) clip p part) ≡ pick a Earlier (pick b Next (pick c Anew Otherwise))
     unfolding lineOf
     line-of a b c ea eb ec = λ i. pick (ea i) Earlier (pick (eb i) Next (pick (ec i) Anew Otherwise))
 
     taken-on : (standing : Standing) → Takes lawful clip kind (block-of h) m (held .named) standing → Fits h m held
-        → Shows sent standing (shown (kindSize kind) (whereShown standing (m .holder)) (m .lent .both)) → Goes p part m block
+        → Shows sent standing (shownStore (kindSize kind) (whereShown standing (m .holder)) (m .lent .both)) → Goes p part m block
     taken-on standing t fits shows = go (eqb (part + 1) (partCount (length (bitsOf coding kind (h .picture))))) refl
       where
         go : (last : Bool) → eqb (part + 1) (partCount (length (bitsOf coding kind (h .picture)))) ≡ last → Goes p part m block
-        go true e = record { next = _; comes = goes-arrived h m held standing t fits e; held = held-drawn h m held fits; wants = inr (inr refl) }
+        go true e = record { next = _; comes = goes-arrived h m held standing t fits e .comes; held = held-drawn h m held fits; wants = inr (inr refl) }
         go false e = record { next = _; comes = goes-further h m held standing t e; held = held-further h m held standing fits shows; wants = inr (inl refl) }
 
-    on-next : lineOf (progressAt m) (headerOf coding kind (h .picture) clip p part) ≡ Next → both (same (place p part) (m .wanted)) (opposite (isLost (m .standing))) ≡ true → Goes p part m block
+    on-next : lineOf (progressAt m) (headerOf coding kind (h .picture) clip p part) ≡ Next → both (samePlace (place p part) (m .wanted)) (opposite (isLost (m .standing))) ≡ true → Goes p part m block
     on-next q e =
-        let sides = two-of (same (place p part) (m .wanted)) _ e in
+        let sides = two-of (samePlace (place p part) (m .wanted)) _ e in
         let here = two-of (eqb p (m .wanted .picture)) _ (sides .0) in
         taken-on (m .standing) (takes-next lawful clip kind (block-of h) m (held .named) q)
         (fits-next h m held (not-lost (isLost (m .standing)) (sides .1)) (eqb-true p (m .wanted .picture) (here .0)) (eqb-true part (m .wanted .part) (here .1)))
@@ -203,7 +209,7 @@ module _ {D : Type 0} {coding : Kind → Coding D} (lawful : AllLawful coding) {
     pub step-held : Goes p part m block
     step-held = go _ _ _ refl refl refl
       where
-        go : (a b c : Bool) → earlier (place p part) (m .wanted) ≡ a → both (same (place p part) (m .wanted)) (opposite (isLost (m .standing))) ≡ b
+        go : (a b c : Bool) → earlierPlace (place p part) (m .wanted) ≡ a → both (samePlace (place p part) (m .wanted)) (opposite (isLost (m .standing))) ≡ b
             → both (eqb part 0) (both (refreshOf coding kind (h .picture)) (eqb part 0)) ≡ c → Goes p part m block
         go true b c ea eb ec = record { next = m; comes = comes-old lawful clip kind (block-of h) m (held .named) (line-of true b c ea eb ec); held = held; wants = inl refl }
         go false true c ea eb ec = on-next (line-of false true c ea eb ec) eb
@@ -221,13 +227,13 @@ module _ {D : Type 0} {coding : Kind → Coding D} (lawful : AllLawful coding) {
 
   pub record Runs (m : Moment) (blocks : List (List ℕ)) : Type 0 where
     pub last : Moment
-    pub is : given (step coding) (worldAt clip kind m) blocks ≡ worldAt clip kind last
+    pub is : worldGiven (step coding) (worldAt clip kind m) blocks ≡ worldAt clip kind last
     pub held : Held last
 
   pub run-held : (m : Moment) → Held m → (blocks : List (List ℕ)) → Parts blocks → Runs m blocks
-  unfolding given
+  unfolding worldGiven
   run-held m h [] t = record { last = m; is = refl; held = h }
   run-held m h (block ∷ blocks) t =
       let g : Goes (t .0 .p) (t .0 .part) m block = step-held (t .0 .is) m h in
       let rest : Runs (g .next) blocks = run-held (g .next) (g .held) blocks (t .1) in
-      record { last = rest .last; is = ap (λ (w : World). given (step coding) w blocks) (after-comes m block (g .next) (g .comes)) ∙ rest .is; held = rest .held }
+      record { last = rest .last; is = ap (λ (w : World). worldGiven (step coding) w blocks) (after-comes m block (g .next) (g .comes)) ∙ rest .is; held = rest .held }

@@ -11,49 +11,47 @@ use borrow.Author.Tests.{eqb-false}
 use lib.Dec.{eqb}
 use lib.ListN.{getElem?}
 use Rattle.laws.specs.Choice.{pick}
-use Rattle.refusals.specs.declared.Reason.the-variants.{Length, BlockField}
-use Rattle.refusals.specs.Number.{refusal, number}
+use Rattle.refusals.specs.Told.{accepted, refused}
+use Rattle.refusals.proofs.Told.{accepted-once, told-apart}
 use Rattle.coding.specs.declared.Kind.{Kind}
-use Rattle.vault.specs.Block.{judgeOf, refusedBy}
+use Rattle.vault.specs.Block.{judgeOf}
 use Rattle.standing.specs.declared.Holder.the-variants.{Neither}
-use Rattle.standing.specs.Stores.{Stores, reference, shown}
+use Rattle.standing.specs.Stores.{Stores, reference, shownStore}
 use Rattle.sender.specs.declared.Sender.{Sender}
 use Rattle.sender.specs.Run.{Call, clipOf}
 use Rattle.standing.specs.declared.Receiver.{Receiver}
-use Rattle.standing.specs.declared.Answer.{Answer}
+use Rattle.standing.specs.Answered.{Said}
 use Rattle.coding.specs.Coding.{Coding}
 use Rattle.coding.specs.Kind.{kindSize, AllLawful}
-use Rattle.standing.specs.Receive.{place, Buffers, lengths, judged, byJudgement, decide, fresh, opened, Outcome, cameTo, step}
+use Rattle.standing.specs.Receive.{place, Buffers, lentLengths, judgedBlock, byJudgement, decide, freshReceiver, openedReceiver, Outcome, cameTo, step}
 use Rattle.standing.specs.Shown.{whereShown, refusedLength, shownBy}
 use Rattle.standing.specs.Run.{World}
-use Rattle.demand3.specs.Clip.{Picture, pictures, Clip, opening, picturesIn, Each, given, upon, Shows, Right}
+use Rattle.demand3.specs.Clip.{Picture, pictures, Clip, opening, picturesIn, Each, worldGiven, upon, Shows, Right}
 use Rattle.demand3.specs.Demand3.{InStep}
 use Rattle.demand3.specs.Theorems.{InStepAlways}
 use Rattle.demand3.proofs.Finished.{none-shown}
 use Rattle.demand3.proofs.Sent.{Row, row, row-whole, row-drawn, row-onward, Part, clip-part}
 use Rattle.demand3.proofs.Step.{Moment, worldAt, outcomeAt}
 use Rattle.demand3.proofs.Held.{Sound, Held, Goes, step-held, Parts, Runs, run-held}
-use Rattle.sender.specs.declared.Opened.the-variants as SO
 use Rattle.sender.specs.Send as N
 use Rattle.sender.specs.Run as SR
 use Rattle.standing.specs.declared.Standing.the-variants as T
-use Rattle.standing.specs.declared.Opened.the-variants as RO
-use Rattle.standing.specs.declared.Answer.the-variants as A
+use Rattle.standing.specs.Answered as A
 
 -- ---- opened for a clip
-pub sender-opened : (clip : ℕ) (kind : Kind) (s : Sender) → N.opened clip kind ≡ SO.Open s → (1 ≤ clip) × (N.fresh clip kind ≡ s)
+pub sender-opened : (clip : ℕ) (kind : Kind) (s : Sender) → N.openedSender clip kind ≡ accepted s → (1 ≤ clip) × (N.freshSender clip kind ≡ s)
 sender-opened clip kind s e = go (eqb clip 0) refl e
   where
-    go : (t : Bool) → eqb clip 0 ≡ t → pick t (SO.Refused (refusal BlockField 0)) (SO.Open (N.fresh clip kind)) ≡ SO.Open s → (1 ≤ clip) × (N.fresh clip kind ≡ s)
-    go true q h = let z : _≡_ {A = ℕ} 0 1 = cc in absurd (omega arith)
-    go false q h = (pos-of-ne-zero (eqb-false clip 0 q), cc)
+    go : (t : Bool) → eqb clip 0 ≡ t → pick t (refused 22 0) (accepted (N.freshSender clip kind)) ≡ accepted s → (1 ≤ clip) × (N.freshSender clip kind ≡ s)
+    go true q h = absurd (told-apart (sym h))
+    go false q h = (pos-of-ne-zero (eqb-false clip 0 q), accepted-once h)
 
-pub receiver-opened : (clip : ℕ) (kind : Kind) (r : Receiver) → opened clip kind ≡ RO.Open r → fresh clip kind ≡ r
+pub receiver-opened : (clip : ℕ) (kind : Kind) (r : Receiver) → openedReceiver clip kind ≡ accepted r → freshReceiver clip kind ≡ r
 receiver-opened clip kind r e = go (eqb clip 0) e
   where
-    go : (t : Bool) → pick t (RO.Refused (refusal BlockField 0)) (RO.Open (fresh clip kind)) ≡ RO.Open r → fresh clip kind ≡ r
-    go true h = let z : _≡_ {A = ℕ} 0 1 = cc in absurd (omega arith)
-    go false h = cc
+    go : (t : Bool) → pick t (refused 22 0) (accepted (freshReceiver clip kind)) ≡ accepted r → freshReceiver clip kind ≡ r
+    go true h = absurd (told-apart (sym h))
+    go false h = accepted-once h
 
 abbrev pub start : Buffers → Moment
 start lent = record { wanted = place 0 0; standing = T.Lost; holder = Neither; mark = false; lent = lent }
@@ -62,10 +60,10 @@ module _ {D : Type 0} {coding : Kind → Coding D} (lawful : AllLawful coding) w
   -- a clip from its opening
   module _ (clip : ℕ) (kind : Kind) (both : Stores) (calls : List (Call D)) where
     abbrev fromFresh : List (Picture D)
-    fromFresh = pictures coding (record { sender = N.fresh clip kind; both = both }) calls
+    fromFresh = pictures coding (record { sender = N.freshSender clip kind; both = both }) calls
 
     in-row : Row coding clip kind 0 (reference Neither both) fromFresh
-    in-row = row coding (λ k. lawful .each k .rendered-long) (record { sender = N.fresh clip kind; both = both }) calls
+    in-row = row coding (λ k. lawful .each k .rendered-long) (record { sender = N.freshSender clip kind; both = both }) calls
 
     sound-fresh : 1 ≤ clip → Sound coding clip kind fromFresh
     sound-fresh l = record {
@@ -86,14 +84,14 @@ module _ {D : Type 0} {coding : Kind → Coding D} (lawful : AllLawful coding) w
   each-part w calls sound (block ∷ blocks) t = (clip-part coding w calls block (t .0), each-part w calls sound blocks (t .1))
 
   module _ {clip : ℕ} {kind : Kind} {sent : List (Picture D)} (sound : Sound coding clip kind sent) where
-    pub start-held : (lent : Buffers) → lengths (kindSize kind) lent ≡ true → Held lawful sound (start lent)
+    pub start-held : (lent : Buffers) → lentLengths (kindSize kind) lent ≡ true → Held lawful sound (start lent)
     start-held lent e = record { named = e; collecting = λ q. absurd (true≢false q); shows = none-shown (kindSize kind) (lent .both) }
 
     -- a receiver of which this holds is right
-    held-right : (answer : Answer) (m : Moment) → refusedLength answer ≡ false → Held lawful sound m → Right shownBy sent (outcomeAt clip kind answer m)
+    held-right : (answer : Said) (m : Moment) → refusedLength answer ≡ false → Held lawful sound m → Right shownBy sent (outcomeAt clip kind answer m)
     unfolding shownBy
     held-right answer m e h =
-        subst (λ (t : Bool). Shows sent (m .standing) (shown (kindSize kind) (pick t Neither (whereShown (m .standing) (m .holder))) (m .lent .both))) (sym e) (h .shows)
+        subst (λ (t : Bool). Shows sent (m .standing) (shownStore (kindSize kind) (pick t Neither (whereShown (m .standing) (m .holder))) (m .lent .both))) (sym e) (h .shows)
 
     pub upon-right : (m : Moment) → Held lawful sound m → (blocks : List (List ℕ)) → Parts lawful sound blocks → (block : List ℕ) → Part coding sent block
         → Right shownBy sent (upon (step coding) (worldAt clip kind m) blocks block)
@@ -104,19 +102,19 @@ module _ {D : Type 0} {coding : Kind → Coding D} (lawful : AllLawful coding) w
         (held-right (g .comes .answer) (g .next) (g .comes .long) (g .held))
 
     -- ---- where a lent buffer hasn't its named length, each call is refused by 1
-    module _ (lent : Buffers) (e : lengths (kindSize kind) lent ≡ false) where
-      short : (block : List ℕ) → step coding (fresh clip kind) block lent ≡ outcomeAt clip kind (A.Refused (refusal Length 0)) (start lent)
-      unfolding step decide judged byJudgement cameTo
+    module _ (lent : Buffers) (e : lentLengths (kindSize kind) lent ≡ false) where
+      short : (block : List ℕ) → step coding (freshReceiver clip kind) block lent ≡ outcomeAt clip kind (A.refused 1 0) (start lent)
+      unfolding step decide judgedBlock byJudgement cameTo
       short block =
-          ap (λ (t : Bool). cameTo coding (fresh clip kind) block lent (byJudgement coding (pick t (judgeOf (kindSize kind) clip block) (refusedBy Length)) (fresh clip kind) block (lent .collection))) e
+          ap (λ (t : Bool). cameTo coding (freshReceiver clip kind) block lent (byJudgement coding (pick t (judgeOf (kindSize kind) clip block) (refused 1 0)) (freshReceiver clip kind) block (lent .collection))) e
 
-      short-run : (blocks : List (List ℕ)) → given (step coding) (worldAt clip kind (start lent)) blocks ≡ worldAt clip kind (start lent)
-      unfolding given
+      short-run : (blocks : List (List ℕ)) → worldGiven (step coding) (worldAt clip kind (start lent)) blocks ≡ worldAt clip kind (start lent)
+      unfolding worldGiven
       short-run [] = refl
-      short-run (block ∷ blocks) = ap (λ (x : Outcome). given (step coding) (record { receiver = x .gave .next; lent = x .left }) blocks) (short block) ∙ short-run blocks
+      short-run (block ∷ blocks) = ap (λ (x : Outcome). worldGiven (step coding) (record { receiver = x .gave .next; lent = x .left }) blocks) (short block) ∙ short-run blocks
 
-      none : Right shownBy sent (outcomeAt clip kind (A.Refused (refusal Length 0)) (start lent))
-      unfolding shownBy number
+      none : Right shownBy sent (outcomeAt clip kind (A.refused 1 0) (start lent))
+      unfolding shownBy
       none = none-shown (kindSize kind) (lent .both)
 
       short-right : (blocks : List (List ℕ)) (block : List ℕ) → Right shownBy sent (upon (step coding) (worldAt clip kind (start lent)) blocks block)
@@ -125,9 +123,9 @@ module _ {D : Type 0} {coding : Kind → Coding D} (lawful : AllLawful coding) w
 
     fresh-right : (lent : Buffers) (blocks : List (List ℕ)) → Parts lawful sound blocks → (block : List ℕ) → Part coding sent block
         → Right shownBy sent (upon (step coding) (worldAt clip kind (start lent)) blocks block)
-    fresh-right lent blocks t block b = go (lengths (kindSize kind) lent) refl
+    fresh-right lent blocks t block b = go (lentLengths (kindSize kind) lent) refl
       where
-        go : (named : Bool) → lengths (kindSize kind) lent ≡ named → Right shownBy sent (upon (step coding) (worldAt clip kind (start lent)) blocks block)
+        go : (named : Bool) → lentLengths (kindSize kind) lent ≡ named → Right shownBy sent (upon (step coding) (worldAt clip kind (start lent)) blocks block)
         go true e = upon-right (start lent) (start-held lent e) blocks t block b
         go false e = short-right lent e blocks block
 

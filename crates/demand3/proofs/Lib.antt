@@ -8,3 +8,4 @@ pub mod InStep
 pub mod Sent
 pub mod Step
 pub mod WholeClip
+pub mod Reconstructed

@@ -13,23 +13,21 @@ use lib.ListN.{length, getElem?, take, drop}
 use lib.Seq.{drop-drop}
 use Rattle.laws.specs.Choice.{pick, both, either, opposite}
 use Rattle.laws.proofs.Choice.{two-of, if-so}
-use Rattle.refusals.specs.declared.Reason.{Reason}
+use Rattle.refusals.specs.Told.{Told, accepted, refused}
 use Rattle.coding.specs.declared.Kind.{Kind}
 use Rattle.size.specs.Size.{limit, storeLength}
 use Rattle.vault.specs.Block.{pictures as mostPictures}
 use Rattle.vault.specs.Parts.{partCount, blockAt}
 use Rattle.vault.proofs.Collected.{nth}
-use Rattle.standing.specs.Stores.{goesInto, reference, kept, shown}
+use Rattle.standing.specs.Stores.{goesInto, reference, storesWith, shownStore}
 use Rattle.sender.specs.declared.Sender.{Sender}
-use Rattle.sender.specs.declared.Answer.{Answer}
 use Rattle.coding.specs.Coding.{Coding}
 use Rattle.coding.specs.Kind.{kindSize}
 use Rattle.coding.specs.Described.{bytesIn}
-use Rattle.sender.specs.Send.{Buffers, Judgement, sends, refuses, Outcome, lengths, judge, blocksSent, cameTo, step}
-use Rattle.sender.specs.Run.{Call, World, cut, added, called, after, clipOf}
+use Rattle.sender.specs.Send.{Buffers, Judgement, sends, refuses, Outcome, lentLengths, judge, blocksSent, cameTo, step}
+use Rattle.sender.specs.Run.{Call, World, cut, blocksAdded, callOutcome, worldAfter, clipOf}
 use Rattle.demand3.specs.Clip.{Picture, sentAs, pictures, PartOf}
 use Rattle.demand3.proofs.Finished.{kept-reference, kept-shown}
-use Rattle.sender.specs.declared.Answer.the-variants as A
 
 -- ---- of lists
 pub member-at : {A : Type 0} {a : A} {l : List A} → List·Memᴰ a l → (i : ℕ) × (getElem? l i ≡ some a)
@@ -56,13 +54,13 @@ cut-at (suc n) out (suc i) block e =
     (omega arith, ap (take 512) (sym (drop-drop (512 * i) 512 out ∙ ap (λ (k : ℕ). drop k out) next)) ∙ rest .1)
 
 -- ---- one call
-never : (reason : Reason) → refuses reason ≡ sends → ⊥
-never reason e = let z : _≡_ {A = ℕ} 0 1 = cc in omega arith
+never : (n : ℕ) → refuses n ≡ sends → ⊥
+never n e = let z : _≡_ {A = ℕ} 0 1 = cc in omega arith
 
 -- a test whose failure refuses
-passed : (t : Bool) (x : Judgement) (reason : Reason) → pick t x (refuses reason) ≡ sends → (t ≡ true) × (x ≡ sends)
-passed true x reason e = (refl, e)
-passed false x reason e = absurd (never reason e)
+passed : (t : Bool) (x : Judgement) (n : ℕ) → pick t x (refuses n) ≡ sends → (t ≡ true) × (x ≡ sends)
+passed true x n e = (refl, e)
+passed false x n e = absurd (never n e)
 
 module _ {D : Type 0} (coding : Kind → Coding D) where
   -- what is known of a picture that was sent
@@ -82,7 +80,7 @@ module _ {D : Type 0} (coding : Kind → Coding D) where
   Row clip kind n before (x ∷ xs) = Whole clip kind n x × (x .store ≡ coding kind .render (x .description) before) × Row clip kind (n + 1) (x .store) xs
 
   record Passed (s : Sender) (d : D) (b : Buffers) : Type 0 where
-    named : lengths (kindSize (s .kind)) b ≡ true
+    named : lentLengths (kindSize (s .kind)) b ≡ true
     few : s .picture < mostPictures
     first : s .picture ≡ 0 → coding (s .kind) .refresh d ≡ true
     valid : coding (s .kind) .valid d ≡ true
@@ -91,7 +89,7 @@ module _ {D : Type 0} (coding : Kind → Coding D) where
   passed-all : (s : Sender) (d : D) (b : Buffers) → judge coding s d b ≡ sends → Passed s d b
   unfolding judge
   passed-all s d b e =
-      let one = passed (both (coding (s .kind) .named d) (lengths (kindSize (s .kind)) b)) _ _ e in
+      let one = passed (both (coding (s .kind) .named d) (lentLengths (kindSize (s .kind)) b)) _ _ e in
       let few = passed (ltb (s .picture) mostPictures) _ _ (one .1) in
       let valid = passed (coding (s .kind) .valid d) _ _ (few .1) in
       let first = passed (either (opposite (eqb (s .picture) 0)) (coding (s .kind) .refresh d)) _ _ (valid .1) in
@@ -112,14 +110,14 @@ module _ {D : Type 0} (coding : Kind → Coding D) where
         Row (x .gave .next .clip) (x .gave .next .kind) (x .gave .next .picture) (reference (x .gave .next .holder) (x .left .both)) rest
         → Row (w .sender .clip) (w .sender .kind) (w .sender .picture) (reference (w .sender .holder) (w .both)) (sentAs (x .gave .answer) call x ++ rest))
     unfolding cameTo blocksSent
-    sent-row w call (refuses reason) rest e h = h
+    sent-row w call (refuses n) rest e h = h
     sent-row w call sends rest e h =
         let s : Sender = w .sender in
         let b : Buffers = record { out = call .out; both = w .both } in
         let p : Passed s (call .description) b = passed-all s (call .description) b e in
         let fits = two-of (eqb (length (call .out)) _) _ (p .named) .1 in
         let drawn : List ℕ = coding (s .kind) .render (call .description) (reference (s .holder) (w .both)) in
-        let is : shown (kindSize (s .kind)) (goesInto (s .holder)) (kept (s .holder) drawn (w .both)) ≡ drawn = kept-shown (kindSize (s .kind)) (s .holder) drawn (w .both) (long (s .kind) (call .description) _) fits in
+        let is : shownStore (kindSize (s .kind)) (goesInto (s .holder)) (storesWith (s .holder) drawn (w .both)) ≡ drawn = kept-shown (kindSize (s .kind)) (s .holder) drawn (w .both) (long (s .kind) (call .description) _) fits in
         let bits = coding (s .kind) .written (call .description) in (
           record {
             valid = p .valid;
@@ -136,11 +134,11 @@ module _ {D : Type 0} (coding : Kind → Coding D) where
         )
 
     pub row : (w : World) (calls : List (Call D)) → Row (w .sender .clip) (w .sender .kind) (w .sender .picture) (reference (w .sender .holder) (w .both)) (pictures coding w calls)
-    unfolding pictures called after step
+    unfolding pictures callOutcome worldAfter step
     row w [] = tt
     row w (call ∷ calls) =
-        sent-row w call (judge coding (w .sender) (call .description) (record { out = call .out; both = w .both })) (pictures coding (after coding w call) calls) refl
-        (row (after coding w call) calls)
+        sent-row w call (judge coding (w .sender) (call .description) (record { out = call .out; both = w .both })) (pictures coding (worldAfter coding w call) calls) refl
+        (row (worldAfter coding w call) calls)
 
   -- ---- a picture of a row
   pub row-whole : (clip : ℕ) (kind : Kind) (n : ℕ) (before : List ℕ) (xs : List (Picture D)) → Row clip kind n before xs → (i : ℕ) (x : Picture D) → getElem? xs i ≡ some x → (p : ℕ) → p ≡ n + i → Whole clip kind p x
@@ -176,26 +174,26 @@ module _ {D : Type 0} (coding : Kind → Coding D) where
     pub part : ℕ
     pub is : PartOf sent p part block
 
-  added-part : (a : Answer) (call : Call D) (x : Outcome) (rest : List (Picture D)) (block : List ℕ) → List·Memᴰ block (added a (x .left .out)) → Part (sentAs a call x ++ rest) block
-  added-part (A.Refused why) call x rest block m = absurd (List·Memᴰ·not-nil m)
-  added-part (A.Blocks n) call x rest block m =
+  added-part : (a : Told ℕ) (call : Call D) (x : Outcome) (rest : List (Picture D)) (block : List ℕ) → List·Memᴰ block (blocksAdded a (x .left .out)) → Part (sentAs a call x ++ rest) block
+  added-part (refused n place) call x rest block m = absurd (List·Memᴰ·not-nil m)
+  added-part (accepted n) call x rest block m =
       let found = member-at m in
       record { p = 0; part = found .0; is = record { picture = _; at = refl; has = found .1 } }
 
-  later-part : (a : Answer) (call : Call D) (x : Outcome) (rest : List (Picture D)) (block : List ℕ) → Part rest block → Part (sentAs a call x ++ rest) block
-  later-part (A.Refused why) call x rest block h = h
-  later-part (A.Blocks n) call x rest block h = record { p = suc (h .p); part = h .part; is = record { picture = h .is .picture; at = h .is .at; has = h .is .has } }
+  later-part : (a : Told ℕ) (call : Call D) (x : Outcome) (rest : List (Picture D)) (block : List ℕ) → Part rest block → Part (sentAs a call x ++ rest) block
+  later-part (refused n place) call x rest block h = h
+  later-part (accepted n) call x rest block h = record { p = suc (h .p); part = h .part; is = record { picture = h .is .picture; at = h .is .at; has = h .is .has } }
 
   -- each block of the clip is a part of a picture that was sent
   pub clip-part : (w : World) (calls : List (Call D)) (block : List ℕ) → List·Memᴰ block (clipOf coding w calls) → Part (pictures coding w calls) block
   unfolding clipOf pictures
   clip-part w [] block m = absurd (List·Memᴰ·not-nil m)
   clip-part w (call ∷ calls) block m =
-      let x = called coding w call in
-      go (λ k. clip-part (after coding w call) calls block k) (List·Memᴰ·append-cases (added (x .gave .answer) (x .left .out)) m)
+      let x = callOutcome coding w call in
+      go (λ k. clip-part (worldAfter coding w call) calls block k) (List·Memᴰ·append-cases (blocksAdded (x .gave .answer) (x .left .out)) m)
     where
-      go : (List·Memᴰ block (clipOf coding (after coding w call) calls) → Part (pictures coding (after coding w call) calls) block)
-          → List·Memᴰ block (added (called coding w call .gave .answer) (called coding w call .left .out)) ⊎ List·Memᴰ block (clipOf coding (after coding w call) calls)
-          → Part (sentAs (called coding w call .gave .answer) call (called coding w call) ++ pictures coding (after coding w call) calls) block
-      go below (inl k) = added-part (called coding w call .gave .answer) call (called coding w call) (pictures coding (after coding w call) calls) block k
-      go below (inr k) = later-part (called coding w call .gave .answer) call (called coding w call) (pictures coding (after coding w call) calls) block (below k)
+      go : (List·Memᴰ block (clipOf coding (worldAfter coding w call) calls) → Part (pictures coding (worldAfter coding w call) calls) block)
+          → List·Memᴰ block (blocksAdded (callOutcome coding w call .gave .answer) (callOutcome coding w call .left .out)) ⊎ List·Memᴰ block (clipOf coding (worldAfter coding w call) calls)
+          → Part (sentAs (callOutcome coding w call .gave .answer) call (callOutcome coding w call) ++ pictures coding (worldAfter coding w call) calls) block
+      go below (inl k) = added-part (callOutcome coding w call .gave .answer) call (callOutcome coding w call) (pictures coding (worldAfter coding w call) calls) block k
+      go below (inr k) = later-part (callOutcome coding w call .gave .answer) call (callOutcome coding w call) (pictures coding (worldAfter coding w call) calls) block (below k)

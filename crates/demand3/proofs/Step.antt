@@ -15,25 +15,24 @@ use Rattle.size.specs.declared.Size.{Size}
 use Rattle.size.specs.declared.Size.the-variants.{SubQcif, Qcif, Cif}
 use Rattle.size.specs.Size.{limit, collectionLength}
 use Rattle.vault.specs.declared.Header.{Header}
-use Rattle.vault.specs.declared.Checked.{Checked}
-use Rattle.vault.specs.declared.Checked.the-variants.{Good}
+use Rattle.refusals.specs.Told.{Told, accepted}
 use Rattle.vault.specs.Block.{payloadOf, judgeOf}
-use Rattle.vault.specs.Parts.{partCount, usedAt, payloadAt, headerAt, blockAt, placed}
+use Rattle.vault.specs.Parts.{partCount, usedAt, payloadAt, headerAt, blockAt, placedPayload}
 use Rattle.vault.proofs.Cut.{at-length}
 use Rattle.vault.specs.Collected.{Collected}
 use Rattle.vault.proofs.Collected.{collected-more, placed-length, at-judged, at-payload, count-back}
 use Rattle.standing.specs.declared.Holder.{Holder}
-use Rattle.standing.specs.Stores.{Stores, goesInto, reference, kept}
+use Rattle.standing.specs.Stores.{Stores, goesInto, reference, storesWith}
 use Rattle.standing.specs.declared.Place.{Place}
 use Rattle.standing.specs.declared.Standing.{Standing}
 use Rattle.standing.specs.declared.Progress.{Progress}
 use Rattle.standing.specs.declared.Receiver.{Receiver}
 use Rattle.standing.specs.declared.Line.{Line}
 use Rattle.standing.specs.declared.Line.the-variants.{Earlier, Next, Anew, Otherwise}
-use Rattle.standing.specs.declared.Answer.{Answer}
-use Rattle.coding.specs.Coding.{Coding, accepted}
+use Rattle.standing.specs.Answered.{Said, reply}
+use Rattle.coding.specs.Coding.{Coding}
 use Rattle.coding.specs.Kind.{kindSize, AllLawful}
-use Rattle.standing.specs.Receive.{place, progress, lastIn, Event, old, taken, lost, finished, Buffers, lengths, judged, lineOf, ended, tookOf, byLine, byJudgement, decide, received, Outcome, cameTo, step}
+use Rattle.standing.specs.Receive.{place, progress, lastIn, Event, old, taken, lost, finished, Buffers, lentLengths, judgedBlock, lineOf, endedPicture, tookOf, byLine, byJudgement, decide, Outcome, cameTo, step}
 use Rattle.standing.specs.Shown.{refusedLength}
 use Rattle.standing.specs.Run.{World}
 use Rattle.coding.specs.Described.{bytesIn}
@@ -42,7 +41,7 @@ use Rattle.demand3.proofs.Filled.{collected-holds}
 use Rattle.demand3.proofs.Finished.{bothSized}
 use Rattle.vault.specs.Collected as K
 use Rattle.standing.specs.declared.Standing.the-variants as T
-use Rattle.standing.specs.declared.Answer.the-variants as A
+use Rattle.standing.specs.Answered as A
 
 -- ---- a receiver of the clip, with what it is lent
 pub record Moment : Type 0 where
@@ -63,8 +62,8 @@ module _ (clip : ℕ) (kind : Kind) where
   abbrev pub worldAt : Moment → World
   worldAt m = record { receiver = receiverAt m; lent = m .lent }
 
-  abbrev pub outcomeAt : Answer → Moment → Outcome
-  outcomeAt answer m = record { gave = received answer (receiverAt m); left = m .lent }
+  abbrev pub outcomeAt : Said → Moment → Outcome
+  outcomeAt answer m = record { gave = reply answer (receiverAt m); left = m .lent }
 
 -- the mark, once this block is taken
 abbrev pub marked : Moment → Header → Bool
@@ -81,7 +80,7 @@ further m header standing block = record {
   standing = standing;
   holder = m .holder;
   mark = marked m header;
-  lent = record { collection = placed block (header .part) (m .lent .collection); both = m .lent .both };
+  lent = record { collection = placedPayload block (header .part) (m .lent .collection); both = m .lent .both };
 }
 
 -- in step, with this picture
@@ -91,7 +90,7 @@ arrived m header block picture = record {
   standing = T.InStep (header .picture);
   holder = goesInto (m .holder);
   mark = marked m header;
-  lent = record { collection = placed block (header .part) (m .lent .collection); both = kept (m .holder) picture (m .lent .both) };
+  lent = record { collection = placedPayload block (header .part) (m .lent .collection); both = storesWith (m .holder) picture (m .lent .both) };
 }
 
 -- ---- a block of the clip
@@ -110,7 +109,7 @@ module _ {D : Type 0} (coding : Kind → Coding D) (kind : Kind) (x : Picture D)
     pub is : blockAt clip p refreshOf (bytesIn bitsOf) (length bitsOf) part ≡ block
 
   module _ {clip p part : ℕ} {block : List ℕ} (b : Block clip p part block) where
-    pub block-judged : judgeOf (kindSize kind) clip block ≡ Good (headerOf clip p part)
+    pub block-judged : judgeOf (kindSize kind) clip block ≡ accepted (headerOf clip p part)
     block-judged = ap (judgeOf (kindSize kind) clip) (sym (b .is)) ∙ at-judged clip p refreshOf (bytesIn bitsOf) (length bitsOf) (kindSize kind) part (b .part-is)
 
     pub block-payload : payloadOf block ≡ payloadAt (bytesIn bitsOf) (length bitsOf) part
@@ -120,13 +119,13 @@ module _ {D : Type 0} (coding : Kind → Coding D) (kind : Kind) (x : Picture D)
     block-long = ap length (sym (b .is)) ∙ at-length clip p refreshOf (bytesIn bitsOf) (length bitsOf) part
 
 -- ---- lengths
-pub collection-is : (size : Size) (b : Buffers) → lengths size b ≡ true → length (b .collection) ≡ collectionLength size
+pub collection-is : (size : Size) (b : Buffers) → lentLengths size b ≡ true → length (b .collection) ≡ collectionLength size
 collection-is size b e = eqb-true (length (b .collection)) (collectionLength size) (two-of (eqb (length (b .collection)) (collectionLength size)) _ e .0)
 
-pub stores-are : (size : Size) (b : Buffers) → lengths size b ≡ true → bothSized size (b .both) ≡ true
+pub stores-are : (size : Size) (b : Buffers) → lentLengths size b ≡ true → bothSized size (b .both) ≡ true
 stores-are size b e = two-of (eqb (length (b .collection)) (collectionLength size)) _ e .1
 
-pub lengths-make : (size : Size) (collection : List ℕ) (s : Stores) → length collection ≡ collectionLength size → bothSized size s ≡ true → lengths size (record { collection = collection; both = s }) ≡ true
+pub lengths-make : (size : Size) (collection : List ℕ) (s : Stores) → length collection ≡ collectionLength size → bothSized size s ≡ true → lentLengths size (record { collection = collection; both = s }) ≡ true
 lengths-make size collection s l e = rw (eq-eqb (length collection) (collectionLength size) l) e
 
 room-in : (size : Size) (count part : ℕ) → count ≤ limit size → part < partCount count → (500 * part + 500 ≤ collectionLength size) × (500 * partCount count ≤ collectionLength size)
@@ -138,11 +137,16 @@ room-in Cif count part l p = (omega arith, omega arith)
 module _ {D : Type 0} {coding : Kind → Coding D} (lawful : AllLawful coding) (clip : ℕ) (kind : Kind) where
   -- the call gives back and leaves the receiver and its buffers so
   pub record Comes (m : Moment) (block : List ℕ) (n : Moment) : Type 0 where
-    pub answer : Answer
+    pub answer : Said
     pub long : refusedLength answer ≡ false
     pub is : step coding (receiverAt clip kind m) block (m .lent) ≡ outcomeAt clip kind answer n
 
-  module _ {x : Picture D} {p part : ℕ} {block : List ℕ} (b : Block coding kind x clip p part block) (m : Moment) (named : lengths (kindSize kind) (m .lent) ≡ true) where
+  -- and answers that picture p is finished
+  pub record Finishing (p : ℕ) (m : Moment) (block : List ℕ) (n : Moment) : Type 0 where
+    pub comes : Comes m block n
+    pub answers : comes .answer ≡ A.picture p
+
+  module _ {x : Picture D} {p part : ℕ} {block : List ℕ} (b : Block coding kind x clip p part block) (m : Moment) (named : lentLengths (kindSize kind) (m .lent) ≡ true) where
     abbrev r : Receiver
     r = receiverAt clip kind m
 
@@ -150,7 +154,7 @@ module _ {D : Type 0} {coding : Kind → Coding D} (lawful : AllLawful coding) (
     header = headerOf coding kind x clip p part
 
     abbrev after : List ℕ
-    after = placed block part (m .lent .collection)
+    after = placedPayload block part (m .lent .collection)
 
     abbrev count : ℕ
     count = length (bitsOf coding kind x)
@@ -164,18 +168,18 @@ module _ {D : Type 0} {coding : Kind → Coding D} (lawful : AllLawful coding) (
     pub after-long : length after ≡ collectionLength (kindSize kind)
     after-long = placed-length block part (m .lent .collection) (block-long coding kind x b) (has-room .0) ∙ collection-is (kindSize kind) (m .lent) named
 
-    judged-good : judged r block (m .lent) ≡ Good header
-    unfolding judged
+    judged-good : judgedBlock r block (m .lent) ≡ accepted header
+    unfolding judgedBlock
     judged-good = rw named (block-judged coding kind x b)
 
     decided : (e : Event D) → byLine coding (lineOf (progressAt m) header) r header block (m .lent .collection) ≡ e → step coding r block (m .lent) ≡ cameTo coding r block (m .lent) e
     unfolding step decide byJudgement
-    decided e q = ap (cameTo coding r block (m .lent)) (ap (λ (c : Checked). byJudgement coding c r block (m .lent .collection)) judged-good ∙ q)
+    decided e q = ap (cameTo coding r block (m .lent)) (ap (λ (c : Told Header). byJudgement coding c r block (m .lent .collection)) judged-good ∙ q)
 
     pub comes-old : lineOf (progressAt m) header ≡ Earlier → Comes m block m
     unfolding byLine cameTo
     comes-old q = record {
-      answer = A.Old p part;
+      answer = A.old p part;
       long = refl;
       is = decided (old header) (ap (λ (l : Line). byLine coding l r header block (m .lent .collection)) q);
     }
@@ -183,10 +187,14 @@ module _ {D : Type 0} {coding : Kind → Coding D} (lawful : AllLawful coding) (
     pub comes-lost : lineOf (progressAt m) header ≡ Otherwise → Comes m block (astray m)
     unfolding byLine cameTo
     comes-lost q = record {
-      answer = A.Lost;
+      answer = A.lost;
       long = refl;
       is = decided lost (ap (λ (l : Line). byLine coding l r header block (m .lent .collection)) q);
     }
+
+    pub lost-answers : (q : lineOf (progressAt m) header ≡ Otherwise) → comes-lost q .answer ≡ A.lost
+    unfolding comes-lost
+    lost-answers q = refl
 
     -- taken, and standing so until the picture is finished
     pub record Takes (standing : Standing) : Type 0 where
@@ -203,10 +211,14 @@ module _ {D : Type 0} {coding : Kind → Coding D} (lawful : AllLawful coding) (
     pub comes-further : (standing : Standing) → Takes standing → eqb (part + 1) (partCount count) ≡ false → Comes m block (further m header standing block)
     unfolding tookOf cameTo
     comes-further standing t e = record {
-      answer = A.Taken p part;
+      answer = A.taken p part;
       long = refl;
-      is = decided (taken header standing) (t .by ∙ ap (λ (z : Bool). pick z (ended coding r header (coding kind .read after (4000 * part + usedAt count part))) (taken header standing)) e);
+      is = decided (taken header standing) (t .by ∙ ap (λ (z : Bool). pick z (endedPicture coding r header (coding kind .read after (4000 * part + usedAt count part))) (taken header standing)) e);
     }
+
+    pub further-answers : (standing : Standing) (t : Takes standing) (e : eqb (part + 1) (partCount count) ≡ false) → comes-further standing t e .answer ≡ A.taken p part
+    unfolding comes-further
+    further-answers standing t e = refl
 
     -- the picture is read back
     pub collected-part : Collected (bytesIn (bitsOf coding kind x)) count part (m .lent .collection) → Collected (bytesIn (bitsOf coding kind x)) count (part + 1) after
@@ -231,21 +243,24 @@ module _ {D : Type 0} {coding : Kind → Coding D} (lawful : AllLawful coding) (
           self true = refl
           self false = refl
 
-      finds : marked m header ≡ refreshOf coding kind x → ended coding r header (coding kind .read after (4000 * part + usedAt count part)) ≡ finished header (x .description)
-      unfolding ended
+      finds : marked m header ≡ refreshOf coding kind x → endedPicture coding r header (coding kind .read after (4000 * part + usedAt count part)) ≡ finished header (x .description)
+      unfolding endedPicture
       finds e =
-          ap (ended coding r header) reads-back
+          ap (endedPicture coding r header) reads-back
           ∙ rw (true-mark (coding kind .refresh (x .description)) (marked m header) (sym e))
 
       pub comes-arrived : (standing : Standing) → Takes standing → marked m header ≡ refreshOf coding kind x
-          → Comes m block (arrived m header block (coding kind .render (x .description) (reference (m .holder) (m .lent .both))))
+          → Finishing p m block (arrived m header block (coding kind .render (x .description) (reference (m .holder) (m .lent .both))))
       unfolding tookOf cameTo
       comes-arrived standing t e = record {
-        answer = A.Picture p;
-        long = refl;
-        is =
-            decided (finished header (x .description))
-            (t .by
-            ∙ ap (λ (z : Bool). pick z (ended coding r header (coding kind .read after (4000 * part + usedAt count part))) (taken header standing)) is-last
-            ∙ finds e);
+        comes = record {
+          answer = A.picture p;
+          long = refl;
+          is =
+              decided (finished header (x .description))
+              (t .by
+              ∙ ap (λ (z : Bool). pick z (endedPicture coding r header (coding kind .read after (4000 * part + usedAt count part))) (taken header standing)) is-last
+              ∙ finds e);
+        };
+        answers = refl;
       }

@@ -1,7 +1,7 @@
 -- What demand 3's last sentence comes to where nothing is missing: each picture's own blocks arrive in order, so with all blocks of a clip, as they were written, a receiver is in step at the
 -- last picture. Assumes nothing.
 use mathlib.Core.Path.{_≡_, refl, sym, ap, subst, _∙_}
-use mathlib.Core.Bool.{true, false}
+use mathlib.Core.Bool.{false}
 use mathlib.Core.List.{List, [], _∷_, _++_}
 use mathlib.Core.Option.{some}
 use Prim.Native.Nat.{ℕ, suc, _+_}
@@ -9,17 +9,16 @@ use native.Mathlib.Nat.{add-zero, zero-add}
 use native.Mathlib.Omega.{arith}
 use lib.ListN.{length, getElem?}
 use Rattle.coding.specs.declared.Kind.{Kind}
-use Rattle.sender.specs.declared.Answer.{Answer}
+use Rattle.refusals.specs.Told.{Told, accepted, refused}
 use Rattle.sender.specs.Send.{Outcome}
-use Rattle.sender.specs.Run.{Call, World, added, called, after, clipOf}
+use Rattle.sender.specs.Run.{Call, World, blocksAdded, callOutcome, worldAfter, clipOf}
 use Rattle.standing.specs.declared.Receiver.{Receiver}
 use Rattle.coding.specs.Coding.{Coding}
-use Rattle.standing.specs.Receive.{place, earlier}
-use Rattle.demand3.specs.Clip.{Picture, sentAs, pictures, Clip, opening, blocksIn, picturesIn, begin, given}
+use Rattle.standing.specs.Receive.{place, earlierPlace}
+use Rattle.demand3.specs.Clip.{Picture, sentAs, pictures, opening, blocksIn, picturesIn, begin, worldGiven}
 use Rattle.demand3.specs.Arrives.{Arrives, all, next, Follow, inTurn, InStepAt}
 use Rattle.demand3.specs.Theorems.{WholeClipInStep}
 use Rattle.demand3.proofs.InStep.{receiver-opened, sound-clip}
-use Rattle.sender.specs.declared.Answer.the-variants as A
 
 shift : (p i : ℕ) → p + suc i ≡ p + 1 + i
 shift p i = omega arith
@@ -51,21 +50,21 @@ module _ {D : Type 0} where
       (own-arrive sent p x (ap (getElem? sent) (sym (add-zero p)) ∙ sym (h 0)), own-follow sent (p + 1) xs (λ i. h (suc i) ∙ ap (getElem? sent) (shift p i)))
 
   -- ---- the clip is the pictures' blocks in turn
-  in-turn : (a : Answer) (call : Call D) (x : Outcome) (rest : List (Picture D)) (blocks : List (List ℕ)) → blocks ≡ inTurn (blocksEach rest)
-      → added a (x .left .out) ++ blocks ≡ inTurn (blocksEach (sentAs a call x ++ rest))
-  in-turn (A.Blocks n) call x rest blocks e = ap (λ (l : List (List ℕ)). added (A.Blocks n) (x .left .out) ++ l) e
-  in-turn (A.Refused why) call x rest blocks e = e
+  in-turn : (a : Told ℕ) (call : Call D) (x : Outcome) (rest : List (Picture D)) (blocks : List (List ℕ)) → blocks ≡ inTurn (blocksEach rest)
+      → blocksAdded a (x .left .out) ++ blocks ≡ inTurn (blocksEach (sentAs a call x ++ rest))
+  in-turn (accepted n) call x rest blocks e = ap (λ (l : List (List ℕ)). blocksAdded (accepted n) (x .left .out) ++ l) e
+  in-turn (refused n place) call x rest blocks e = e
 
   pub clip-in-turn : (coding : Kind → Coding D) (w : World) (calls : List (Call D)) → clipOf coding w calls ≡ inTurn (blocksEach (pictures coding w calls))
   unfolding clipOf pictures
   clip-in-turn coding w [] = refl
   clip-in-turn coding w (call ∷ calls) =
-      in-turn (called coding w call .gave .answer) call (called coding w call) (pictures coding (after coding w call) calls) (clipOf coding (after coding w call) calls)
-      (clip-in-turn coding (after coding w call) calls)
+      in-turn (callOutcome coding w call .gave .answer) call (callOutcome coding w call) (pictures coding (worldAfter coding w call) calls) (clipOf coding (worldAfter coding w call) calls)
+      (clip-in-turn coding (worldAfter coding w call) calls)
 
 -- THE THEOREM
 pub whole-clip : WholeClipInStep
-unfolding given
+unfolding worldGiven
 whole-clip D coding lawful receive show catches c r named x xs e =
     subst (λ (k : ℕ). InStepAt receive show (picturesIn coding c) k (begin r) (blocksIn coding c)) (zero-add (length (blocksEach xs)) ∙ each-length xs)
     (subst (λ (blocks : List (List ℕ)). InStepAt receive show (picturesIn coding c) (0 + length (blocksEach xs)) (begin r) blocks) (sym all-blocks)
@@ -84,5 +83,5 @@ whole-clip D coding lawful receive show catches c r named x xs e =
     all-blocks : blocksIn coding c ≡ x .blocks ++ inTurn (blocksEach xs)
     all-blocks = clip-in-turn coding (opening coding c) (c .calls) ∙ ap (λ (l : List (Picture D)). inTurn (blocksEach l)) e
 
-    not-past : earlier (place 0 0) (r .receiver .progress .wanted) ≡ false
-    not-past = ap (λ (q : Receiver). earlier (place 0 0) (q .progress .wanted)) (sym (receiver-opened (c .number) (c .kind) (r .receiver) (r .is-open)))
+    not-past : earlierPlace (place 0 0) (r .receiver .progress .wanted) ≡ false
+    not-past = ap (λ (q : Receiver). earlierPlace (place 0 0) (q .progress .wanted)) (sym (receiver-opened (c .number) (c .kind) (r .receiver) (r .is-open)))

@@ -7,6 +7,7 @@ use Prim.Native.Nat.{ℕ, _+_}
 use lib.ListN.{length, getElem?}
 use Rattle.standing.specs.Run.{World}
 use Rattle.demand3.specs.Clip.{Picture, PartOf, Receive, Show, Right, upon}
+use Rattle.standing.specs.Answered as A
 use Rattle.standing.specs.declared.Standing.the-variants as T
 use Rattle.standing.specs.Receive as R
 
@@ -16,7 +17,11 @@ module _ {D : Type 0} (sent : List (Picture D)) where
     pub its-picture : ℕ
     pub its-part : ℕ
     pub is : PartOf sent its-picture its-part block
-    pub earlier : R.earlier (R.place its-picture its-part) (R.place p part) ≡ true
+    pub earlier : R.earlierPlace (R.place its-picture its-part) (R.place p part) ≡ true
+
+  abbrev pub EachOlder : ℕ → ℕ → List (List ℕ) → Type 0
+  EachOlder p part [] = Unit {0}
+  EachOlder p part (block ∷ blocks) = Older p part block × EachOlder p part blocks
 
   -- these blocks, in this order, bring picture p from this part on: each next part in its turn, with older blocks between, and then all have come
   pub data Arrives (p : ℕ) : ℕ → List (List ℕ) → Type 0 where
@@ -34,8 +39,18 @@ abbrev pub inTurn : List (List (List ℕ)) → List (List ℕ)
 inTurn [] = []
 inTurn (blocks ∷ later) = blocks ++ inTurn later
 
--- "finishes that picture in step": with the last of these blocks the receiver stands in step at picture k, and shows the sender's store after it
+-- "finishes that picture": the call for one of these blocks is answered so, and only older ones come after it
+pub record Finishes {D : Type 0} (receive : Receive) (sent : List (Picture D)) (k : ℕ) (w : World) (blocks : List (List ℕ)) : Type 0 where
+  pub before : List (List ℕ)
+  pub block : List ℕ
+  pub after : List (List ℕ)
+  pub is : blocks ≡ before ++ (block ∷ after)
+  pub answers : upon receive w before block .gave .answer ≡ A.picture k
+  pub only-older : EachOlder sent (k + 1) 0 after
+
+-- "finishes that picture in step": and with the last of these blocks the receiver stands in step at picture k, and shows the sender's store after it
 pub record InStepAt {D : Type 0} (receive : Receive) (show : Show) (sent : List (Picture D)) (k : ℕ) (w : World) (blocks : List (List ℕ)) : Type 0 where
+  pub finishes : Finishes receive sent k w blocks
   pub before : List (List ℕ)
   pub block : List ℕ
   pub is : blocks ≡ before ++ (block ∷ [])

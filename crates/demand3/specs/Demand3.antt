@@ -8,8 +8,8 @@ use lib.ListN.{length, getElem?}
 use Rattle.coding.specs.declared.Kind.{Kind}
 use Rattle.coding.specs.Coding.{Coding}
 use Rattle.coding.specs.Kind.{kindSize}
-use Rattle.standing.specs.Receive.{place, earlier, lengths}
-use Rattle.demand3.specs.Clip.{Picture, Clip, blocksIn, picturesIn, Fresh, begin, Each, Receive, Show, given, upon, Right}
+use Rattle.standing.specs.Receive.{place, earlierPlace, lentLengths}
+use Rattle.demand3.specs.Clip.{Picture, Clip, blocksIn, picturesIn, Fresh, begin, Each, Receive, Show, worldGiven, upon, Right}
 use Rattle.demand3.specs.Arrives.{Arrives, Follow, inTurn, InStepAt}
 
 module _ {D : Type 0} (coding : Kind → Coding D) (receive : Receive) (show : Show) where
@@ -24,11 +24,11 @@ module _ {D : Type 0} (coding : Kind → Coding D) (receive : Receive) (show : S
   -- each next picture whose blocks follow on." After any blocks of the clip; every lent buffer has its named length
   abbrev pub CatchesUp : Type 0
   CatchesUp =
-      (c : Clip D) (r : Fresh (c .number) (c .kind)) → lengths (kindSize (c .kind)) (r .lent) ≡ true → (blocks : List (List ℕ)) → Each (blocksIn coding c) blocks
+      (c : Clip D) (r : Fresh (c .number) (c .kind)) → lentLengths (kindSize (c .kind)) (r .lent) ≡ true → (blocks : List (List ℕ)) → Each (blocksIn coding c) blocks
       → (p : ℕ) (picture : Picture D) → getElem? (picturesIn coding c) p ≡ some picture → coding (c .kind) .refresh (picture .description) ≡ true
-      → earlier (place p 0) (given receive (begin r) blocks .receiver .progress .wanted) ≡ false
+      → earlierPlace (place p 0) (worldGiven receive (begin r) blocks .receiver .progress .wanted) ≡ false
       → (first : List (List ℕ)) (later : List (List (List ℕ))) → Arrives (picturesIn coding c) p 0 first → Follow (picturesIn coding c) (p + 1) later
-      → InStepAt receive show (picturesIn coding c) (p + length later) (given receive (begin r) blocks) (first ++ inTurn later)
+      → InStepAt receive show (picturesIn coding c) (p + length later) (worldGiven receive (begin r) blocks) (first ++ inTurn later)
 
   pub record Demand3 : Type 0 where
     pub in-step : InStep

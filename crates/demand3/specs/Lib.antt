@@ -2,3 +2,4 @@ pub mod Clip
 pub mod Arrives
 pub mod Demand3
 pub mod Theorems
+pub mod Reconstructed

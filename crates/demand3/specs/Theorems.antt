@@ -6,7 +6,7 @@ use lib.ListN.{length}
 use Rattle.coding.specs.declared.Kind.{Kind}
 use Rattle.coding.specs.Coding.{Coding}
 use Rattle.coding.specs.Kind.{kindSize, codingOf, AllLawful}
-use Rattle.standing.specs.Receive.{lengths, step}
+use Rattle.standing.specs.Receive.{lentLengths, step}
 use Rattle.standing.specs.Shown.{shownBy}
 use Rattle.demand3.specs.Clip.{Picture, Clip, blocksIn, picturesIn, Fresh, begin, Receive, Show}
 use Rattle.demand3.specs.Arrives.{InStepAt}
@@ -22,7 +22,7 @@ CatchesUpAlways = (D : Type 0) (coding : Kind → Coding D) → AllLawful coding
 -- of any receiver that catches up: with all blocks of a clip of one picture or more, as they were written, it is in step at the last picture
 abbrev pub WholeClipInStep : Type 1
 WholeClipInStep = (D : Type 0) (coding : Kind → Coding D) → AllLawful coding → (receive : Receive) (show : Show) → CatchesUp coding receive show
-    → (c : Clip D) (r : Fresh (c .number) (c .kind)) → lengths (kindSize (c .kind)) (r .lent) ≡ true → (x : Picture D) (xs : List (Picture D)) → picturesIn coding c ≡ x ∷ xs
+    → (c : Clip D) (r : Fresh (c .number) (c .kind)) → lentLengths (kindSize (c .kind)) (r .lent) ≡ true → (x : Picture D) (xs : List (Picture D)) → picturesIn coding c ≡ x ∷ xs
     → InStepAt receive show (picturesIn coding c) (length xs) (begin r) (blocksIn coding c)
 
 -- so it holds against every clip of what `send` is promised to do

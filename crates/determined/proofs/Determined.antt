@@ -12,12 +12,15 @@ use lib.IntN.{ℤ, pos, natAbs, _+ℤ_, -ℤ-+ℤ-cancel}
 use Rattle.laws.proofs.Rows.{rows-same, lt-or-ge}
 use Rattle.refusals.specs.declared.Reason.the-variants.{Length}
 use Rattle.refusals.specs.Number.{refusal}
+use Rattle.refusals.proofs.Told.{verdict-told-once}
+use Rattle.h261_writer.proofs.WriteSteps.{written-told-once}
+use Rattle.standing.proofs.Told.{received-told-once}
+use Rattle.sender.proofs.Told.{sent-told-once}
 use Rattle.bits.specs.Bits.{Bit, bitsOf}
 use Rattle.bits.specs.Read.{Read, got, endless, refused, field}
-use Rattle.bits.proofs.Fields.{field-back}
-use Rattle.bits.specs.Answer.{asField, asWord}
+use Rattle.bits.proofs.Fields.{field-back, length-bitsOf}
+use Rattle.bits.specs.Answer.{asField}
 use Rattle.bits.specs.declared.FieldRead.{FieldRead}
-use Rattle.bits.specs.declared.WordRead.{WordRead}
 use Rattle.h261_words.specs.Words.{Event, sent, over}
 use Rattle.h261_words.specs.Answer.{asCoefficient}
 use Rattle.h261_words.specs.declared.CoefficientRead.{CoefficientRead}
@@ -38,13 +41,14 @@ use Rattle.fields.specs.declared.PlaceRead.{PlaceRead}
 use Rattle.fields.specs.declared.PairRead.{PairRead}
 use Rattle.fields.specs.declared.PlaceRead.{PlaceRead}
 use Rattle.bits.specs.declared.FieldRead.the-variants as F
-use Rattle.bits.specs.declared.WordRead.the-variants as W
 use Rattle.h261_words.specs.declared.CoefficientRead.the-variants as C
 use Rattle.h261_layers.specs.declared.MbaRead.the-variants as M
 use Rattle.h261_layers.specs.declared.MacroblockRead.the-variants as BR
 use Rattle.fields.specs.declared.PlaceRead.the-variants as P
-use Rattle.determined.specs.Determined.{EquationOnce, ReadSaysOnce, ReadLeavesOnce, DecodeSaysOnce, DecodeLeavesOnce, WriteSaysOnce, WriteLeavesOnce, ReceiveOnce, SendOnce, FieldOnce, WordOnce, CoefficientOnce, HeaderOnce, MbaOnce, VectorOnce, MacroblockReadOnce, MacroblockLeftOnce, PlaceOnce, LeftOnce, BlockOnce, CodewordOnce, BitsWroteOnce, BlockWroteOnce, MacroblockOnce, RowsOnce, TextOnce}
+use Rattle.determined.specs.Determined.{EquationOnce, ReadSaysOnce, ReadLeavesOnce, DecodeSaysOnce, DecodeLeavesOnce, WriteSaysOnce, WriteLeavesOnce, ReceiveOnce, SendOnce, HandsBackOnce, FieldOnce, CoefficientOnce, HeaderOnce, MbaOnce, VectorOnce, MacroblockReadOnce, MacroblockLeftOnce, PlaceOnce, LeftOnce, BlockOnce, CodewordOnce, BitsWroteOnce, BlockWroteOnce, MacroblockOnce, RowsOnce, TextOnce}
 use Rattle.fields.specs.declared.PairRead.the-variants as PR
+use Rattle.standing.specs.Receive as R
+use Rattle.sender.specs.Send as S
 
 -- ---- an equation with the answer, with a buffer, or with both
 same-as : {A : Type 0} {a x y : A} → x ≡ a → y ≡ a → x ≡ y
@@ -55,28 +59,35 @@ once A a x y = same-as
 
 -- ---- the entry points: what each promises of its answer, of the buffers that it leaves, or of both at once
 pub read-says-once : ReadSaysOnce
-read-says-once f bytes n before x y = same-as
+read-says-once f bytes n before x y e d = verdict-told-once x y (same-as e d)
 
 pub read-leaves-once : ReadLeavesOnce
 read-leaves-once f bytes n before x y = same-as
 
 pub decode-says-once : DecodeSaysOnce
-decode-says-once k bytes n reference store x y = same-as
+decode-says-once k bytes n reference store x y e d = verdict-told-once x y (same-as e d)
 
 pub decode-leaves-once : DecodeLeavesOnce
 decode-leaves-once k bytes n reference store x y = same-as
 
 pub write-says-once : WriteSaysOnce
-write-says-once f d out x y = same-as
+write-says-once f d out x y a b = written-told-once x y (same-as a b)
 
 pub write-leaves-once : WriteLeavesOnce
 write-leaves-once f d out x y = same-as
 
 pub receive-once : ReceiveOnce
-receive-once r block b x y = same-as
+receive-once r block b x y left after e d =
+    let same = same-as e d in
+    (received-told-once x y (ap (λ (o : R.Outcome). o .gave) same), ap (λ (o : R.Outcome). o .left) same)
 
 pub send-once : SendOnce
-send-once s d b x y = same-as
+send-once s d b x y left after e f =
+    let same = same-as e f in
+    (sent-told-once x y (ap (λ (o : S.Outcome). o .gave) same), ap (λ (o : S.Outcome). o .left) same)
+
+pub hands-back-once : HandsBackOnce
+hands-back-once size holder first second x y h k = (same-as (h .begins) (k .begins), same-as (h .bytes) (k .bytes))
 
 -- ---- an equation with what the answer says: nothing of the answer is lost by that
 through : {A B : Type 0} (says : A → B) (of : B → A) → ((x : A) → of (says x) ≡ x) → {b : B} {x y : A} → says x ≡ b → says y ≡ b → x ≡ y
@@ -92,16 +103,6 @@ module _ (s : List ℕ) (n : ℕ) where
   unfolding fieldOf
   field-of (F.Got v p) = refl
   field-of (F.Refused why) = refl
-
-  wordOf : Read ℕ → WordRead
-  wordOf (got v left p) = W.Got v p
-  wordOf (refused why) = W.Refused why
-  wordOf endless = W.Refused (refusal Length 0)
-
-  word-of : (x : WordRead) → wordOf (asWord s n x) ≡ x
-  unfolding wordOf
-  word-of (W.Got v p) = refl
-  word-of (W.Refused why) = refl
 
   coefficientOf : Read Event → CoefficientRead
   coefficientOf (got (sent c) left p) = C.Coefficient (c .run) (c .code) p
@@ -189,9 +190,6 @@ module _ (s : List ℕ) (n : ℕ) where
 pub field-once : FieldOnce
 field-once s n b x y = through (asField s n) (fieldOf s n) (field-of s n)
 
-pub word-once : WordOnce
-word-once s n b x y = through (asWord s n) (wordOf s n) (word-of s n)
-
 pub coefficient-once : CoefficientOnce
 coefficient-once s n b x y = through (asCoefficient s n) (coefficientOf s n) (coefficient-of s n)
 
@@ -241,14 +239,14 @@ bits-once k a b l m e = inside (sym (field-back k a [] 0 l) ∙ ap (λ (w : List
 
 pub codeword-once : CodewordOnce
 codeword-once w x y h k =
-    let wide : x .width ≡ y .width = h .length-is ∙ sym (k .length-is) in
-    let more : x .bits < 2 ^ (y .width) = subst (λ (n : ℕ). x .bits < 2 ^ n) wide (h .small) in
-    let bits : x .bits ≡ y .bits = bits-once (y .width) (x .bits) (y .bits) more (k .small) (ap (λ (n : ℕ). bitsOf n (x .bits)) (sym wide) ∙ h .is ∙ sym (k .is)) in
+    let wide : x .width ≡ y .width = sym (length-bitsOf (x .width) (x .bits)) ∙ ap length (h .is ∙ sym (k .is)) ∙ length-bitsOf (y .width) (y .bits) in
+    let more : x .bits < 2 ^ (y .width) = subst (λ (n : ℕ). x .bits < 2 ^ n) wide (h .fits .small) in
+    let bits : x .bits ≡ y .bits = bits-once (y .width) (x .bits) (y .bits) more (k .fits .small) (ap (λ (n : ℕ). bitsOf n (x .bits)) (sym wide) ∙ h .is ∙ sym (k .is)) in
     λ i. record { width = wide i; bits = bits i }
 
 -- ---- bits after bits
 pub bits-wrote-once : BitsWroteOnce
-bits-wrote-once most at p q w before t u h k = (same-as (h .is) (k .is), same-as (h .next) (k .next))
+bits-wrote-once at p q w before t u h k = (same-as (h .is) (k .is), same-as (h .next) (k .next))
 
 -- ---- stores: every sample is said, or is as it was
 module _ (f : Size) {t u : List ℕ} (long : length t ≡ storeLength f) (size : length t ≡ length u) where

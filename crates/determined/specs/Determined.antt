@@ -4,13 +4,14 @@ use Prim.Native.Nat.{ℕ, _≤_, _<_}
 use mathlib.Core.Path.{_≡_}
 use mathlib.Core.List.{List}
 use lib.ListN.{length}
+use denote.Ref.{RefT, ptr, now}
 use Rattle.laws.specs.Block.{Is}
 use Rattle.laws.specs.Rows.{Put}
 use Rattle.bits.specs.Bits.{Bit}
 use Rattle.bits.specs.Read.{Read}
-use Rattle.bits.specs.Answer.{asField, asWord}
+use Rattle.bits.specs.Answer.{asField}
 use Rattle.bits.specs.declared.FieldRead.{FieldRead}
-use Rattle.bits.specs.declared.WordRead.{WordRead}
+use Rattle.bits.specs.Appended.{WroteBits}
 use Rattle.h261_words.specs.Words.{Event}
 use Rattle.h261_words.specs.Answer.{asCoefficient}
 use Rattle.h261_words.specs.Written.{Writes}
@@ -31,15 +32,18 @@ use Rattle.h261_layers.specs.declared.MacroblockRead.the-variants.{Got}
 use Rattle.fields.specs.declared.PlaceRead.{PlaceRead}
 use Rattle.fields.specs.declared.PlaceRead.the-variants.{At}
 use Rattle.h261_reader.specs.ReadOf.{ReadSays, ReadLeaves}
-use Rattle.h261_writer.specs.Put.{Wrote as WroteBits}
 use Rattle.h261_writer.specs.Output.{WriteSays, WriteLeaves}
 use Rattle.samples.specs.Content.{Values}
 use Rattle.samples.specs.Wrote.{Wrote, Macroblock}
 use Rattle.coding.specs.declared.Kind.{Kind}
 use Rattle.decoder.specs.Decoded.{DecodeSays, DecodeLeaves}
+use Rattle.standing.specs.declared.Holder.{Holder}
+use Rattle.standing.specs.Stores.{HandsBack}
 use Rattle.standing.specs.declared.Receiver.{Receiver}
+use Rattle.standing.specs.declared.Received.{Received}
 use Rattle.receiver.specs.Receiving.{ReceiveDoes}
 use Rattle.sender.specs.declared.Sender.{Sender}
+use Rattle.sender.specs.declared.Sent.{Sent as SentBack}
 use Rattle.sender.specs.Sending.{SendDoes}
 use Rattle.text.specs.Puts.{Puts}
 use Rattle.standing.specs.Receive as R
@@ -73,17 +77,21 @@ abbrev pub WriteLeavesOnce : Type 0
 WriteLeavesOnce = (f : Format) (d : Flat) (out : List ℕ) → Once (WriteLeaves f d out)
 
 abbrev pub ReceiveOnce : Type 0
-ReceiveOnce = (r : Receiver) (block : List ℕ) (b : R.Buffers) → Once (ReceiveDoes r block b)
+ReceiveOnce = (r : Receiver) (block : List ℕ) (b : R.Buffers) (x y : Received) (left after : R.Buffers) → ReceiveDoes r block b x left → ReceiveDoes r block b y after
+    → (x ≡ y) × (left ≡ after)
 
 abbrev pub SendOnce : Type 0
-SendOnce = (s : Sender) (d : Flat) (b : S.Buffers) → Once (SendDoes s d b)
+SendOnce = (s : Sender) (d : Flat) (b : S.Buffers) (x y : SentBack) (left after : S.Buffers) → SendDoes s d b x left → SendDoes s d b y after
+    → (x ≡ y) × (left ≡ after)
+
+-- which part `show` hands back of the two lent stores: where it begins, and its bytes
+abbrev pub HandsBackOnce : Type 0
+HandsBackOnce = (size : Size) (holder : Holder) (first second x y : RefT (List ℕ)) → HandsBack size holder first second x → HandsBack size holder first second y
+    → (ptr x ≡ ptr y) × (now x ≡ now y)
 
 -- ---- an equation with what the answer says: nothing of the answer is lost by that
 abbrev pub FieldOnce : Type 0
 FieldOnce = (s : List ℕ) (n : ℕ) (b : Read ℕ) → Once (λ (x : FieldRead). asField s n x ≡ b)
-
-abbrev pub WordOnce : Type 0
-WordOnce = (s : List ℕ) (n : ℕ) (b : Read ℕ) → Once (λ (x : WordRead). asWord s n x ≡ b)
 
 abbrev pub CoefficientOnce : Type 0
 CoefficientOnce = (s : List ℕ) (n : ℕ) (b : Read Event) → Once (λ (x : CoefficientRead). asCoefficient s n x ≡ b)
@@ -121,7 +129,7 @@ CodewordOnce = (w : List Bit) → Once (Writes w)
 
 -- ---- bits after bits
 abbrev pub BitsWroteOnce : Type 0
-BitsWroteOnce = (most at p q : ℕ) (w : List Bit) (before t u : List ℕ) → WroteBits most w before at t p → WroteBits most w before at u q → (t ≡ u) × (p ≡ q)
+BitsWroteOnce = (at p q : ℕ) (w : List Bit) (before t u : List ℕ) → WroteBits w before at t p → WroteBits w before at u q → (t ≡ u) × (p ≡ q)
 
 -- ---- stores: every sample is said, or is as it was
 abbrev pub BlockWroteOnce : Type 0

@@ -9,7 +9,7 @@ use Rattle.refusals.specs.declared.Reason.{Reason}
 use Rattle.refusals.specs.declared.Refusal.{Refusal}
 use Rattle.bits.specs.Bits.{Bit, bitsLeft}
 use Rattle.bits.proofs.Value.{length-bits}
-use Rattle.bits.specs.Read.{Read, got, refused, endless, bad, Reader, next, done, Judged, fine, against, judged}
+use Rattle.bits.specs.Read.{Read, got, refused, endless, bad, Reader, next, done, Judged, fine, against, judgedRead}
 use Rattle.bits.proofs.Logic.{Reads, Gives}
 use Rattle.fields.specs.Answer.{mapRead}
 
@@ -50,14 +50,14 @@ some m (suc rest) l = (rest, refl)
 
 -- ---- what a rule makes of a read
 module _ {A B : Type 0} (r : Reader A) (rule : A → Judged B) (bs : List Bit) (at : ℕ) where
-  pub judged-refused : (x : Refusal) → r bs at ≡ refused x → judged r rule bs at ≡ refused x
+  pub judged-refused : (x : Refusal) → r bs at ≡ refused x → judgedRead r rule bs at ≡ refused x
   judged-refused x e = rw e
 
   module _ (a : A) (cs : List Bit) (q : ℕ) (e : r bs at ≡ got a cs q) where
-    pub judged-fine : (b : B) → rule a ≡ fine b → judged r rule bs at ≡ got b cs q
+    pub judged-fine : (b : B) → rule a ≡ fine b → judgedRead r rule bs at ≡ got b cs q
     judged-fine b h = rw (e, h)
 
-    pub judged-against : (reason : Reason) → rule a ≡ against reason → judged r rule bs at ≡ bad reason at
+    pub judged-against : (reason : Reason) → rule a ≡ against reason → judgedRead r rule bs at ≡ bad reason at
     judged-against reason h = rw (e, h)
 
 -- ---- where a read that was got ends, and what it gives

@@ -8,15 +8,12 @@ use denote.Enum.Declared.{tagOf}
 use Rattle.refusals.specs.declared.Refusal.{Refusal}
 use Rattle.bits.specs.Bits.{Bit, bitsLeft}
 use Rattle.bits.specs.Read.{Read, got, refused, Reader, next, _>>=_, done}
-use Rattle.bits.specs.Answer.{Within, asField, asWord, fieldRefusal, wordRefusal}
+use Rattle.bits.specs.Answer.{Within, asField, fieldRefusal}
 use Rattle.bits.specs.declared.FieldRead.{FieldRead}
 use Rattle.bits.specs.declared.FieldRead.the-variants.{Got as GotField}
-use Rattle.bits.specs.declared.WordRead.{WordRead}
-use Rattle.bits.specs.declared.WordRead.the-variants.{Got as GotWord}
 use Rattle.bits.proofs.FieldRead.{the-type as field-type}
-use Rattle.bits.proofs.WordRead.{the-type as word-type}
 use Rattle.bits.proofs.Logic.{Reads}
-use Rattle.bits.proofs.Told.{no-field, is-field, no-word, is-word}
+use Rattle.bits.proofs.Told.{no-field, is-field}
 use Rattle.fields.specs.Answer.{leaving, placeRefusal}
 use Rattle.fields.specs.declared.PlaceRead.{PlaceRead}
 use Rattle.fields.specs.declared.PlaceRead.the-variants.{At}
@@ -65,14 +62,3 @@ module _ {A : Type 0} (r : Reader ℕ) (k : ℕ → Reader A) {whole : Read A} {
   pub row-field-good : {least : ℕ} {Good : ℕ → List Bit → Type 0} {x : FieldRead} {v q : ℕ} → Reads (suc (length (bitsLeft s n p))) least Good r
       → asField s n x ≡ r (bitsLeft s n p) p → x ≡ GotField v q → Good v (bitsLeft s n q)
   row-field-good {x = x} {v} {q} reads w e = row-good r k h v q reads (is-field s n x v q w e)
-
-  pub row-word : {least : ℕ} {Good : ℕ → List Bit → Type 0} {x : WordRead} {v q : ℕ} → Reads (suc (length (bitsLeft s n p))) least Good r
-      → asWord s n x ≡ r (bitsLeft s n p) p → x ≡ GotWord v q → Row whole s n (k v) q
-  row-word {x = x} {v} {q} reads w e = row-next r k h v q reads (is-word s n x v q w e)
-
-  pub row-no-word : (x : WordRead) {y : Refusal} → tagOf word-type x ≡ 1 → asWord s n x ≡ r (bitsLeft s n p) p → y ≡ wordRefusal x → refused y ≡ whole
-  row-no-word x t w e = ap (λ (z : Refusal). refused z) e ∙ row-refused r k h (wordRefusal x) (no-word s n x t w)
-
-  pub row-word-good : {least : ℕ} {Good : ℕ → List Bit → Type 0} {x : WordRead} {v q : ℕ} → Reads (suc (length (bitsLeft s n p))) least Good r
-      → asWord s n x ≡ r (bitsLeft s n p) p → x ≡ GotWord v q → Good v (bitsLeft s n q)
-  row-word-good {x = x} {v} {q} reads w e = row-good r k h v q reads (is-word s n x v q w e)

@@ -6,15 +6,15 @@ use lib.Dec.{eqb}
 use Rattle.laws.specs.Choice.{pick}
 use Rattle.refusals.specs.declared.Reason.{Reason}
 use Rattle.refusals.specs.declared.Reason.the-variants.{QuantiserZero}
-use Rattle.bits.specs.Read.{Reader, _>>=_, done, field, fine, against, judged, loop, never}
+use Rattle.bits.specs.Read.{Reader, _>>=_, done, field, fine, against, judgedRead, loop, never}
 
 -- a field of k bits that must hold v, else a refusal for this reason
 abbrev pub expect : ℕ → ℕ → Reason → Reader ℕ
-expect k v reason = judged (field k) (λ x. pick (eqb x v) (fine x) (against reason))
+expect k v reason = judgedRead (field k) (λ x. pick (eqb x v) (fine x) (against reason))
 
 -- refusal 7: "quantiser 0"
 abbrev pub quantiser : Reader ℕ
-quantiser = judged (field 5) (λ q. pick (eqb q 0) (against QuantiserZero) (fine q))
+quantiser = judgedRead (field 5) (λ q. pick (eqb q 0) (against QuantiserZero) (fine q))
 
 -- "PEI, then 8 dropped bits and another PEI while PEI is 1"; so too GEI
 abbrev pub sparesAfter : Reader ℕ → ℕ → Reader ℕ

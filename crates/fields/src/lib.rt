@@ -1,7 +1,7 @@
-// Fields under a rule: a value that is expected, a quantiser, spares; and the answer of a layer that is made of them. Each field is read through
-// a bit reader.
-use bit_reader::field_at;
+// Fields under a rule: a value that is expected, a quantiser, spares; and the answer of a layer that is made of them.
+use bit_reader::BitReader;
 use bits::FieldRead;
+use bits::field;
 use bits::field_refusal;
 use refusals::Reason;
 use refusals::Refusal;
@@ -9,6 +9,7 @@ ghost use mathlib.Core.Path.{_≡_};
 ghost use Prim.Native.Nat.{_≤_};
 ghost use Rattle.bits.specs.Bits.{bitsLeft};
 ghost use Rattle.bits.specs.Answer.{Within, asField};
+ghost use Rattle.bit_reader.specs.Reader.{readerBits, Inside};
 ghost use Rattle.fields.specs.Answer.{leaving, placeRefusal, pairRefusal};
 ghost use Rattle.fields.specs.Rules.{expect as expected, quantiser as quantiserRead, spares as sparesRead};
 
@@ -62,7 +63,7 @@ pub fn expect(
     requires { ⌜ (Within (now bytes) count at) × (width ≤ 24) ⌝ }
     ensures { λ r. ⌜ leaving (now (bytes .entry)) count r value ≡ expected width value reason (bitsLeft (now (bytes .entry)) count at) at ⌝ }
 {
-    let read = field_at(bytes, count, at, width);
+    let read = field(bytes, count, at, width);
     let FieldRead::Got(found, next) = read else {
         return PlaceRead::Refused(field_refusal(read));
     };
@@ -78,7 +79,7 @@ pub fn quantiser(bytes: &[u8], count: usize, at: usize) -> FieldRead
     requires { ⌜ Within (now bytes) count at ⌝ }
     ensures { λ r. ⌜ asField (now (bytes .entry)) count r ≡ quantiserRead (bitsLeft (now (bytes .entry)) count at) at ⌝ }
 {
-    let read = field_at(bytes, count, at, 5);
+    let read = field(bytes, count, at, 5);
     let FieldRead::Got(found, next) = read else {
         return FieldRead::Refused(field_refusal(read));
     };
@@ -92,23 +93,31 @@ pub fn quantiser(bytes: &[u8], count: usize, at: usize) -> FieldRead
 }
 
 // PEI or GEI, then eight dropped bits and another while it is 1.
-pub fn spares(bytes: &[u8], count: usize, from: usize) -> PlaceRead
+pub fn spares(bytes: &[u8], count: usize, from: usize) -> FieldRead
     requires { ⌜ Within (now bytes) count from ⌝ }
-    ensures { λ r. ⌜ leaving (now (bytes .entry)) count r 0 ≡ sparesRead (bitsLeft (now (bytes .entry)) count from) from ⌝ }
+    ensures { λ r. ⌜ asField (now (bytes .entry)) count r ≡ sparesRead (bitsLeft (now (bytes .entry)) count from) from ⌝ }
 {
     let mut at = from;
     loop {
-        let more = field_at(bytes, count, at, 1);
+        let more = field(bytes, count, at, 1);
         let FieldRead::Got(bit, after) = more else {
-            return PlaceRead::Refused(field_refusal(more));
+            return FieldRead::Refused(field_refusal(more));
         };
         if bit == 0 {
-            return PlaceRead::At(after);
+            return FieldRead::Got(0, after);
         }
-        let spare = field_at(bytes, count, after, 8);
+        let spare = field(bytes, count, after, 8);
         let FieldRead::Got(_, next) = spare else {
-            return PlaceRead::Refused(field_refusal(spare));
+            return FieldRead::Refused(field_refusal(spare));
         };
         at = next;
     }
+}
+
+// The same at a bit reader's place.
+pub fn drop_spares<'a>(reader: BitReader<'a>) -> FieldRead
+    requires { ⌜ Inside reader ⌝ }
+    ensures { λ r. ⌜ asField (now (reader .entry .bytes)) (reader .entry .count) r ≡ sparesRead (readerBits (reader .entry)) (reader .entry .place) ⌝ }
+{
+    spares(reader.bytes, reader.count, reader.place)
 }

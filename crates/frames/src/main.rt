@@ -1,38 +1,42 @@
-// Writes the pictures of the blocks on standard input that finish in step as YUV4MPEG2: `frames qcif` or `frames cif`.
+// Writes the pictures of the blocks on standard input that finish in step as YUV4MPEG2: `frames SIZE` or `frames SIZE CLIP`, with SIZE qcif or cif and CLIP from 1 to 65535.
 //
-// On standard error: the lister's line for a refused or a short block, a line for each stretch of blocks after which the receiver was not in step, and at the end how many
-// pictures there were.
+// On standard error: the lister's line for a refused or a short block, each run of blocks that led to no picture, the numbers of the pictures that are missing, and at the end
+// how many pictures there were. Without a clip the first good block chooses it, and standard error says which; with one, another clip's blocks are refused by 23.
+//
+//     ./pagesorrel frames qcif 7 < clip.blocks > clip.y4m
+use account::End;
+use account::blocks::Met;
+use account::idle::Idle;
+use arguments::ClipWord;
 use arguments::FormatWord;
 use coding::Kind;
-use h261_groups::Format;
 use libc::STDERR_FILENO;
-use libc::STDIN_FILENO;
 use libc::STDOUT_FILENO;
 use listing::Clip;
 use size::Size;
 use standing::Answer;
+use standing::Opened;
 use standing::Received;
-use standing::Standing;
 ghost use mathlib.Core.Path.{_≡_};
-ghost use Prim.Native.Nat.{_+_, _≤_, _<_};
 ghost use lib.ListN.{length};
 ghost use Rattle.io.specs.Counts.{Counts};
 ghost use Rattle.text.specs.Text.{over};
 ghost use Rattle.frames.specs.Header.{headerText};
 
-// Blocks not in step: whether there are any since the last that was, the first and the last of them.
-struct Stretch {
-    any: bool,
-    from: u64,
-    to: u64,
+// Whether there is more to do, and if not, why.
+enum Going {
+    On,
+    Ended,
+    Unread,
+    Unwritten,
 }
 
-// After a turn: whether there is more to read, whether a picture was written, the clip and the stretch so far.
+// After a turn: whether there is more to do, the clip, what was met so far, and the blocks that led to no picture.
 struct Turn {
-    more: bool,
-    shown: bool,
+    going: Going,
     clip: Clip,
-    stretch: Stretch,
+    met: Met,
+    idle: Idle,
 }
 
 // ---- what is written
@@ -49,20 +53,11 @@ fn header(size: Size, out: &mut [u8; 128]) -> usize
     text::put(b" F30000:1001 Ip A12:11 C420jpeg\n", high, out)
 }
 
-// Output that can't be written ends the work, and is named.
-fn put_out(bytes: &[u8]) -> bool {
-    if io::write_all(STDOUT_FILENO, bytes) {
-        return true;
-    }
-    io::write_all(STDERR_FILENO, b"frames: a picture could not be written\n");
-    false
-}
-
 fn begin(kind: Kind) -> bool {
     let mut text = [0u8; 128];
     let size = coding::size_of(kind);
     let count = header(size, &mut text);
-    put_out(&text[..count])
+    io::write_all(STDOUT_FILENO, &text[..count])
 }
 
 // The picture that is finished.
@@ -74,8 +69,8 @@ fn show<'a>(answer: Answer, clip: Clip, first: &'a [u8], second: &'a [u8]) -> bo
                 answer,
                 next: receiver,
             };
-            if put_out(b"FRAME\n") {
-                return put_out(standing::show(received, first, second));
+            if io::write_all(STDOUT_FILENO, b"FRAME\n") {
+                return io::write_all(STDOUT_FILENO, standing::show(received, first, second));
             }
             false
         }
@@ -96,10 +91,43 @@ fn say_short(n: u64) {
     io::write_all(STDERR_FILENO, &text[..count]);
 }
 
-fn say_stretch(stretch: Stretch) {
-    if stretch.any {
+fn say_chosen(n: u64, clip: u16) {
+    let mut text = [0u8; 128];
+    let count = account::remarks::chosen(n, clip, &mut text);
+    io::write_all(STDERR_FILENO, &text[..count]);
+}
+
+// Where no clip was asked for, the block that chose it.
+fn choose(n: u64, before: Clip, after: Clip) {
+    match before {
+        Clip::Known(_) => {}
+        Clip::Unknown => match after {
+            Clip::Known(receiver) => say_chosen(n, receiver.clip),
+            Clip::Unknown => {}
+        },
+    }
+}
+
+fn say_idle(idle: Idle) {
+    if idle.any {
         let mut text = [0u8; 128];
-        let count = text::remarks::stretch(stretch.from, stretch.to, &mut text);
+        let count = account::remarks::idle(idle.from, idle.to, &mut text);
+        io::write_all(STDERR_FILENO, &text[..count]);
+    }
+}
+
+fn say_missing(from: u64, next: u64) {
+    if from < next {
+        let mut text = [0u8; 128];
+        let count = account::remarks::missing(from, next - 1, &mut text);
+        io::write_all(STDERR_FILENO, &text[..count]);
+    }
+}
+
+fn say_rest(idle: Idle) {
+    if idle.any {
+        let mut text = [0u8; 128];
+        let count = account::remarks::rest(idle.next, &mut text);
         io::write_all(STDERR_FILENO, &text[..count]);
     }
 }
@@ -110,54 +138,44 @@ fn say_pictures(pictures: u64) {
     io::write_all(STDERR_FILENO, &text[..count]);
 }
 
-// ---- stretches
-
-fn in_step(clip: Clip) -> bool {
-    match clip {
-        Clip::Unknown => false,
-        Clip::Known(receiver) => {
-            let progress = receiver.progress;
-            let standing = progress.standing;
-            match standing {
-                Standing::InStep(_) => true,
-                Standing::Lost => false,
-                Standing::Catching => false,
-            }
-        }
-    }
-}
-
-// After block n: a stretch grows, begins, or ends and is named.
-fn follow(n: u64, stretch: Stretch, clip: Clip) -> Stretch {
-    if in_step(clip) {
-        say_stretch(stretch);
-        return Stretch {
-            any: false,
-            from: 0,
-            to: 0,
-        };
-    }
-    if stretch.any {
-        return Stretch {
-            any: true,
-            from: stretch.from,
-            to: n,
-        };
-    }
-    Stretch {
-        any: true,
-        from: n,
-        to: n,
-    }
-}
-
 // ---- a block
+
+// What is said of a block, and whether a picture that it finished was written.
+fn follow<'a>(
+    n: u64,
+    answer: Answer,
+    clip: Clip,
+    idle: Idle,
+    first: &'a [u8],
+    second: &'a [u8],
+) -> bool {
+    match answer {
+        Answer::Picture(picture) => {
+            say_idle(idle);
+            say_missing(idle.next, picture as u64);
+            show(answer, clip, first, second)
+        }
+        Answer::Refused(_) => {
+            say_line(n, answer);
+            true
+        }
+        _ => true,
+    }
+}
+
+fn written(all: bool) -> Going {
+    if all {
+        return Going::On;
+    }
+    Going::Unwritten
+}
 
 fn whole(
     n: u64,
     kind: Kind,
     clip: Clip,
-    before: Stretch,
+    met: Met,
+    idle: Idle,
     block: &[u8; 512],
     collection: &mut [u8],
     first: &mut [u8],
@@ -166,32 +184,23 @@ fn whole(
     let listed = listing::list(kind, clip, block, collection, first, second);
     let answer = listed.answer;
     let next = listed.next;
-    let stretch = follow(n, before, next);
-    match answer {
-        Answer::Picture(_) => {
-            let more = show(answer, next, first, second);
-            Turn {
-                more,
-                shown: true,
-                clip: next,
-                stretch,
-            }
-        }
-        Answer::Refused(_) => {
-            say_line(n, answer);
-            Turn {
-                more: true,
-                shown: false,
-                clip: next,
-                stretch,
-            }
-        }
-        _ => Turn {
-            more: true,
-            shown: false,
-            clip: next,
-            stretch,
-        },
+    choose(n, clip, next);
+    let all = follow(n, answer, next, idle, first, second);
+    Turn {
+        going: written(all),
+        clip: next,
+        met: account::blocks::after(met, answer),
+        idle: account::idle::after(idle, n, answer),
+    }
+}
+
+fn short(n: u64, clip: Clip, met: Met, idle: Idle) -> Turn {
+    say_short(n);
+    Turn {
+        going: Going::Ended,
+        clip,
+        met: account::blocks::short(met),
+        idle,
     }
 }
 
@@ -199,87 +208,173 @@ fn one(
     n: u64,
     kind: Kind,
     clip: Clip,
-    stretch: Stretch,
+    met: Met,
+    idle: Idle,
     collection: &mut [u8],
     first: &mut [u8],
     second: &mut [u8],
 ) -> Turn {
     let mut block = [0u8; 512];
-    let got = io::read_full(STDIN_FILENO, &mut block);
-    if got == 512 {
-        return whole(n, kind, clip, stretch, &block, collection, first, second);
+    let filled = account::input::fill(&mut block);
+    if filled.failed {
+        return Turn {
+            going: Going::Unread,
+            clip,
+            met,
+            idle,
+        };
     }
-    if 0 < got {
-        say_short(n);
+    if filled.count == 512 {
+        return whole(n, kind, clip, met, idle, &block, collection, first, second);
+    }
+    if 0 < filled.count {
+        return short(n, clip, met, idle);
     }
     Turn {
-        more: false,
-        shown: false,
+        going: Going::Ended,
         clip,
-        stretch,
+        met,
+        idle,
     }
 }
 
-fn counted(pictures: u64, shown: bool) -> u64
-    requires { ⌜ pictures < 18446744073709551615 ⌝ }
-    ensures { λ r. ⌜ r ≤ pictures + 1 ⌝ }
-{
-    if shown {
-        return pictures + 1;
+// ---- the end
+
+fn unread() -> End {
+    os::fail(b"frames: the input could not be read");
+    End::Unread
+}
+
+fn unwritten() -> End {
+    os::fail(b"frames: a picture could not be written");
+    End::Unwritten
+}
+
+fn end(met: Met, idle: Idle) -> End {
+    let left = account::idle::drop(idle);
+    say_idle(left);
+    say_rest(left);
+    say_pictures(met.pictures);
+    account::blocks::end(met)
+}
+
+fn finish(going: Going, met: Met, idle: Idle) -> End {
+    match going {
+        Going::Unread => unread(),
+        Going::Unwritten => unwritten(),
+        _ => end(met, idle),
     }
-    pictures
+}
+
+fn goes_on(going: Going) -> bool {
+    match going {
+        Going::On => true,
+        _ => false,
+    }
 }
 
 // Nothing says that the input ends, so the loop counts its turns.
-fn all(kind: Kind, collection: &mut [u8], first: &mut [u8], second: &mut [u8]) {
-    let mut clip = Clip::Unknown;
-    let mut stretch = Stretch {
-        any: false,
-        from: 0,
-        to: 0,
-    };
-    let mut pictures: u64 = 0;
-    let mut more = begin(kind);
+fn all(
+    kind: Kind,
+    opened: Clip,
+    collection: &mut [u8],
+    first: &mut [u8],
+    second: &mut [u8],
+) -> End {
+    let mut clip = opened;
+    let mut met = account::blocks::open();
+    let mut idle = account::idle::open(0);
+    let mut going = written(begin(kind));
     let mut n: u64 = 0;
-    while n < 18446744073709551615 && more {
-        let turn = one(n, kind, clip, stretch, collection, first, second);
+    while n < 18446744073709551615 && goes_on(going) {
+        let turn = one(n, kind, clip, met, idle, collection, first, second);
         clip = turn.clip;
-        stretch = turn.stretch;
-        more = turn.more;
-        pictures = counted(pictures, turn.shown);
+        met = turn.met;
+        idle = turn.idle;
+        going = turn.going;
         n += 1;
     }
-    say_stretch(stretch);
-    say_pictures(pictures);
+    finish(going, met, idle)
 }
 
-fn qcif() {
+fn qcif(clip: Clip) -> End {
     let mut collection = [0u8; 8500];
     let mut first = [0u8; 38016];
     let mut second = [0u8; 38016];
-    all(Kind::H261Qcif, &mut collection, &mut first, &mut second);
+    all(
+        Kind::H261Qcif,
+        clip,
+        &mut collection,
+        &mut first,
+        &mut second,
+    )
 }
 
-fn cif() {
+fn cif(clip: Clip) -> End {
     let mut collection = [0u8; 33000];
     let mut first = [0u8; 152064];
     let mut second = [0u8; 152064];
-    all(Kind::H261Cif, &mut collection, &mut first, &mut second);
+    all(
+        Kind::H261Cif,
+        clip,
+        &mut collection,
+        &mut first,
+        &mut second,
+    )
+}
+
+// ---- the words
+
+fn usage() -> End {
+    io::write_all(
+        STDERR_FILENO,
+        b"usage: frames qcif|cif [CLIP] < BLOCKS > PICTURES.y4m, with CLIP from 1 to 65535\n",
+    );
+    End::Misnamed
+}
+
+fn run(kind: Kind, clip: Clip) -> End {
+    match kind {
+        Kind::H261Qcif => qcif(clip),
+        Kind::H261Cif => cif(clip),
+    }
+}
+
+fn of_clip(kind: Kind, word: &[u8]) -> End {
+    match arguments::clip_named(word) {
+        ClipWord::Names(clip) => match standing::open(clip, kind) {
+            Opened::Open(receiver) => run(kind, Clip::Known(receiver)),
+            Opened::Refused(_) => usage(),
+        },
+        ClipWord::Other => usage(),
+    }
+}
+
+fn of_size(count: usize, size: &[u8], clip: &[u8]) -> End {
+    match arguments::format_named(size) {
+        FormatWord::Names(format) => {
+            let kind = coding::kind_of(format);
+            if count == 2 {
+                return run(kind, Clip::Unknown);
+            }
+            of_clip(kind, clip)
+        }
+        FormatWord::Other => usage(),
+    }
+}
+
+// How many words there are, the program's own name among them, and the two after it.
+fn of_words(count: usize, size: &[u8], clip: &[u8]) -> End {
+    if 2 <= count && count <= 3 {
+        return of_size(count, size, clip);
+    }
+    usage()
 }
 
 fn main() {
-    let mut word = [0u8; 16];
-    let count = os::arg(1, &mut word);
-    match arguments::format_named(&word[..count]) {
-        FormatWord::Names(format) => match format {
-            Format::Qcif => qcif(),
-            Format::Cif => cif(),
-        },
-        FormatWord::Other => {
-            io::write_all(
-                STDERR_FILENO,
-                b"usage: frames qcif|cif < BLOCKS > PICTURES.y4m\n",
-            );
-        }
-    }
+    let mut size = [0u8; 16];
+    let mut clip = [0u8; 16];
+    let sizes = os::arg(1, &mut size);
+    let clips = os::arg(2, &mut clip);
+    account::tell(of_words(os::arg_count(), &size[..sizes], &clip[..clips]));
 }

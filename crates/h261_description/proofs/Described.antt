@@ -18,7 +18,7 @@ use Rattle.h261_words.specs.Words.{isMC}
 use Rattle.h261_groups.specs.Format.{groupNumbers}
 use Rattle.h261_groups.specs.declared.Format.{Format}
 use Rattle.h261_groups.proofs.Room.{groups-listed}
-use Rattle.h261_description.specs.Value.{Picture, shape, valueOf, laid, pictureIn}
+use Rattle.h261_description.specs.Value.{Picture, shape, valueOf, laidPicture, pictureIn}
 use Rattle.h261_description.specs.Proper.{ProperVector, ProperMacroblock, ProperGroup, ProperGquant, Proper}
 
 -- both components are small
@@ -47,8 +47,8 @@ picture-storable f p h = record {
 }
 
 -- ---- the theorem: what a proper picture's layout describes is the picture
-pub proper-described : (f : Format) (p : Picture) → Proper f p → pictureIn (laid f p) ≡ p
-unfolding laid pictureIn
+pub proper-described : (f : Format) (p : Picture) → Proper f p → pictureIn (laidPicture f p) ≡ p
+unfolding laidPicture pictureIn
 proper-described f p h =
     let held = picture-storable f p h in
     ap pictureIn (laid-spread (shape f) (valueOf f p) held)

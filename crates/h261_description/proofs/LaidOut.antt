@@ -26,7 +26,7 @@ use Rattle.h261_words.specs.Words.{isIntra, isMC, hasMQUANT, hasCBP}
 use Rattle.h261_groups.specs.Format.{formatBit, groupNumbers}
 use Rattle.h261_groups.specs.declared.Format.{Format}
 use Rattle.h261_description.specs.Vector.{inRange, inPicture}
-use Rattle.h261_description.specs.Value.{Picture, shape, valueOf, laid}
+use Rattle.h261_description.specs.Value.{Picture, shape, valueOf, laidPicture}
 use Rattle.h261_description.specs.Valid.{validVector, validLevels, validMacroblock, lengthsOf, validHead, valid}
 use Rattle.h261_description.specs.Proper.{ProperBlocks, ProperVector, ProperMacroblock, ProperGquant, ProperGroup, ProperGroups, Proper}
 use Rattle.h261_description.proofs.Described.{small-vector, proper-storable, picture-storable}
@@ -107,6 +107,6 @@ spread-valid f p h =
     (both-make (eqb (formatBit f) (formatBit f)) _ (eqb-refl (formatBit f)) (quantisers-valid f (groupNumbers f) xs (h .grouped)))))
     (groups-pass 33 (validMacroblock f) ProperGquant (ProperMacroblock f) (proper-storable f) (macroblock-valid f) (groupNumbers f) xs (h .grouped) (groups-unsent f (groupNumbers f) xs (h .grouped))))
 
-pub proper-valid : (f : Format) (p : Picture) → Proper f p → T (valid f (laid f p))
-unfolding laid
+pub proper-valid : (f : Format) (p : Picture) → Proper f p → T (valid f (laidPicture f p))
+unfolding laidPicture
 proper-valid f p h = subst (λ (d : Flat). T (valid f d)) (sym (laid-spread (shape f) (valueOf f p) (picture-storable f p h))) (spread-valid f p h)

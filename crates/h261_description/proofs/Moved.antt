@@ -9,24 +9,24 @@ use Rattle.h261_groups.specs.declared.Format.{Format}
 use Rattle.size.specs.Size.{width, height}
 use Rattle.h261_groups.specs.Format.{row, column, sizeOf}
 use Rattle.size.specs.Place.{macroblocksAcross, macroblocksDown, side, own}
-use Rattle.h261_groups.specs.Order.{macroblockCount, groupOf, addressOf, rowOf, columnOf}
+use Rattle.h261_groups.specs.Order.{macroblockCount, rowOf, columnOf}
 use Rattle.size.proofs.Grid.{width-is, height-is}
-use Rattle.h261_groups.proofs.Blocks.{row-at, column-at}
+use Rattle.h261_groups.proofs.Blocks.{groupOf, addressOf, row-at, column-at}
 use Rattle.layout.specs.Value.{Vector}
 use Rattle.h261_description.specs.Vector.{ahead, back, inside, inPicture}
-use Rattle.h261_description.specs.Moved.{Aims, halved, Points, moved}
+use Rattle.h261_description.specs.Moved.{Aims, halvedPlace, Points, movedPlace}
 
-along : (n p x c a b : ℕ) → own p x ≡ c → b ≤ c * 16 → c * 16 + a + 16 ≤ n * 2 * 8 + b → halved p b ≤ x * 8
+along : (n p x c a b : ℕ) → own p x ≡ c → b ≤ c * 16 → c * 16 + a + 16 ≤ n * 2 * 8 + b → halvedPlace p b ≤ x * 8
 along n zero x c a b e l r = omega arith
 along n (suc p) x c a b e l r = omega arith
 
-within : (n p x c a b : ℕ) → own p x ≡ c → b ≤ c * 16 → c * 16 + a + 16 ≤ n * 2 * 8 + b → x * 8 + halved p a - halved p b + 8 ≤ n * side p * 8
+within : (n p x c a b : ℕ) → own p x ≡ c → b ≤ c * 16 → c * 16 + a + 16 ≤ n * 2 * 8 + b → x * 8 + halvedPlace p a - halvedPlace p b + 8 ≤ n * side p * 8
 within n zero x c a b e l r = omega arith
 within n (suc p) x c a b e l r = omega arith
 
 -- each of its blocks, then, with its own part of the vector
 pub aims : {f : Format} {r c p y x : ℕ} {v : Vector} → own p y ≡ r → own p x ≡ c → Points f r c v → Aims f p y x v
-unfolding moved
+unfolding movedPlace
 aims {f} {r} {c} {p} {y} {x} {v} er ec h = record {
   left = along (macroblocksAcross (sizeOf f)) p x c (ahead (v .horizontal)) (back (v .horizontal)) ec (h .left) (h .right);
   right = within (macroblocksAcross (sizeOf f)) p x c (ahead (v .horizontal)) (back (v .horizontal)) ec (h .left) (h .right);

@@ -17,7 +17,7 @@ use Rattle.h261_groups.specs.Format.{formatBit, groupNumbers}
 use Rattle.h261_groups.specs.declared.Format.{Format}
 use Rattle.h261_groups.proofs.Room.{groups-listed}
 use Rattle.h261_description.specs.Vector.{inRange, inPicture}
-use Rattle.h261_description.specs.Value.{shape, laid, pictureIn}
+use Rattle.h261_description.specs.Value.{shape, laidPicture, pictureIn}
 use Rattle.h261_description.specs.Valid.{validVector, validMacroblock}
 use Rattle.h261_description.specs.Relaid.{LaidBack}
 use Rattle.h261_description.proofs.Levels.{all-levels}
@@ -58,7 +58,7 @@ head-back (a ∷ b ∷ []) l = absurd (omega arith)
 head-back (a ∷ b ∷ c ∷ h) l = refl
 
 pub laid-back : LaidBack
-unfolding laid pictureIn
+unfolding laidPicture pictureIn
 laid-back f d t =
     let v = valid-lists f d t in
     let fields : getD (d .head) 0 0 ∷ getD (d .head) 1 0 ∷ formatBit f ∷ [] ≡ take 3 (d .head) =

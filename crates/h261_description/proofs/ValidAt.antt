@@ -1,30 +1,29 @@
 -- What validity says of each group and of each macroblock, by its number in sending order. Assumes nothing.
 use mathlib.Core.Path.{_≡_, refl, sym, ap, subst, _∙_}
 use mathlib.Core.Bool.{Bool, true, false}
-use mathlib.Core.List.{List}
 use Prim.Native.Nat.{ℕ, zero, suc, _+_, _*_, _/_, _%_, _≤_, _<_}
 use native.Mathlib.Omega.{arith}
 use lib.Dec.{T, leb, leb→le, eqb→eq}
 use lib.ListN.{getD, length, drop, length-drop}
-use lib.Seq.{getD-take, getD-drop, length-take-le}
+use lib.Seq.{getD-take, getD-drop}
 use Rattle.laws.specs.Choice.{pick, both}
 use Rattle.laws.proofs.Choice.{both-left, both-right}
-use Rattle.layout.proofs.EveryAt.{every-at}
+use Rattle.layout.proofs.EveryAt.{fieldsAt, levelsAt, every-at}
 use Rattle.h261_words.specs.Words.{isMC, hasMQUANT}
 use Rattle.h261_groups.specs.declared.Format.{Format}
 use Rattle.h261_groups.specs.Format.{groupNumbers, groupCount, headLength, macroblocksLength, levelsLength}
 use Rattle.h261_groups.proofs.Room.{groups-listed}
-use Rattle.h261_groups.specs.Order.{macroblockCount, groupOf, addressOf}
+use Rattle.h261_groups.specs.Order.{macroblockCount}
+use Rattle.h261_groups.proofs.Blocks.{groupOf, addressOf}
 use Rattle.layout.specs.Value.{zeroVector}
 use Rattle.h261_description.specs.Vector.{inRange, inPicture}
 use Rattle.layout.specs.Flat.{Flat, numberOf}
-use Rattle.layout.specs.Numbers.{isZero, isQuantiser, isLevel}
+use Rattle.layout.specs.Numbers.{isZero, isQuantiser}
 use Rattle.h261_description.specs.Valid.{validLevels, validMacroblock, valid}
 use Rattle.layout.proofs.Levels.{all-index}
-use Rattle.h261_description.proofs.Levels.{all-levels}
 use Rattle.h261_description.proofs.Pictured.{ValidParts, valid-parts, ValidLists, valid-lists}
-use Rattle.layout.specs.Fields.{fieldsAt, levelsAt, typeOf, quantOf, horizontalOf, verticalOf, levelOf, vectorAt}
-use Rattle.h261_description.specs.Fields.{gquantOf, vectorOf, quantiserNext, quantiserBefore, quantiserOf}
+use Rattle.layout.specs.Fields.{typeOf, quantOf, horizontalOf, verticalOf, vectorAt}
+use Rattle.h261_description.specs.Fields.{gquantOf, vectorSent, quantiserNext, quantiserBefore, quantiserOf}
 
 -- ---- of a valid description
 module _ (f : Format) (d : Flat) (t : T (valid f d)) where
@@ -48,7 +47,7 @@ module _ (f : Format) (d : Flat) (t : T (valid f d)) where
   pub macroblock-at : (n : ℕ) → n < macroblockCount f → T (validMacroblock f (groupOf f n) (addressOf n) (fieldsAt d n) (levelsAt d n))
   macroblock-at n l =
       subst (λ (k : ℕ). T (validMacroblock f (groupOf f n) (addressOf n) (fieldsAt d k) (levelsAt d k))) number
-      (every-at 33 (validMacroblock f) (groupNumbers f) (d .macroblocks) (d .levels) (lists .groups) (n / 33) (n % 33) (omega (arith, groups-listed f)) (omega arith))
+      (every-at 33 (validMacroblock f) (groupNumbers f) d (lists .groups) (n / 33) (n % 33) (omega (arith, groups-listed f)) (omega arith))
     where
       number : n / 33 * 33 + n % 33 ≡ n
       number = omega arith
@@ -134,7 +133,7 @@ module _ (f : Format) (d : Flat) (t : T (valid f d)) (n : ℕ) (l : n < macroblo
       of-still u = (eqb→eq (horizontalOf d n) 0 (both-left (isZero (horizontalOf d n)) (isZero (verticalOf d n)) u), eqb→eq (verticalOf d n) 0 (both-right (isZero (horizontalOf d n)) (isZero (verticalOf d n)) u))
 
   -- the bytes say the vector, zero where the type is not MC
-  pub vector-at : vectorOf d n ≡ vectorAt d n
+  pub vector-at : vectorSent d n ≡ vectorAt d n
   vector-at = go (isMC (typeOf d n)) refl
     where
       go : (b : Bool) → isMC (typeOf d n) ≡ b → pick b (vectorAt d n) zeroVector ≡ vectorAt d n
@@ -178,17 +177,3 @@ quantiser-kept d n l =
 
     number : n / 33 * 33 + n % 33 ≡ n
     number = omega arith
-
--- each is a level, whatever the type
-level-in : (type : ℕ) (levels : List ℕ) → T (validLevels type levels) → (k : ℕ) → k < length levels → T (isLevel (getD levels k 0))
-level-in type levels t k l = all-index isLevel levels (all-levels type levels t) k l
-
-module _ (f : Format) (d : Flat) (t : T (valid f d)) (n : ℕ) (l : n < macroblockCount f) where
-  levels-are : length (levelsAt d n) ≡ 384
-  levels-are = length-take-le 384 (drop (n * 384) (d .levels)) (omega (arith, length-drop (n * 384) (d .levels), levels-length f d t))
-
-  level-of : (k : ℕ) → k < 384 → getD (levelsAt d n) k 0 ≡ levelOf d n k
-  level-of k m = getD-take 384 (drop (n * 384) (d .levels)) k 0 m ∙ getD-drop (n * 384) (d .levels) k 0
-
-  pub level-at : (k : ℕ) → k < 384 → T (isLevel (levelOf d n k))
-  level-at k m = subst (λ (x : ℕ). T (isLevel x)) (level-of k m) (level-in (typeOf d n) (levelsAt d n) (fine-at f d t n l .blocks) k (omega (arith, levels-are)))

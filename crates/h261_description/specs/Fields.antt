@@ -16,8 +16,8 @@ abbrev pub gquantOf : Flat → ℕ → ℕ
 gquantOf = gquantAt 3
 
 -- the vector: zero where the type is not MC
-abbrev pub vectorOf : Flat → ℕ → Vector
-vectorOf d n = pick (isMC (typeOf d n)) (vectorAt d n) zeroVector
+abbrev pub vectorSent : Flat → ℕ → Vector
+vectorSent d n = pick (isMC (typeOf d n)) (vectorAt d n) zeroVector
 
 -- ---- "A quantiser stands until the next MQUANT or group."
 -- what stands at macroblock n, if q stood before it

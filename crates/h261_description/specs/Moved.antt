@@ -8,20 +8,20 @@ use Rattle.layout.specs.Value.{Vector}
 use Rattle.h261_description.specs.Vector.{ahead, back}
 
 -- "Chroma vectors: each component halved, towards zero.": how far, in plane p
-abbrev pub halved : ℕ → ℕ → ℕ
-halved zero n = n
-halved (suc p) n = n / 2
+abbrev pub halvedPlace : ℕ → ℕ → ℕ
+halvedPlace zero n = n
+halvedPlace (suc p) n = n / 2
 
 -- row or column k of plane p, moved by a component
-unfoldable pub moved : ℕ → ℕ → ℤ → ℕ
-moved p k z = k + halved p (ahead z) - halved p (back z)
+unfoldable pub movedPlace : ℕ → ℕ → ℤ → ℕ
+movedPlace p k z = k + halvedPlace p (ahead z) - halvedPlace p (back z)
 
 -- the block at block row y, block column x of plane p, moved, lies in the plane
 pub record Aims (f : Format) (p y x : ℕ) (v : Vector) : Type 0 where
-  pub left : halved p (back (v .horizontal)) ≤ x * 8
-  pub right : moved p (x * 8) (v .horizontal) + 8 ≤ wide (sizeOf f) p
-  pub top : halved p (back (v .vertical)) ≤ y * 8
-  pub bottom : moved p (y * 8) (v .vertical) + 8 ≤ high (sizeOf f) p
+  pub left : halvedPlace p (back (v .horizontal)) ≤ x * 8
+  pub right : movedPlace p (x * 8) (v .horizontal) + 8 ≤ wide (sizeOf f) p
+  pub top : halvedPlace p (back (v .vertical)) ≤ y * 8
+  pub bottom : movedPlace p (y * 8) (v .vertical) + 8 ≤ high (sizeOf f) p
 
 -- the macroblock in row r, column c, moved, lies in the luminance picture
 pub record Points (f : Format) (r c : ℕ) (v : Vector) : Type 0 where

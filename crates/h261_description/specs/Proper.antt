@@ -10,7 +10,7 @@ use Rattle.layout.specs.Numbers.{within, isQuantiser}
 use Rattle.h261_groups.specs.Format.{groupNumbers}
 use Rattle.h261_groups.specs.declared.Format.{Format}
 use Rattle.layout.specs.Value.{Vector, zeroVector, Block, Macroblock, Group}
-use Rattle.layout.specs.Proper.{If, Each, Numbered, Fits, Begins, allEmpty, RisingTo, GoodGroup}
+use Rattle.layout.specs.Proper.{If, Each, Numbered, Fits, Begins, allEmpty, GoodGroup}
 use Rattle.h261_description.specs.Vector.{inRange, inPicture}
 use Rattle.h261_description.specs.Value.{Picture}
 
@@ -36,11 +36,7 @@ pub record ProperMacroblock (f : Format) (number : ℕ) (m : Macroblock) : Type 
   pub blocked : ProperBlocks (m .type) (m .blocks)
 
 -- ---- groups
--- proper macroblocks at rising addresses, past `last` and up to 33
-abbrev pub Rising : Format → ℕ → ℕ → List Macroblock → Type 0
-Rising f number = RisingTo (ProperMacroblock f number) 33
-
--- with a quantiser, whatever the group's number
+-- a quantiser, whatever the group's number
 abbrev pub ProperGquant : ℕ → ℕ → Type 0
 ProperGquant number gquant = T (isQuantiser gquant)
 

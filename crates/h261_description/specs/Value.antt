@@ -9,8 +9,8 @@ use Rattle.h261_groups.specs.Format.{formatBit, groupCount}
 use Rattle.h261_description.specs.Vector.{Before}
 
 -- what a macroblock leaves behind for the next one's vector
-abbrev pub after : Macroblock → Before
-after m = record { address = m .address; vector = m .vector }
+abbrev pub beforeNext : Macroblock → Before
+beforeNext m = record { address = m .address; vector = m .vector }
 
 -- TR, PTYPE bits 1 to 3 as a number, and the groups of the format in order; a macroblock's type is 1 to 10, its address 1 to 33
 pub record Picture : Type 0 where
@@ -26,8 +26,8 @@ shape f = record { fixed = 3; groups = groupCount f; each = 33 }
 abbrev pub valueOf : Format → Picture → Value
 valueOf f p = record { fields = p .tr ∷ p .ptype ∷ formatBit f ∷ []; groups = p .groups }
 
-unfoldable pub laid : Format → Picture → Flat
-laid f p = laidOut (shape f) (valueOf f p)
+unfoldable pub laidPicture : Format → Picture → Flat
+laidPicture f p = laidOut (shape f) (valueOf f p)
 
 unfoldable pub pictureIn : Flat → Picture
 pictureIn d = record {

@@ -1,15 +1,15 @@
 // The loop filter of a block: weights 1, 2, 1 each way inside the block, 0, 4, 0 at its edge, rounded once.
 ghost use mathlib.Core.Path.{_≡_};
-ghost use Prim.Native.Nat.{ℕ, _<_, _≤_};
-ghost use lib.IntN.{ℤ, pos, _+ℤ_, _*ℤ_};
+ghost use Prim.Native.Nat.{_<_};
+ghost use lib.IntN.{pos, _+ℤ_, _*ℤ_};
 ghost use Rattle.laws.specs.Integer.{Low};
 ghost use Rattle.laws.specs.Block.{Is};
 ghost use Rattle.quantiser.specs.Lines.{SmallRow, Line, entry};
 ghost use Rattle.quantiser.specs.Sample.{Samples};
-ghost use Rattle.h261_filter.specs.Filter.{weighted, roundedSixteenth, filterAt, AtEdge};
+ghost use Rattle.h261_filter.specs.Filter.{weighted, roundedSixteenth, filterAt, AtEdge, AtInside, ThreeNumbers, ThreeRows};
 
 fn inside(a: i32, b: i32, c: i32) -> i32
-    requires { ⌜ (Low 1020 a) × (Low 1020 b) × (Low 1020 c) ⌝ }
+    requires { ⌜ ThreeNumbers a b c ⌝ }
     ensures { λ r. ⌜ r ≡ a +ℤ pos 2 *ℤ b +ℤ c ⌝ }
 {
     a + 2 * b + c
@@ -31,7 +31,7 @@ fn rounded(sum: i32) -> i32
 
 // Place k of the sums down the columns: inside the block, and at its edge.
 fn down(a: [i32; 8], b: [i32; 8], c: [i32; 8], k: usize) -> i32
-    requires { ⌜ (SmallRow 255 a) × (SmallRow 255 b) × (SmallRow 255 c) × (k < 8) ⌝ }
+    requires { ⌜ (ThreeRows a b c) × (k < 8) ⌝ }
     ensures { λ r. ⌜ r ≡ entry a k +ℤ pos 2 *ℤ entry b k +ℤ entry c k ⌝ }
 {
     inside(a[k], b[k], c[k])
@@ -45,7 +45,7 @@ fn down_edge(b: [i32; 8], k: usize) -> i32
 }
 
 fn between(a: [i32; 8], b: [i32; 8], c: [i32; 8]) -> [i32; 8]
-    requires { ⌜ (SmallRow 255 a) × (SmallRow 255 b) × (SmallRow 255 c) ⌝ }
+    requires { ⌜ ThreeRows a b c ⌝ }
     ensures { λ r. ⌜ Line (λ x. entry a x +ℤ pos 2 *ℤ entry b x +ℤ entry c x) r ⌝ }
 {
     [
@@ -78,14 +78,14 @@ fn border(b: [i32; 8]) -> [i32; 8]
 
 // Place k of a finished row, from the sums down the columns.
 fn along(g: [i32; 8], k: usize) -> i32
-    requires { ⌜ (SmallRow 1020 g) × (1 ≤ k) × (k ≤ 6) ⌝ }
+    requires { ⌜ (SmallRow 1020 g) × (AtInside k) ⌝ }
     ensures { λ r. ⌜ r ≡ roundedSixteenth (weighted (entry g) k) ⌝ }
 {
     rounded(inside(g[k - 1], g[k], g[k + 1]))
 }
 
 fn along_edge(g: [i32; 8], k: usize) -> i32
-    requires { ⌜ (SmallRow 1020 g) × AtEdge k ⌝ }
+    requires { ⌜ (SmallRow 1020 g) × (AtEdge k) ⌝ }
     ensures { λ r. ⌜ r ≡ roundedSixteenth (weighted (entry g) k) ⌝ }
 {
     rounded(edge(g[k]))

@@ -12,7 +12,7 @@ use Rattle.h261_groups.specs.declared.Format.{Format}
 use Rattle.h261_groups.specs.declared.Format.the-variants.{Qcif, Cif}
 use Rattle.h261_groups.specs.Format.{groupNumbers, groupCount, row, column, sizeOf}
 use Rattle.size.specs.Place.{macroblocksAcross, macroblocksDown, blocksAcross, blocksDown, index, own, blockOf, gridOf, On}
-use Rattle.h261_groups.specs.Order.{groupsAcross, macroblockCount, groupOf, addressOf, rowOf, columnOf, macroblockAt}
+use Rattle.h261_groups.specs.Order.{groupsAcross, macroblockCount, rowOf, columnOf, macroblockAt}
 use Rattle.size.proofs.Grid.{Same, index-same, Spot, spot}
 use Rattle.h261_groups.proofs.Numbers.{number-row, number-column, of-number, of-row, of-column}
 use Rattle.h261_groups.specs.Blocks.{Belongs, EveryIndex, PlaceOnce}
@@ -103,6 +103,13 @@ group-at Cif g l = eqb-yes (all-at 12 (groups-right Cif) tt g l)
 
 group-in : (f : Format) (n : ℕ) → n < macroblockCount f → n / 33 < groupCount f
 group-in f n l = omega arith
+
+-- the number of the group that macroblock n is of, and its address there
+abbrev pub groupOf : Format → ℕ → ℕ
+groupOf f n = getD (groupNumbers f) (n / 33) 0
+
+abbrev pub addressOf : ℕ → ℕ
+addressOf n = n % 33 + 1
 
 -- the first row and column of samples of macroblock n
 pub row-at : (f : Format) (n : ℕ) → n < macroblockCount f → row (groupOf f n) (addressOf n) ≡ rowOf f n * 16

@@ -1,5 +1,5 @@
 -- QCIF and CIF: what an H.261 format decides. Assumes nothing.
-use Prim.Native.Nat.{ℕ, _+_, _-_, _*_, _/_, _%_}
+use Prim.Native.Nat.{ℕ, _+_, _-_, _*_, _/_, _%_, _≤_}
 use mathlib.Core.List.{List, [], _∷_}
 use Rattle.size.specs.declared.Size.{Size}
 use Rattle.size.specs.declared.Size.the-variants as S
@@ -25,6 +25,13 @@ groupNumbers Cif = 1 ∷ 2 ∷ 3 ∷ 4 ∷ 5 ∷ 6 ∷ 7 ∷ 8 ∷ 9 ∷ 10 ∷ 
 abbrev pub groupCount : Format → ℕ
 groupCount Qcif = 3
 groupCount Cif = 12
+
+-- a group's number, and an address in the group
+pub record Addressed (number address : ℕ) : Type 0 where
+  pub first-group : 1 ≤ number
+  pub last-group : number ≤ 12
+  pub first-address : 1 ≤ address
+  pub last-address : address ≤ 33
 
 -- "placed as Figure 6 has them": two groups of 176 by 48 to a row; QCIF has the left ones alone. A group is three rows of eleven macroblocks of 16 by 16.
 -- The first column and row of the macroblock at an address, 1 to 33, of a group

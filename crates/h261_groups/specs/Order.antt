@@ -1,9 +1,8 @@
 -- The order in which macroblocks are sent, and where each lies. H.261, Figures 6 and 8: groups by rows, three rows of eleven macroblocks in each. Assumes nothing.
 use Prim.Native.Nat.{ℕ, _+_, _*_, _/_, _%_}
-use lib.ListN.{getD}
 use Rattle.h261_groups.specs.declared.Format.{Format}
 use Rattle.h261_groups.specs.declared.Format.the-variants.{Qcif, Cif}
-use Rattle.h261_groups.specs.Format.{groupNumbers, groupCount}
+use Rattle.h261_groups.specs.Format.{groupCount}
 
 -- groups, across
 abbrev pub groupsAcross : Format → ℕ
@@ -13,12 +12,6 @@ groupsAcross Cif = 2
 -- macroblock n is the one at address n % 33 + 1 of the group n / 33, counted from 0
 abbrev pub macroblockCount : Format → ℕ
 macroblockCount f = groupCount f * 33
-
-abbrev pub groupOf : Format → ℕ → ℕ
-groupOf f n = getD (groupNumbers f) (n / 33) 0
-
-abbrev pub addressOf : ℕ → ℕ
-addressOf n = n % 33 + 1
 
 -- the row and column of macroblocks that macroblock n stands in
 abbrev pub rowOf : Format → ℕ → ℕ

@@ -1,7 +1,7 @@
 // QCIF and CIF, the formats of H.261: their sizes, the order of groups and macroblocks, the lengths of a description.
 use size::Size;
 ghost use mathlib.Core.Path.{_≡_};
-ghost use Rattle.size.specs.Size.{width, height, limit, storeLength, outputLength, collectionLength, blocksLength};
+ghost use Rattle.size.specs.Size.{width, height, limit, outputLength};
 ghost use Rattle.h261_groups.specs.Format.{sizeOf, formatBit, headLength, macroblocksLength, levelsLength};
 
 pub mod order;
@@ -41,31 +41,11 @@ pub fn limit(format: Format) -> usize
     size::limit(size_of(format))
 }
 
-pub fn store_length(format: Format) -> usize
-    ensures { λ r. ⌜ r ≡ storeLength (sizeOf format) ⌝ }
-{
-    size::store_length(size_of(format))
-}
-
 // The writer's output.
 pub fn output_length(format: Format) -> usize
     ensures { λ r. ⌜ r ≡ outputLength (sizeOf format) ⌝ }
 {
     size::output_length(size_of(format))
-}
-
-// The receiver's collection buffer.
-pub fn collection_length(format: Format) -> usize
-    ensures { λ r. ⌜ r ≡ collectionLength (sizeOf format) ⌝ }
-{
-    size::collection_length(size_of(format))
-}
-
-// The sender's blocks of one picture.
-pub fn blocks_length(format: Format) -> usize
-    ensures { λ r. ⌜ r ≡ blocksLength (sizeOf format) ⌝ }
-{
-    size::blocks_length(size_of(format))
 }
 
 // ---- H.261's own

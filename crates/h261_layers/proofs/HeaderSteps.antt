@@ -4,7 +4,7 @@ use mathlib.Core.List.{List}
 use Prim.Native.Nat.{ℕ}
 use Rattle.refusals.specs.declared.Reason.the-variants.{NoStartCode, OtherGroup}
 use Rattle.bits.specs.Bits.{bitsLeft}
-use Rattle.bits.specs.Read.{Reader, _>>=_, done, field, judged}
+use Rattle.bits.specs.Read.{Reader, _>>=_, done, field, judgedRead}
 use Rattle.bits.specs.Answer.{Within}
 use Rattle.fields.specs.Rules.{expect, quantiser, spares}
 use Rattle.fields.proofs.Row.{Row}
@@ -31,7 +31,7 @@ abbrev pub afterPtype : ℕ → ℕ → Reader Header
 afterPtype tr ptype = spares >>= λ dropped. afterSpares tr ptype
 
 abbrev pub afterTr : Format → ℕ → Reader Header
-afterTr f tr = judged (field 6) (ptypeOf f) >>= afterPtype tr
+afterTr f tr = judgedRead (field 6) (ptypeOf f) >>= afterPtype tr
 
 abbrev pub afterStart : Format → Reader Header
 afterStart f = field 5 >>= afterTr f

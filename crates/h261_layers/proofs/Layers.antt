@@ -13,7 +13,7 @@ use Rattle.laws.proofs.Choice.{both-left, both-right}
 use Rattle.refusals.specs.declared.Reason.the-variants.{NoStartCode, OtherFormat, OtherGroup, AddressPast, Forbidden, CoefficientPast, StartCodeLast, VectorOut}
 use Rattle.refusals.specs.Number.{number}
 use Rattle.bits.specs.Bits.{Bit, O, I, bitsOf}
-use Rattle.bits.specs.Read.{field, Reader, fine, against, judged}
+use Rattle.bits.specs.Read.{field, Reader, fine, against, judgedRead}
 use Rattle.bits.specs.Code.{Entry, word}
 use Rattle.bits.proofs.Codes.{each}
 use Rattle.bits.proofs.Logic.{Reads, reads-any, reads-done, reads-then, reads-turn, reads-map, reads-loop, reads-never, Judges, reads-judged, judges-pick, judges-fine, judges-against, reads-field, reads-word, reads-orEnd}
@@ -27,9 +27,9 @@ use Rattle.h261_groups.specs.Format.{formatBit, groupNumbers}
 use Rattle.h261_groups.specs.declared.Format.{Format}
 use Rattle.h261_groups.specs.declared.Format.the-variants.{Qcif, Cif}
 use Rattle.h261_description.specs.Vector.{inRange, inPicture, Before, atStart, preceding}
-use Rattle.h261_description.specs.Value.{after}
-use Rattle.layout.specs.Proper.{If, Each, Fits, Begins, allEmpty}
-use Rattle.h261_description.specs.Proper.{ProperBlocks, ProperVector, ProperMacroblock, Rising, ProperGroup, ProperGroups, Proper}
+use Rattle.h261_description.specs.Value.{beforeNext}
+use Rattle.layout.specs.Proper.{If, Each, Fits, Begins, allEmpty, RisingTo}
+use Rattle.h261_description.specs.Proper.{ProperBlocks, ProperVector, ProperMacroblock, ProperGroup, ProperGroups, Proper}
 use Rattle.h261_layers.specs.Vector.{pairOf, landing, componentRead, componentsRead, vectorRead}
 use Rattle.fields.specs.Rules.{optional}
 use Rattle.h261_layers.specs.Grammar.{fits, coefficientsAfter, coefficients, dcRead, intraBlock, interBlock, blocksRead, patternRead, macroblock, Mba, step, stuffed, ended, mbaOf, mba, macroblocksAfter, macroblocksFrom, groupHead, group, groupsRead, ptypeOf, header, picture}
@@ -53,7 +53,7 @@ judges-fits ends room (sent c) h =
 judges-fits ends room over h = judges-fine over h
 
 placed-reads : {bound : ℕ} (ends : Bool) (room : ℕ) (table : List Entry) → T (each (meant ends) table)
-    → Reads bound 1 (λ e left. Placed ends room e) (judged (coefficientRead table) (fits room))
+    → Reads bound 1 (λ e left. Placed ends room e) (judgedRead (coefficientRead table) (fits room))
 placed-reads ends room table t = reads-judged (coefficient-reads ends table t) (λ e left g. judges-fits ends room e g)
 
 -- ---- blocks
@@ -274,19 +274,23 @@ table1-meanings : T (each (leb 1) table1)
 unfolding table1
 table1-meanings = tt
 
-pub mba-reads : {bound : ℕ} (last : Bool) (address : ℕ) → Reads bound 1 (λ x left. Met last address x) (judged (word table1) (mbaOf last address))
+pub mba-reads : {bound : ℕ} (last : Bool) (address : ℕ) → Reads bound 1 (λ x left. Met last address x) (judgedRead (word table1) (mbaOf last address))
 mba-reads last address = reads-judged (reads-word (leb 1) table1 table1-meanings) (λ m left g. judges-mba last address m (leb→le 1 m g))
 
 -- in the last group no bit is left after the macroblocks
 abbrev pub Ended : Bool → List Bit → Type 0
 Ended last left = If last (left ≡ []) (Unit {0})
 
+-- proper macroblocks at rising addresses, past `last` and up to 33
+abbrev pub Rising : Format → ℕ → ℕ → List Macroblock → Type 0
+Rising f number = RisingTo (ProperMacroblock f number) 33
+
 macroblocks-after : {bound : ℕ} (more : Before → Reader (List Macroblock)) (f : Format) (last : Bool) (number : ℕ) (before : Before) (x : Mba)
     → ((before : Before) → Reads bound 0 (λ ms left. Rising f number (before .address) ms × Ended last left) (more before)) → Met last (before .address) x
     → Reads bound 0 (λ ms left. Rising f number (before .address) ms × Ended last left) (macroblocksAfter more f number before x)
 macroblocks-after more f last number before (step s) h m =
     reads-any (reads-then (macroblock-reads f number before s)
-    (λ x left g. reads-map (λ xs. x ∷ xs) (h (after x)) (λ xs left r. ((rise (x .address) (g .0) (m .0), limit (x .address) (g .0) (m .1), g .1, r .0), r .1))))
+    (λ x left g. reads-map (λ xs. x ∷ xs) (h (beforeNext x)) (λ xs left r. ((rise (x .address) (g .0) (m .0), limit (x .address) (g .0) (m .1), g .1, r .0), r .1))))
   where
     rise : (address : ℕ) → address ≡ before .address + s → 1 ≤ s → before .address < address
     rise address e l = omega arith
@@ -303,7 +307,7 @@ macroblocks-from : (turns : ℕ) (f : Format) (last : Bool) (number : ℕ) (befo
 unfolding macroblocksFrom mba
 macroblocks-from zero f last number before = reads-never
 macroblocks-from (suc turns) f true number before =
-    reads-orEnd ended (judged (word table1) (mbaOf true (before .address))) (macroblocksAfter (macroblocksFrom turns f true number) f number before)
+    reads-orEnd ended (judgedRead (word table1) (mbaOf true (before .address))) (macroblocksAfter (macroblocksFrom turns f true number) f number before)
     (λ at. (record { end = refl; onward = omega arith }, (tt, refl)))
     (reads-any (reads-turn (mba-reads true (before .address)) (λ x left g. macroblocks-after (macroblocksFrom turns f true number) f true number before x (macroblocks-from turns f true number) g)))
 macroblocks-from (suc turns) f false number before =
@@ -339,7 +343,7 @@ all-groups-read Qcif = groups-read Qcif 1 (3 ∷ 5 ∷ [])
 all-groups-read Cif = groups-read Cif 1 (2 ∷ 3 ∷ 4 ∷ 5 ∷ 6 ∷ 7 ∷ 8 ∷ 9 ∷ 10 ∷ 11 ∷ 12 ∷ [])
 
 -- ---- the picture
-pub ptype-reads : {bound : ℕ} (f : Format) → Reads bound 6 (λ x left. x ≤ 7) (judged (field 6) (ptypeOf f))
+pub ptype-reads : {bound : ℕ} (f : Format) → Reads bound 6 (λ x left. x ≤ 7) (judgedRead (field 6) (ptypeOf f))
 unfolding number
 ptype-reads f =
     reads-judged (reads-field 6)

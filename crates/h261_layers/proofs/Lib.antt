@@ -8,3 +8,4 @@ pub mod VectorSteps
 pub mod MacroblockSteps
 pub mod MacroblockWhole
 pub mod Layers
+pub mod HeaderOf

@@ -12,7 +12,7 @@ use Rattle.refusals.specs.declared.Reason.the-variants.{AddressPast, StartCodeL
 use Rattle.refusals.specs.declared.Refusal.{Refusal}
 use Rattle.bits.specs.Bits.{Bit, bitsLeft}
 use Rattle.bits.proofs.Value.{left-none, left-more}
-use Rattle.bits.specs.Read.{Read, got, refused, bad, Reader, judged}
+use Rattle.bits.specs.Read.{Read, got, refused, bad, Reader, judgedRead}
 use Rattle.bits.specs.Code.{word}
 use Rattle.h261_words.specs.Tables.{table1}
 use Rattle.h261_words.specs.Words.{isIntra, hasCBP}
@@ -20,7 +20,6 @@ use Rattle.h261_groups.specs.declared.Format.{Format}
 use Rattle.layout.specs.Value.{Vector, zeroVector}
 use Rattle.h261_description.specs.Vector.{Before, restarts, preceding}
 use Rattle.layout.specs.Numbers.{within}
-use Rattle.h261_layers.specs.Answer.{Typed}
 use Rattle.h261_layers.specs.Vector.{vectorRead}
 use Rattle.h261_layers.proofs.Layers.{typed}
 use Rattle.h261_layers.specs.Grammar.{Mba, step, stuffed, ended, mbaOf, mba, patternRead}
@@ -29,25 +28,25 @@ use Rattle.fields.proofs.Meaning.{judged-refused, judged-fine, judged-against}
 
 -- ---- MBA
 module _ (last : Bool) (address : ℕ) (bs : List Bit) (at : ℕ) where
-  pub mba-refused : (r : Refusal) → word table1 bs at ≡ refused r → refused r ≡ judged (word table1) (mbaOf last address) bs at
+  pub mba-refused : (r : Refusal) → word table1 bs at ≡ refused r → refused r ≡ judgedRead (word table1) (mbaOf last address) bs at
   mba-refused r e = sym (judged-refused (word table1) (mbaOf last address) bs at r e)
 
   module _ (m : ℕ) (cs : List Bit) (q : ℕ) (e : word table1 bs at ≡ got m cs q) where
-    pub mba-stuffed : m ≡ 34 → got stuffed cs q ≡ judged (word table1) (mbaOf last address) bs at
+    pub mba-stuffed : m ≡ 34 → got stuffed cs q ≡ judgedRead (word table1) (mbaOf last address) bs at
     mba-stuffed h = sym (judged-fine (word table1) (mbaOf last address) bs at m cs q e stuffed (rw (eq-eqb m 34 h)))
 
     module _ (a : m ≡ 34 → ⊥) where
-      pub mba-start-last : m ≡ 35 → last ≡ true → bad StartCodeLast at ≡ judged (word table1) (mbaOf last address) bs at
+      pub mba-start-last : m ≡ 35 → last ≡ true → bad StartCodeLast at ≡ judgedRead (word table1) (mbaOf last address) bs at
       mba-start-last h l = sym (judged-against (word table1) (mbaOf last address) bs at m cs q e StartCodeLast (rw (ne-eqb m 34 a, eq-eqb m 35 h, l)))
 
-      pub mba-start : m ≡ 35 → last ≡ false → got ended cs q ≡ judged (word table1) (mbaOf last address) bs at
+      pub mba-start : m ≡ 35 → last ≡ false → got ended cs q ≡ judgedRead (word table1) (mbaOf last address) bs at
       mba-start h l = sym (judged-fine (word table1) (mbaOf last address) bs at m cs q e ended (rw (ne-eqb m 34 a, eq-eqb m 35 h, l)))
 
       module _ (b : m ≡ 35 → ⊥) where
-        pub mba-past : 33 < address + m → bad AddressPast at ≡ judged (word table1) (mbaOf last address) bs at
+        pub mba-past : 33 < address + m → bad AddressPast at ≡ judgedRead (word table1) (mbaOf last address) bs at
         mba-past h = sym (judged-against (word table1) (mbaOf last address) bs at m cs q e AddressPast (rw (ne-eqb m 34 a, ne-eqb m 35 b, lt-ltb 33 (address + m) h)))
 
-        pub mba-step : address + m ≤ 33 → got (step m) cs q ≡ judged (word table1) (mbaOf last address) bs at
+        pub mba-step : address + m ≤ 33 → got (step m) cs q ≡ judgedRead (word table1) (mbaOf last address) bs at
         mba-step h = sym (judged-fine (word table1) (mbaOf last address) bs at m cs q e (step m) (rw (ne-eqb m 34 a, ne-eqb m 35 b, le-ltb 33 (address + m) h)))
 
 -- in the last group
@@ -56,26 +55,30 @@ module _ (s : List ℕ) (n address at : ℕ) where
   unfolding mba
   mba-end l = rw (left-none s n at l)
 
-  pub opened : at < n → judged (word table1) (mbaOf true address) (bitsLeft s n at) at ≡ mba true address (bitsLeft s n at) at
+  pub opened : at < n → judgedRead (word table1) (mbaOf true address) (bitsLeft s n at) at ≡ mba true address (bitsLeft s n at) at
   unfolding mba
   opened l = some (bitsLeft s n at) (left-more s n at l)
     where
-      some : (bs : List Bit) {b : Bit} {cs : List Bit} → bs ≡ b ∷ cs → judged (word table1) (mbaOf true address) bs at ≡ mba true address bs at
+      some : (bs : List Bit) {b : Bit} {cs : List Bit} → bs ≡ b ∷ cs → judgedRead (word table1) (mbaOf true address) bs at ≡ mba true address bs at
       some [] e = let z : _≡_ {A = ℕ} 0 1 = cc in absurd (omega arith)
       some (b ∷ bs) e = refl
 
-  pub mba-on : (x : Read Mba) → at < n → x ≡ judged (word table1) (mbaOf true address) (bitsLeft s n at) at → x ≡ mba true address (bitsLeft s n at) at
+  pub mba-on : (x : Read Mba) → at < n → x ≡ judgedRead (word table1) (mbaOf true address) (bitsLeft s n at) at → x ≡ mba true address (bitsLeft s n at) at
   mba-on x l h = h ∙ opened l
 
 module _ (last : Bool) (address : ℕ) (bs : List Bit) (at : ℕ) (x : Read Mba) where
   pub mba-last : last ≡ true → x ≡ mba true address bs at → x ≡ mba last address bs at
   mba-last e h = rw e h
 
-  pub mba-other : last ≡ false → x ≡ judged (word table1) (mbaOf false address) bs at → x ≡ mba last address bs at
+  pub mba-other : last ≡ false → x ≡ judgedRead (word table1) (mbaOf false address) bs at → x ≡ mba last address bs at
   unfolding mba
   mba-other e h = rw e h
 
--- ---- a type of the table
+-- ---- a type of document 01's table
+pub record Typed (type : ℕ) : Type 0 where
+  pub low : 1 ≤ type
+  pub high : type ≤ 10
+
 pub typed-of : (t : ℕ) → T (typed t) → Typed t
 typed-of t h =
     let w = both-left (within 1 10 t) (pick (isIntra t) (opposite (hasCBP t)) true) h in

@@ -9,10 +9,10 @@ use denote.Enum.Declared.{tagOf}
 use Rattle.refusals.specs.declared.Refusal.{Refusal}
 use Rattle.bits.specs.Bits.{Bit, bitsLeft}
 use Rattle.bits.specs.Read.{Read, got, refused, Reader, _>>=_}
-use Rattle.bits.specs.Answer.{wordRefusal}
-use Rattle.bits.specs.declared.WordRead.{WordRead}
-use Rattle.bits.specs.declared.WordRead.the-variants.{Got as GotWord, Refused as NoWord}
-use Rattle.bits.proofs.WordRead.{the-type as word-type}
+use Rattle.bits.specs.Answer.{fieldRefusal}
+use Rattle.bits.specs.declared.FieldRead.{FieldRead}
+use Rattle.bits.specs.declared.FieldRead.the-variants.{Got as GotField, Refused as NoField}
+use Rattle.bits.proofs.FieldRead.{the-type as field-type}
 use Rattle.bits.proofs.Logic.{Reads}
 use Rattle.fields.specs.Answer.{pairRefusal}
 use Rattle.fields.specs.declared.PairRead.{PairRead}
@@ -23,11 +23,11 @@ use Rattle.layout.specs.Value.{Vector}
 use Rattle.h261_layers.specs.Answer.{componentOf, vectorOf, asComponent, asVector}
 
 module _ {x : Read ℤ} (s : List ℕ) (n : ℕ) where
-  pub no-component : (r : WordRead) → tagOf word-type r ≡ 1 → asComponent s n r ≡ x → x ≡ refused (wordRefusal r)
-  no-component (GotWord v p) e w = absurd (omega arith)
-  no-component (NoWord r) e w = sym w
+  pub no-component : (r : FieldRead) → tagOf field-type r ≡ 1 → asComponent s n r ≡ x → x ≡ refused (fieldRefusal r)
+  no-component (GotField v p) e w = absurd (omega arith)
+  no-component (NoField r) e w = sym w
 
-  pub is-component : (r : WordRead) (v p : ℕ) → asComponent s n r ≡ x → r ≡ GotWord v p → x ≡ got (componentOf v) (bitsLeft s n p) p
+  pub is-component : (r : FieldRead) (v p : ℕ) → asComponent s n r ≡ x → r ≡ GotField v p → x ≡ got (componentOf v) (bitsLeft s n p) p
   is-component r v p w e = sym w ∙ ap (asComponent s n) e
 
 module _ {x : Read Vector} (s : List ℕ) (n : ℕ) where
@@ -40,12 +40,12 @@ module _ {x : Read Vector} (s : List ℕ) (n : ℕ) where
 
 -- ---- a row
 module _ {A : Type 0} (r : Reader ℤ) (k : ℤ → Reader A) {whole : Read A} {s : List ℕ} {n p : ℕ} (h : Row whole s n (r >>= k) p) where
-  pub row-component : {least : ℕ} {Good : ℤ → List Bit → Type 0} {x : WordRead} {v q : ℕ} → Reads (suc (length (bitsLeft s n p))) least Good r
-      → asComponent s n x ≡ r (bitsLeft s n p) p → x ≡ GotWord v q → Row whole s n (k (componentOf v)) q
+  pub row-component : {least : ℕ} {Good : ℤ → List Bit → Type 0} {x : FieldRead} {v q : ℕ} → Reads (suc (length (bitsLeft s n p))) least Good r
+      → asComponent s n x ≡ r (bitsLeft s n p) p → x ≡ GotField v q → Row whole s n (k (componentOf v)) q
   row-component {x = x} {v} {q} reads w e = row-next r k h (componentOf v) q reads (is-component s n x v q w e)
 
-  pub row-no-component : (x : WordRead) {y : Refusal} → tagOf word-type x ≡ 1 → asComponent s n x ≡ r (bitsLeft s n p) p → y ≡ wordRefusal x → refused y ≡ whole
-  row-no-component x t w e = ap (λ (z : Refusal). refused z) e ∙ row-refused r k h (wordRefusal x) (no-component s n x t w)
+  pub row-no-component : (x : FieldRead) {y : Refusal} → tagOf field-type x ≡ 1 → asComponent s n x ≡ r (bitsLeft s n p) p → y ≡ fieldRefusal x → refused y ≡ whole
+  row-no-component x t w e = ap (λ (z : Refusal). refused z) e ∙ row-refused r k h (fieldRefusal x) (no-component s n x t w)
 
 module _ {A : Type 0} (r : Reader Vector) (k : Vector → Reader A) {whole : Read A} {s : List ℕ} {n p : ℕ} (h : Row whole s n (r >>= k) p) where
   pub row-vector : {least : ℕ} {Good : Vector → List Bit → Type 0} {x : PairRead} {a b q : ℕ} → Reads (suc (length (bitsLeft s n p))) least Good r

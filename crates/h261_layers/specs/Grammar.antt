@@ -8,7 +8,7 @@ use lib.ListN.{length}
 use Rattle.laws.specs.Choice.{pick, both, either}
 use Rattle.refusals.specs.declared.Reason.the-variants.{Count, NoStartCode, OtherFormat, OtherGroup, AddressPast, Forbidden, CoefficientPast, StartCodeLast}
 use Rattle.bits.specs.Bits.{Bit, O, I, bitsOf, source}
-use Rattle.bits.specs.Read.{Read, bad, Reader, _>>=_, done, field, Judged, fine, against, judged, orEnd, loop, never}
+use Rattle.bits.specs.Read.{Read, bad, Reader, _>>=_, done, field, Judged, fine, against, judgedRead, orEnd, loop, never}
 use Rattle.bits.specs.Code.{Entry, word}
 use Rattle.fields.specs.Rules.{expect, quantiser, spares, optional}
 use Rattle.h261_words.specs.Tables.{table1, table2, table4, stuffing, startCode, firstTable5, laterTable5}
@@ -19,7 +19,7 @@ use Rattle.size.specs.Size.{limit}
 use Rattle.h261_groups.specs.Format.{formatBit, groupNumbers, sizeOf}
 use Rattle.h261_groups.specs.declared.Format.{Format}
 use Rattle.h261_description.specs.Vector.{Before, atStart, preceding}
-use Rattle.h261_description.specs.Value.{Picture, after}
+use Rattle.h261_description.specs.Value.{Picture, beforeNext}
 use Rattle.h261_layers.specs.Vector.{vectorRead}
 
 -- ---- blocks
@@ -36,11 +36,11 @@ coefficientsAfter more room (sent c) = more (room - suc (c .run)) >>= λ rest. d
 unfoldable pub coefficients : ℕ → ℕ → List Entry → Reader Block
 coefficients zero room table = never
 coefficients (suc turns) room table =
-    judged (coefficientRead table) (fits room) >>= coefficientsAfter (λ left. coefficients turns left laterTable5) room
+    judgedRead (coefficientRead table) (fits room) >>= coefficientsAfter (λ left. coefficients turns left laterTable5) room
 
 -- "each with an 8-bit DC code first"; refusal 10: "DC codes 0 and 128 are forbidden"
 abbrev pub dcRead : Reader ℕ
-dcRead = judged (field 8) (λ code. pick (forbidden code) (against Forbidden) (fine code))
+dcRead = judgedRead (field 8) (λ code. pick (forbidden code) (against Forbidden) (fine code))
 
 unfoldable pub intraBlock : Reader Block
 intraBlock = do
@@ -93,14 +93,14 @@ mbaOf last address m =
 
 -- "At an MBA place the start code is a codeword too; in the last group, no bits left there ends the picture."
 unfoldable pub mba : Bool → ℕ → Reader Mba
-mba true address = orEnd ended (judged (word table1) (mbaOf true address))
-mba false address = judged (word table1) (mbaOf false address)
+mba true address = orEnd ended (judgedRead (word table1) (mbaOf true address))
+mba false address = judgedRead (word table1) (mbaOf false address)
 
 -- the macroblocks from what stands at an MBA place on
 abbrev pub macroblocksAfter : (Before → Reader (List Macroblock)) → Format → ℕ → Before → Mba → Reader (List Macroblock)
 macroblocksAfter more f group before (step s) = do
   x ← macroblock f group before s
-  xs ← more (after x)
+  xs ← more (beforeNext x)
   done (x ∷ xs)
 macroblocksAfter more f group before stuffed = more before
 macroblocksAfter more f group before ended = done []
@@ -153,7 +153,7 @@ unfoldable pub header : Format → Reader Header
 header f = do
   psc ← expect 20 0b00000000000000010000 NoStartCode
   tr ← field 5
-  ptype ← judged (field 6) (ptypeOf f)
+  ptype ← judgedRead (field 6) (ptypeOf f)
   dropped ← spares
   gbsc ← expect 16 0b0000000000000001 NoStartCode
   done (record { tr = tr; ptype = ptype })

@@ -4,6 +4,7 @@ use mathlib.Core.List.{List}
 use lib.ListN.{length}
 use Rattle.bits.specs.Answer.{Within}
 use Rattle.h261_words.specs.Lookup.{Tables}
+use Rattle.h261_groups.specs.Format.{Addressed}
 use Rattle.h261_layers.specs.Answer.{Kept, KeptBehind}
 use Rattle.h261_layers.specs.declared.Behind.{Behind}
 
@@ -16,13 +17,6 @@ pub record Reading (tables bytes : List ℕ) (count at : ℕ) : Type 0 where
 pub record Span (from end : ℕ) (levels : List ℕ) : Type 0 where
   pub forward : from ≤ end
   pub room : end ≤ length levels
-
--- a group's number, and an address in the group
-pub record Addressed (number address : ℕ) : Type 0 where
-  pub first-group : 1 ≤ number
-  pub last-group : number ≤ 12
-  pub first-address : 1 ≤ address
-  pub last-address : address ≤ 33
 
 -- a vector after this preceding one
 pub record VectorReady (number address horizontal vertical : ℕ) : Type 0 where

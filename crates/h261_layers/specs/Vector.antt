@@ -4,7 +4,7 @@ use lib.Dec.{ltb}
 use lib.IntN.{ℤ, pos, _+ℤ_, _-ℤ_}
 use Rattle.laws.specs.Choice.{pick}
 use Rattle.refusals.specs.declared.Reason.the-variants.{VectorOut}
-use Rattle.bits.specs.Read.{Reader, done, Judged, fine, against, judged, _>>=_}
+use Rattle.bits.specs.Read.{Reader, done, Judged, fine, against, judgedRead, _>>=_}
 use Rattle.bits.specs.Code.{word}
 use Rattle.h261_words.specs.Tables.{table3}
 use Rattle.h261_groups.specs.declared.Format.{Format}
@@ -30,7 +30,7 @@ abbrev pub component : ℤ → Pair → Judged ℤ
 component preceding pair = landing (preceding +ℤ pair .printed) (preceding +ℤ pair .other)
 
 unfoldable pub componentRead : ℤ → Reader ℤ
-componentRead preceding = judged (word table3) (λ n. component preceding (pairOf n))
+componentRead preceding = judgedRead (word table3) (λ n. component preceding (pairOf n))
 
 -- ---- both: horizontal, then vertical
 unfoldable pub componentsRead : Vector → Reader Vector
@@ -44,4 +44,4 @@ abbrev pub pointing : Format → ℕ → ℕ → Vector → Judged Vector
 pointing f group address v = pick (inPicture f group address v) (fine v) (against VectorOut)
 
 unfoldable pub vectorRead : Format → ℕ → ℕ → Vector → Reader Vector
-vectorRead f group address preceding = judged (componentsRead preceding) (pointing f group address)
+vectorRead f group address preceding = judgedRead (componentsRead preceding) (pointing f group address)

@@ -13,7 +13,7 @@ ghost use lib.ListN.{length};
 ghost use Rattle.laws.specs.Choice.{pick};
 ghost use Rattle.bits.specs.Bits.{bitsLeft, bitsOf};
 ghost use Rattle.bits.specs.Read.{loop};
-ghost use Rattle.h261_words.specs.Tables.{firstTable5, laterTable5};
+ghost use Rattle.h261_words.specs.Tables.{tableOf};
 ghost use Rattle.layout.specs.Flat.{putBlock, putBlocks};
 ghost use Rattle.fields.specs.Answer.{mapRead, leaving};
 ghost use Rattle.h261_layers.specs.Answer.{blockEnd};
@@ -43,7 +43,7 @@ fn coefficients(
     end: usize,
 ) -> PlaceRead
     requires { ⌜ (Reading (now tables) (now bytes) count at) × (Span from end (now levels)) ⌝ }
-    ensures { λ r. ⌜ leaving (now (bytes .entry)) count r (now (levels .exit)) ≡ mapRead (putBlock (now (levels .entry)) from) (loop (λ turns. coefficientsRead turns (end - from) (pick opening firstTable5 laterTable5)) (bitsLeft (now (bytes .entry)) count at) at) ⌝ }
+    ensures { λ r. ⌜ leaving (now (bytes .entry)) count r (now (levels .exit)) ≡ mapRead (putBlock (now (levels .entry)) from) (loop (λ turns. coefficientsRead turns (end - from) (tableOf opening)) (bitsLeft (now (bytes .entry)) count at) at) ⌝ }
 {
     let mut place = at;
     let mut first = opening;
@@ -127,7 +127,7 @@ pub fn blocks(
     count: usize,
     at: usize,
     intra: bool,
-    pattern: u16,
+    pattern: u32,
     levels: &mut [u8],
     base: usize,
 ) -> PlaceRead

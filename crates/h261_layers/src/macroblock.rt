@@ -5,9 +5,7 @@ use crate::MbaRead;
 use crate::block::blocks;
 use crate::vector::vector;
 use bits::FieldRead;
-use bits::WordRead;
 use bits::field_refusal;
-use bits::word_refusal;
 use fields::PairRead;
 use fields::PlaceRead;
 use fields::pair_refusal;
@@ -29,9 +27,9 @@ ghost use mathlib.Core.List.{_∷_, []};
 ghost use lib.ListN.{length};
 ghost use lib.Seq.{sets};
 ghost use Rattle.bits.specs.Bits.{bitsLeft};
-ghost use Rattle.bits.specs.Read.{judged};
+ghost use Rattle.bits.specs.Read.{judgedRead};
 ghost use Rattle.bits.specs.Code.{word};
-ghost use Rattle.bits.specs.Answer.{Within, asField, asWord};
+ghost use Rattle.bits.specs.Answer.{Within, asField};
 ghost use Rattle.h261_words.specs.Tables.{table1};
 ghost use Rattle.h261_words.specs.Words.{isMC, hasMQUANT};
 ghost use Rattle.layout.specs.Flat.{byteOf};
@@ -54,11 +52,11 @@ fn mba_word(
     address: usize,
 ) -> MbaRead
     requires { ⌜ (Reading (now tables) (now bytes) count at) × (address ≤ 33) ⌝ }
-    ensures { λ r. ⌜ asMba (now (bytes .entry)) count r ≡ judged (word table1) (mbaOf last address) (bitsLeft (now (bytes .entry)) count at) at ⌝ }
+    ensures { λ r. ⌜ asMba (now (bytes .entry)) count r ≡ judgedRead (word table1) (mbaOf last address) (bitsLeft (now (bytes .entry)) count at) at ⌝ }
 {
     let read = h261_words::mba(tables, bytes, count, at);
-    let WordRead::Got(meaning, next) = read else {
-        return MbaRead::Refused(word_refusal(read));
+    let FieldRead::Got(meaning, next) = read else {
+        return MbaRead::Refused(field_refusal(read));
     };
     if meaning == 34 {
         return MbaRead::Stuffing(next);
@@ -122,17 +120,17 @@ fn mquant(bytes: &[u8], count: usize, at: usize, mtype: u16) -> FieldRead
 }
 
 // CBP, where the type has it; else all blocks of INTRA, and none.
-fn pattern(tables: &WordTables, bytes: &[u8], count: usize, at: usize, mtype: u16) -> WordRead
+fn pattern(tables: &WordTables, bytes: &[u8], count: usize, at: usize, mtype: u16) -> FieldRead
     requires { ⌜ Reading (now tables) (now bytes) count at ⌝ }
-    ensures { λ r. ⌜ asWord (now (bytes .entry)) count r ≡ patternRead mtype (bitsLeft (now (bytes .entry)) count at) at ⌝ }
+    ensures { λ r. ⌜ asField (now (bytes .entry)) count r ≡ patternRead mtype (bitsLeft (now (bytes .entry)) count at) at ⌝ }
 {
     if has_cbp(mtype) {
         return h261_words::cbp(tables, bytes, count, at);
     }
     if is_intra(mtype) {
-        return WordRead::Got(63, at);
+        return FieldRead::Got(63, at);
     }
-    WordRead::Got(0, at)
+    FieldRead::Got(0, at)
 }
 
 // The vector, where the type is MC; else zero.
@@ -215,9 +213,10 @@ pub fn macroblock(
     ensures { λ r. ⌜ asMacroblock (now (bytes .entry)) count r (now (macroblocks .exit)) (now (levels .exit)) ≡ mapRead (putSent group (now (macroblocks .entry)) (now (levels .entry))) (macroblockRead format number (beforeOf behind) step (bitsLeft (now (bytes .entry)) count at) at) ⌝ }
 {
     let kind = h261_words::mtype(tables, bytes, count, at);
-    let WordRead::Got(mtype, after_type) = kind else {
-        return MacroblockRead::Refused(word_refusal(kind));
+    let FieldRead::Got(found, after_type) = kind else {
+        return MacroblockRead::Refused(field_refusal(kind));
     };
+    let mtype = found as u16;
     let quantised = mquant(bytes, count, after_type, mtype);
     let FieldRead::Got(quantiser, after_quantiser) = quantised else {
         return MacroblockRead::Refused(field_refusal(quantised));
@@ -237,8 +236,8 @@ pub fn macroblock(
         return MacroblockRead::Refused(pair_refusal(pointed));
     };
     let coded = pattern(tables, bytes, count, after_vector, mtype);
-    let WordRead::Got(cbp, after_pattern) = coded else {
-        return MacroblockRead::Refused(word_refusal(coded));
+    let FieldRead::Got(cbp, after_pattern) = coded else {
+        return MacroblockRead::Refused(field_refusal(coded));
     };
     let address = behind.address + step;
     let index = group * 33 + (address - 1);

@@ -1,6 +1,6 @@
 // MVD: a macroblock's vector from the preceding one. A component is kept as 16 more than it is, so that nothing is negative.
-use bits::WordRead;
-use bits::word_refusal;
+use bits::FieldRead;
+use bits::field_refusal;
 use fields::PairRead;
 use h261_groups::Format;
 use h261_words::WordTables;
@@ -8,28 +8,28 @@ use refusals::Reason;
 use refusals::Refusal;
 ghost use mathlib.Core.Path.{_≡_};
 ghost use Rattle.bits.specs.Bits.{bitsLeft};
-ghost use Rattle.h261_groups.specs.Format.{column as columnOf, row as rowOf};
+ghost use Rattle.h261_groups.specs.Format.{Addressed, column as columnOf, row as rowOf};
 ghost use Rattle.h261_layers.specs.Answer.{Kept, componentOf, vectorOf, asComponent, asVector};
-ghost use Rattle.h261_layers.specs.Ready.{Reading, Addressed, VectorReady};
+ghost use Rattle.h261_layers.specs.Ready.{Reading, VectorReady};
 ghost use Rattle.h261_layers.specs.Vector.{componentRead, vectorRead};
 
 // One component: of a pair's two differences the one that lands in -15..15. Both are the same modulo 32.
-fn component(tables: &WordTables, bytes: &[u8], count: usize, at: usize, preceding: u8) -> WordRead
+fn component(tables: &WordTables, bytes: &[u8], count: usize, at: usize, preceding: u8) -> FieldRead
     requires { ⌜ (Reading (now tables) (now bytes) count at) × (Kept preceding) ⌝ }
     ensures { λ r. ⌜ asComponent (now (bytes .entry)) count r ≡ componentRead (componentOf preceding) (bitsLeft (now (bytes .entry)) count at) at ⌝ }
 {
     let read = h261_words::mvd(tables, bytes, count, at);
-    let WordRead::Got(difference, next) = read else {
-        return WordRead::Refused(word_refusal(read));
+    let FieldRead::Got(difference, next) = read else {
+        return FieldRead::Refused(field_refusal(read));
     };
-    let landed = ((preceding as u16) + difference + 16) % 32;
+    let landed = ((preceding as u32) + difference + 16) % 32;
     if landed == 0 {
-        return WordRead::Refused(Refusal {
+        return FieldRead::Refused(Refusal {
             reason: Reason::VectorOut,
             place: at,
         });
     }
-    WordRead::Got(landed, next)
+    FieldRead::Got(landed, next)
 }
 
 // The first column and row of the macroblock at an address of a group.
@@ -63,12 +63,12 @@ pub fn vector(
     ensures { λ r. ⌜ asVector (now (bytes .entry)) count r ≡ vectorRead format number address (vectorOf horizontal vertical) (bitsLeft (now (bytes .entry)) count at) at ⌝ }
 {
     let first = component(tables, bytes, count, at, horizontal);
-    let WordRead::Got(across, after) = first else {
-        return PairRead::Refused(word_refusal(first));
+    let FieldRead::Got(across, after) = first else {
+        return PairRead::Refused(field_refusal(first));
     };
     let second = component(tables, bytes, count, after, vertical);
-    let WordRead::Got(down, next) = second else {
-        return PairRead::Refused(word_refusal(second));
+    let FieldRead::Got(down, next) = second else {
+        return PairRead::Refused(field_refusal(second));
     };
     let x = column(number, address) + (across as usize);
     let y = row(number, address) + (down as usize);

@@ -24,7 +24,7 @@ use Rattle.layout.specs.Proper.{If, Each, Fits, Begins, allEmpty}
 use Rattle.h261_description.specs.Proper.{ProperBlocks}
 use Rattle.fields.specs.Rules.{optional}
 use Rattle.h261_layers.specs.Grammar.{fits, coefficientsAfter, coefficients, dcRead, intraBlock, interBlock, blocksRead, patternRead}
-use Rattle.h261_writer.specs.Write.{given, coefficientsOf, blockOf, blocksOf, present, patternOf}
+use Rattle.h261_writer.specs.Write.{bitsIf, coefficientsOf, blockOf, blocksOf, presenceOf, patternOf}
 use Rattle.h261_readback.proofs.Words.{back-cbp, back-first, back-later, back-over, length-coefficient}
 
 -- ---- one block
@@ -95,7 +95,7 @@ back-intra c cs rest p e =
 -- ---- the blocks that are sent
 abbrev marks : List Block → List Bit
 marks [] = []
-marks (b ∷ bs) = bitOf (present b) ∷ marks bs
+marks (b ∷ bs) = bitOf (presenceOf b) ∷ marks bs
 
 -- as the type says: INTRA blocks all begin with a DC code
 abbrev Starting : Bool → List Block → Type 0
@@ -117,7 +117,7 @@ back-marked false ((c ∷ cs) ∷ bs) rest p s =
 pow-pos : (k : ℕ) → 0 < 2 ^ k
 pow-pos k = one-le-pow k 2 (lit< tt)
 
-present-bit : (b : Block) → present b < 2
+present-bit : (b : Block) → presenceOf b < 2
 present-bit [] = lit< tt
 present-bit (c ∷ cs) = lit< tt
 
@@ -129,7 +129,7 @@ less-case (suc (suc p)) q n l h = absurd (omega arith)
 pattern-less : (bs : List Block) → patternOf bs < 2 ^ length bs
 unfolding patternOf
 pattern-less [] = lit< tt
-pattern-less (b ∷ bs) = less-case (present b) (patternOf bs) (length bs) (present-bit b) (pattern-less bs)
+pattern-less (b ∷ bs) = less-case (presenceOf b) (patternOf bs) (length bs) (present-bit b) (pattern-less bs)
 
 pattern-some : (bs : List Block) → T (opposite (allEmpty bs)) → 0 < patternOf bs
 unfolding patternOf
@@ -169,7 +169,7 @@ unfolding patternOf
 marks-bits [] = refl
 marks-bits (b ∷ bs) =
     let n = length bs in
-    let p = present b in
+    let p = presenceOf b in
     let q = patternOf bs in
     let e : p * 2 ^ n + q ≡ q + p * 2 ^ n = omega arith in
     let h : (0 + p) % 2 ≡ p = omega (arith, present-bit b) in
@@ -192,7 +192,7 @@ module _ (type : ℕ) (bs : List Block) (rest : List Bit) (p : ProperBlocks type
       let e : bitsOf 6 (patternOf bs) ≡ marks bs = ap (λ (n : ℕ). bitsOf n (patternOf bs)) (sym (p .six)) ∙ marks-bits bs in
       rw e (back-marked (isIntra type) bs rest (p .fitting) starting)
 
-  pub back-pattern : Back (patternRead type) (given (hasCBP type) (wordOf table4 (patternOf bs))) rest (patternOf bs)
+  pub back-pattern : Back (patternRead type) (bitsIf (hasCBP type) (wordOf table4 (patternOf bs))) rest (patternOf bs)
   back-pattern = go (isIntra type) (hasCBP type) (p .coded)
     where
       most : patternOf bs ≤ 63
@@ -201,7 +201,7 @@ module _ (type : ℕ) (bs : List Block) (rest : List Bit) (p : ProperBlocks type
       full : Each Begins bs → patternOf bs ≡ 63
       full h = let e : 2 ^ length bs ≡ 64 = ap (λ (n : ℕ). 2 ^ n) (p .six) in omega (arith, pattern-full bs h)
 
-      go : (i c : Bool) → Coded i c bs → Back (optional c (pick i 63 0) (word table4)) (given c (wordOf table4 (patternOf bs))) rest (patternOf bs)
+      go : (i c : Bool) → Coded i c bs → Back (optional c (pick i 63 0) (word table4)) (bitsIf c (wordOf table4 (patternOf bs))) rest (patternOf bs)
       go true true h = back-cbp (patternOf bs) rest (omega (arith, full h)) most
       go true false h = rw (full h) (back-done 63 rest)
       go false true h = back-cbp (patternOf bs) rest (pattern-some bs h) most

@@ -18,10 +18,10 @@ use Rattle.h261_groups.specs.declared.Format.{Format}
 use Rattle.h261_description.specs.Vector.{atStart}
 use Rattle.layout.specs.Value.{Group}
 use Rattle.layout.specs.Numbers.{all, isQuantiser}
-use Rattle.h261_description.specs.Proper.{Rising, ProperGroups}
+use Rattle.h261_description.specs.Proper.{ProperGroups}
 use Rattle.fields.specs.Rules.{expect, spares, sparesFrom, sparesAfter}
 use Rattle.h261_layers.specs.Grammar.{macroblocksFrom, groupHead, group, none, groupsRead}
-use Rattle.h261_layers.proofs.Layers.{Ended}
+use Rattle.h261_layers.proofs.Layers.{Ended, Rising}
 use Rattle.h261_writer.specs.Write.{macroblocksOf, groupOf, groupsOf}
 use Rattle.h261_readback.proofs.Vectors.{ranged-zero}
 use Rattle.h261_readback.proofs.Macroblocks.{back-quantiser, ending, back-macroblocks, more-bits}
@@ -39,15 +39,15 @@ back-spares rest =
 
 -- ---- groups
 -- GN, GQUANT, GEI
-abbrev headOf : ℕ → ℕ → List Bit
+abbrev pub headOf : ℕ → ℕ → List Bit
 headOf number q = bitsOf 4 number ++ (bitsOf 5 q ++ bitsOf 1 0)
 
-back-head : (number q : ℕ) (rest : List Bit) → number < 16 → T (isQuantiser q) → Back (groupHead number) (headOf number q) rest q
+pub back-head : (number q : ℕ) (rest : List Bit) → number < 16 → T (isQuantiser q) → Back (groupHead number) (headOf number q) rest q
 unfolding groupHead
 back-head number q rest l h =
     back-next _ (back-expected 4 number OtherGroup _ l) (back-next _ (back-quantiser q _ h) (back-end _ (back-spares rest) refl))
 
-back-group : (f : Format) (last : Bool) (number : ℕ) (g : Group) (rest : List Bit) → number < 16 → T (isQuantiser (g .gquant))
+pub back-group : (f : Format) (last : Bool) (number : ℕ) (g : Group) (rest : List Bit) → number < 16 → T (isQuantiser (g .gquant))
     → Rising f number 0 (g .macroblocks) → Ended last rest
     → Back (group f last number) (headOf number (g .gquant) ++ (macroblocksOf atStart (g .macroblocks) ++ ending last)) rest g
 unfolding group

@@ -5,3 +5,5 @@ pub mod Pictures
 pub mod ReadBack
 pub mod Vectors
 pub mod Words
+pub mod Extends
+pub mod Exactly

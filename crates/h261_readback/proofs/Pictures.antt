@@ -40,12 +40,12 @@ ptype-fine f t =
 
 -- ---- the header
 -- PSC, TR, PTYPE, PEI, the first GBSC
-abbrev headerOf : Format → Picture → List Bit
+abbrev pub headerOf : Format → Picture → List Bit
 headerOf f p =
     bitsOf 20 0b00000000000000010000
     ++ (bitsOf 5 (p .tr) ++ (bitsOf 6 (p .ptype * 8 + formatBit f * 4 + 0b11) ++ (bitsOf 1 0 ++ bitsOf 16 0b0000000000000001)))
 
-back-header : (f : Format) (p : Picture) (rest : List Bit) → p .tr < 32 → p .ptype < 8
+pub back-header : (f : Format) (p : Picture) (rest : List Bit) → p .tr < 32 → p .ptype < 8
     → Back (header f) (headerOf f p) rest (record { tr = p .tr; ptype = p .ptype })
 unfolding header
 back-header f p rest l h =
@@ -56,7 +56,7 @@ back-header f p rest l h =
     (back-end _ (back-expected 16 0b0000000000000001 NoStartCode rest (lit< tt)) refl))))
 
 -- ---- the picture
-numbers-small : (f : Format) → T (all (λ number. ltb number 16) (groupNumbers f))
+pub numbers-small : (f : Format) → T (all (λ number. ltb number 16) (groupNumbers f))
 numbers-small Qcif = tt
 numbers-small Cif = tt
 
@@ -68,15 +68,20 @@ some-groups Cif = refl
 regroup-header : (a b c d s u : List Bit) → (a ++ (b ++ (c ++ (d ++ s)))) ++ u ≡ a ++ (b ++ (c ++ (d ++ (s ++ u))))
 regroup-header a b c d s u = simp append-assoc
 
-pub back-picture : (f : Format) (p : Picture) → Proper f p → Back (picture f) (pictureOf f p) [] p
-unfolding picture pictureOf
-back-picture f p h =
+-- the header with the first start code, and the groups without it, are what is written
+pub unstarted-picture : (f : Format) (p : Picture) → Proper f p → headerOf f p ++ unstarted (groupNumbers f) (p .groups) ≡ pictureOf f p
+unfolding pictureOf
+unstarted-picture f p h =
     let gs = p .groups in
     let start : bitsOf 16 1 ++ unstarted (groupNumbers f) gs ≡ groupsOf (groupNumbers f) gs =
     ap (λ (b : Bool). ending b ++ unstarted (groupNumbers f) gs) (sym (some-groups f)) ∙ started f (groupNumbers f) gs (h .grouped) in
     let ptype = p .ptype * 8 + formatBit f * 4 + 0b11 in
-    back-as
-    (regroup-header (bitsOf 20 16) (bitsOf 5 (p .tr)) (bitsOf 6 ptype) (bitsOf 1 0) (bitsOf 16 1) (unstarted (groupNumbers f) gs)
-    ∙ ap (λ (w : List Bit). bitsOf 20 16 ++ (bitsOf 5 (p .tr) ++ (bitsOf 6 ptype ++ (bitsOf 1 0 ++ w)))) start)
-    (back-next _ (back-header f p (unstarted (groupNumbers f) gs ++ []) (omega (arith, h .reference)) (omega (arith, h .typed)))
-    (back-end _ (back-groups f (groupNumbers f) gs (numbers-small f) (h .grouped)) refl))
+    regroup-header (bitsOf 20 16) (bitsOf 5 (p .tr)) (bitsOf 6 ptype) (bitsOf 1 0) (bitsOf 16 1) (unstarted (groupNumbers f) gs)
+    ∙ ap (λ (w : List Bit). bitsOf 20 16 ++ (bitsOf 5 (p .tr) ++ (bitsOf 6 ptype ++ (bitsOf 1 0 ++ w)))) start
+
+pub back-picture : (f : Format) (p : Picture) → Proper f p → Back (picture f) (pictureOf f p) [] p
+unfolding picture
+back-picture f p h =
+    back-as (unstarted-picture f p h)
+    (back-next _ (back-header f p (unstarted (groupNumbers f) (p .groups) ++ []) (omega (arith, h .reference)) (omega (arith, h .typed)))
+    (back-end _ (back-groups f (groupNumbers f) (p .groups) (numbers-small f) (h .grouped)) refl))

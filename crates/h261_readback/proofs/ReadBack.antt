@@ -9,12 +9,12 @@ use Rattle.bits.specs.Bits.{Bit}
 use Rattle.bits.specs.Read.{got}
 use Rattle.h261_groups.specs.Format.{sizeOf}
 use Rattle.size.specs.Size.{limit}
-use Rattle.h261_description.specs.Value.{laid, pictureIn}
+use Rattle.h261_description.specs.Value.{laidPicture, pictureIn}
 use Rattle.h261_description.proofs.Pictured.{picture-proper}
 use Rattle.h261_description.proofs.Relaid.{laid-back}
 use Rattle.h261_layers.specs.Grammar.{picture, reading}
 use Rattle.h261_writer.specs.Write.{pictureOf}
-use Rattle.h261_writer.specs.Output.{written}
+use Rattle.h261_writer.specs.Output.{pictureBits}
 use Rattle.h261_readback.proofs.Pictures.{back-picture}
 use Rattle.h261_readback.specs.ReadBack.{PictureReadBack, ReadsBack, WrittenOnce}
 
@@ -27,14 +27,14 @@ read-back f p s h l held =
     rw (le-ltb (8 * length s) (length w) (held .room), le-ltb (limit (sizeOf f)) (length w) l, held .bits) (rw (append-nil w, z) at r)
 
 pub reads-back : ReadsBack
-unfolding written
+unfolding pictureBits
 reads-back f d s t l held = record { read = read-back f (pictureIn d) s (picture-proper f d t) l held; laidOut = laid-back f d t }
 
 pub written-once : WrittenOnce
-unfolding written
+unfolding pictureBits
 written-once f d e t u h =
     let r = back-picture f (pictureIn d) (picture-proper f d t) .reads 0 in
     let q = back-picture f (pictureIn e) (picture-proper f e u) .reads 0 in
-    let both : picture f (written f d ++ []) 0 ≡ picture f (written f e ++ []) 0 = ap (λ (w : List Bit). picture f (w ++ []) 0) h in
+    let both : picture f (pictureBits f d ++ []) 0 ≡ picture f (pictureBits f e ++ []) 0 = ap (λ (w : List Bit). picture f (w ++ []) 0) h in
     let same : pictureIn d ≡ pictureIn e = cc in
-    sym (laid-back f d t) ∙ ap (laid f) same ∙ laid-back f e u
+    sym (laid-back f d t) ∙ ap (laidPicture f) same ∙ laid-back f e u

@@ -20,7 +20,7 @@ use Rattle.layout.specs.Proper.{If}
 use Rattle.h261_description.specs.Proper.{ProperVector}
 use Rattle.h261_layers.specs.Vector.{pairOf, component, componentRead, componentsRead, pointing, vectorRead}
 use Rattle.fields.specs.Rules.{optional}
-use Rattle.h261_writer.specs.Write.{given, componentOf, vectorOf}
+use Rattle.h261_writer.specs.Write.{bitsIf, componentBits, vectorBits}
 use Rattle.h261_readback.proofs.Words.{back-mvd}
 
 -- ---- a test at every number in -15..15
@@ -54,7 +54,7 @@ lands preceding z p h =
     (range-at (λ z. gives (component preceding (pairOf (sentFor preceding z))) z)
     (range-at (λ preceding. allRange (λ z. gives (component preceding (pairOf (sentFor preceding z))) z)) tt preceding p) z h)
 
-back-component : (preceding z : ℤ) (rest : List Bit) → T (inRange preceding) → T (inRange z) → Back (componentRead preceding) (componentOf preceding z) rest z
+back-component : (preceding z : ℤ) (rest : List Bit) → T (inRange preceding) → T (inRange z) → Back (componentRead preceding) (componentBits preceding z) rest z
 unfolding componentRead
 back-component preceding z rest p h =
     back-judged (λ n. component preceding (pairOf n)) z (back-mvd (sentFor preceding z) rest (omega arith)) (lands preceding z p h)
@@ -84,17 +84,17 @@ ranged-vector f number address true v h = record { across = h .horizontally; dow
 ranged-vector f number address false v h = rw h ranged-zero
 
 back-pointing : (f : Format) (number address : ℕ) (before v : Vector) (rest : List Bit) → Ranged before → ProperVector f number address v
-    → Back (vectorRead f number address before) (vectorOf before v) rest v
+    → Back (vectorRead f number address before) (vectorBits before v) rest v
 unfolding vectorRead componentsRead
 back-pointing f number address before v rest r h =
     back-judged (pointing f number address) v
     (back-next _
-    (back-component (before .horizontal) (v .horizontal) (componentOf (before .vertical) (v .vertical) ++ rest) (r .across) (h .horizontally))
+    (back-component (before .horizontal) (v .horizontal) (componentBits (before .vertical) (v .vertical) ++ rest) (r .across) (h .horizontally))
     (back-end _ (back-component (before .vertical) (v .vertical) rest (r .down) (h .vertically)) refl))
     (rw (T-true (inPicture f number address v) (h .inside)))
 
 pub back-vector : (f : Format) (number address : ℕ) (mc : Bool) (before : Before) (step : ℕ) (v : Vector) (rest : List Bit) → Ranged (before .vector)
     → Pointed f number address mc v
-    → Back (optional mc zeroVector (vectorRead f number address (preceding before step))) (given mc (vectorOf (preceding before step) v)) rest v
+    → Back (optional mc zeroVector (vectorRead f number address (preceding before step))) (bitsIf mc (vectorBits (preceding before step) v)) rest v
 back-vector f number address true before step v rest r h = back-pointing f number address (preceding before step) v rest (ranged-preceding before step r) h
 back-vector f number address false before step v rest r h = rw h (back-done zeroVector rest)

@@ -8,13 +8,13 @@ use Rattle.bits.specs.Read.{got}
 use Rattle.h261_groups.specs.Format.{sizeOf}
 use Rattle.size.specs.Size.{limit}
 use Rattle.h261_groups.specs.declared.Format.{Format}
-use Rattle.h261_description.specs.Value.{Picture, laid, pictureIn}
+use Rattle.h261_description.specs.Value.{Picture, laidPicture, pictureIn}
 use Rattle.layout.specs.Flat.{Flat}
 use Rattle.h261_description.specs.Valid.{valid}
 use Rattle.h261_description.specs.Proper.{Proper}
 use Rattle.h261_layers.specs.Grammar.{reading}
 use Rattle.h261_writer.specs.Write.{pictureOf}
-use Rattle.h261_writer.specs.Output.{written}
+use Rattle.h261_writer.specs.Output.{pictureBits}
 use Rattle.bits.specs.Write.{Holds}
 
 abbrev pub PictureReadBack : Type 0
@@ -23,13 +23,13 @@ PictureReadBack = (f : Format) (p : Picture) (s : List ℕ) → Proper f p → l
 
 -- ---- a description
 pub record ReadBack (f : Format) (d : Flat) (s : List ℕ) : Type 0 where
-  pub read : reading f s (length (written f d)) ≡ got (pictureIn d) [] (length (written f d))
-  pub laidOut : laid f (pictureIn d) ≡ d
+  pub read : reading f s (length (pictureBits f d)) ≡ got (pictureIn d) [] (length (pictureBits f d))
+  pub laidOut : laidPicture f (pictureIn d) ≡ d
 
 -- a valid description whose bits are not above the limit is read from any bytes that hold them first: its picture, laid out, is that very description, and all N bits are read
 abbrev pub ReadsBack : Type 0
-ReadsBack = (f : Format) (d : Flat) (s : List ℕ) → T (valid f d) → length (written f d) ≤ limit (sizeOf f) → Holds s (written f d) → ReadBack f d s
+ReadsBack = (f : Format) (d : Flat) (s : List ℕ) → T (valid f d) → length (pictureBits f d) ≤ limit (sizeOf f) → Holds s (pictureBits f d) → ReadBack f d s
 
 -- so two that are written alike are one
 abbrev pub WrittenOnce : Type 0
-WrittenOnce = (f : Format) (d e : Flat) → T (valid f d) → T (valid f e) → written f d ≡ written f e → d ≡ e
+WrittenOnce = (f : Format) (d e : Flat) → T (valid f d) → T (valid f e) → pictureBits f d ≡ pictureBits f e → d ≡ e

@@ -12,7 +12,7 @@ use Rattle.bits.specs.Read.{Read, got, refused, loop}
 use Rattle.h261_groups.specs.declared.Format.{Format}
 use Rattle.h261_description.specs.Vector.{Before}
 use Rattle.layout.specs.Value.{Macroblock}
-use Rattle.h261_description.specs.Value.{after}
+use Rattle.h261_description.specs.Value.{beforeNext}
 use Rattle.layout.specs.Flat.{Flat, index, fieldsOf, putBlocks, putMacroblocks, flat}
 use Rattle.fields.specs.Answer.{mapRead}
 use Rattle.h261_layers.specs.Answer.{Sent, putSent}
@@ -46,9 +46,9 @@ module _ (fuel : ℕ) (f : Format) (last : Bool) (number g : ℕ) (before : Befo
     step-inside r h = rw (e, h)
 
     step-more : (m : Macroblock) (ds : List Bit) (r : ℕ) → macroblock f number before k cs q ≡ got m ds r
-        → Whole ≡ mapRead (putMacroblocks 33 g (put g d m)) (macroblocksFrom fuel f last number (after m) ds r)
+        → Whole ≡ mapRead (putMacroblocks 33 g (put g d m)) (macroblocksFrom fuel f last number (beforeNext m) ds r)
     unfolding Whole macroblocksFrom putMacroblocks
-    step-more m ds r h = rw (e, h) (map-done (putMacroblocks 33 g d) (λ ms. m ∷ ms) (macroblocksFrom fuel f last number (after m) ds r))
+    step-more m ds r h = rw (e, h) (map-done (putMacroblocks 33 g d) (λ ms. m ∷ ms) (macroblocksFrom fuel f last number (beforeNext m) ds r))
 
 -- ---- the loop
 pub record MacroblocksSoFar (start : Read Flat) (s : List ℕ) (n : ℕ) (f : Format) (last : Bool) (number g : ℕ) (d : Flat) (before : Before) (p : ℕ) : Type 0 where

@@ -14,6 +14,7 @@ use denote.Enum.Declared.{tagOf}
 use Rattle.laws.specs.Choice.{either}
 use Rattle.refusals.specs.declared.Reason.the-variants.{Count}
 use Rattle.refusals.specs.declared.Refusal.{Refusal}
+use Rattle.refusals.specs.Told.{toldVerdict, verdictOn}
 use Rattle.bits.specs.Bits.{bitsLeft}
 use Rattle.bits.proofs.Source.{source-left}
 use Rattle.bits.specs.Read.{Read, got, refused, bad}
@@ -21,11 +22,11 @@ use Rattle.size.specs.Size.{limit}
 use Rattle.h261_groups.specs.Format.{formatBit, groupCount, groupNumbers, sizeOf}
 use Rattle.h261_groups.specs.declared.Format.{Format}
 use Rattle.layout.specs.Flat.{Flat, putGroups, flat}
-use Rattle.h261_description.specs.Value.{laid, shape}
-use Rattle.fields.specs.Answer.{mapRead, leaving, placeRefusal, pairRefusal}
+use Rattle.h261_description.specs.Value.{laidPicture, shape}
+use Rattle.fields.specs.Answer.{mapRead, found, leaving, placeRefusal, pairRefusal}
 use Rattle.h261_layers.specs.Answer.{asHeader}
 use Rattle.h261_layers.specs.Grammar.{header, groupsRead, picture, reading}
-use Rattle.h261_reader.specs.Described.{described, verdictOf, laidOr}
+use Rattle.h261_reader.specs.Described.{Blank, described, laidOr}
 use Rattle.fields.specs.declared.PairRead.{PairRead}
 use Rattle.fields.specs.declared.PairRead.the-variants.{Got, Refused as NoHeader}
 use Rattle.fields.proofs.PairRead.{the-type as pair-type}
@@ -61,7 +62,7 @@ module _ (f : Format) (s : List ℕ) (n : ℕ) (a : Bool) (w : a ≡ either (ltb
   pub lent-is : a ≡ false → n ≤ 8 * length s
   lent-is e = ltb-false (8 * length s) n (no-either (ltb (8 * length s) n) (ltb (limit (sizeOf f)) n) (sym w ∙ e) .0)
 
-  described-bits : a ≡ false → described f s n ≡ mapRead (laid f) (picture f (bitsLeft s n 0) 0)
+  described-bits : a ≡ false → described f s n ≡ mapRead (laidPicture f) (picture f (bitsLeft s n 0) 0)
   unfolding described reading
   described-bits e =
       let z : either (ltb (8 * length s) n) (ltb (limit (sizeOf f)) n) ≡ false = sym w ∙ e in
@@ -81,17 +82,18 @@ module _ (f : Format) (s : List ℕ) (n : ℕ) (a : Bool) (w : a ≡ either (ltb
 
     pub described-groups : (tr ptype p : ℕ) → h ≡ Got tr ptype p
         → described f s n ≡ mapRead (putGroups (shape f) 0 (flat (tr ∷ ptype ∷ formatBit f ∷ replicate (groupCount f) 0) (replicate (groupCount f * 132) 0) (replicate (groupCount f * 12672) 0))) (groupsRead f (groupNumbers f) (bitsLeft s n p) p)
-    unfolding picture laid
+    unfolding picture laidPicture
     described-groups tr ptype p d =
         described-bits e ∙ rw (header-is tr ptype p d)
-        (map-done (laid f) (λ gs. record { tr = tr; ptype = ptype; groups = gs }) (groupsRead f (groupNumbers f) (bitsLeft s n p) p))
+        (map-done (laidPicture f) (λ gs. record { tr = tr; ptype = ptype; groups = gs }) (groupsRead f (groupNumbers f) (bitsLeft s n p) p))
 
-    pub groups-described : (tr ptype p bit : ℕ) (c m l : List ℕ) (x : Read Flat) → h ≡ Got tr ptype p → bit ≡ formatBit f
-        → c ≡ replicate (3 + groupCount f) 0 → m ≡ replicate (groupCount f * 132) 0 → l ≡ replicate (groupCount f * 12672) 0
+    pub groups-described : {tr ptype p bit : ℕ} {c m l : List ℕ} {x : Read Flat} → h ≡ Got tr ptype p → bit ≡ formatBit f → Blank f c m l
         → x ≡ mapRead (putGroups (shape f) 0 (flat (set (set (set c 0 tr) 1 ptype) 2 bit) m l)) (groupsRead f (groupNumbers f) (bitsLeft s n p) p) → x ≡ described f s n
-    groups-described tr ptype p bit c m l x d b ec em el z =
-        let hd : set (set (set c 0 tr) 1 ptype) 2 bit ≡ tr ∷ ptype ∷ formatBit f ∷ replicate (groupCount f) 0 = cleared (groupCount f) tr ptype bit c ec ∙ ap (λ (y : ℕ). tr ∷ ptype ∷ y ∷ replicate (groupCount f) 0) b in
-        z ∙ (λ i. mapRead (putGroups (shape f) 0 (flat (hd i) (em i) (el i))) (groupsRead f (groupNumbers f) (bitsLeft s n p) p)) ∙ sym (described-groups tr ptype p d)
+    groups-described {tr} {ptype} {p} {bit} {c} d b blank z =
+        let hd : set (set (set c 0 tr) 1 ptype) 2 bit ≡ tr ∷ ptype ∷ formatBit f ∷ replicate (groupCount f) 0
+        = cleared (groupCount f) tr ptype bit c (blank .head-blank) ∙ ap (λ (y : ℕ). tr ∷ ptype ∷ y ∷ replicate (groupCount f) 0) b in
+        z ∙ (λ i. mapRead (putGroups (shape f) 0 (flat (hd i) (blank .ms-blank i) (blank .ls-blank i))) (groupsRead f (groupNumbers f) (bitsLeft s n p) p))
+        ∙ sym (described-groups tr ptype p d)
 
 -- ---- the buffers
 pub cleared-as : (m k : ℕ) (x : List ℕ) → x ≡ replicate m 0 → m ≡ k → x ≡ replicate k 0
@@ -128,25 +130,20 @@ zeroed-all l₀ l i h m =
 
 -- ---- the answers
 module _ (f : Format) (x : Read Flat) where
-  pub refused-verdict : (r : Refusal) → x ≡ refused r → Unread r ≡ verdictOf x
-  refused-verdict r e = rw e
-
-  pub refused-buffers : (r : Refusal) (a b c : List ℕ) → x ≡ refused r → a ≡ replicate (3 + groupCount f) 0 → b ≡ replicate (groupCount f * 132) 0 → c ≡ replicate (groupCount f * 12672) 0 → flat a b c ≡ laidOr f x
-  refused-buffers r a b c e p q w = (λ i. flat (p i) (q i) (w i)) ∙ sym (ap (laidOr f) e)
+  -- refused, with the buffers as they were or cleared
+  pub refused-blank : {r s : Refusal} {a b c : List ℕ} → x ≡ refused r → s ≡ r → Blank f a b c → (toldVerdict (Unread s) ≡ verdictOn (found x)) × (flat a b c ≡ laidOr f x)
+  refused-blank e d blank = (
+    ap (λ (y : Refusal). toldVerdict (Unread y)) d ∙ sym (ap (λ (y : Read Flat). verdictOn (found y)) e),
+    (λ i. flat (blank .head-blank i) (blank .ms-blank i) (blank .ls-blank i)) ∙ sym (ap (laidOr f) e),
+  )
 
   module _ (s : List ℕ) (n : ℕ) (r : PlaceRead) (d : Flat) (v : leaving s n r d ≡ x) where
-    pub read-verdict : tagOf place-type r ≡ 0 → Accepted ≡ verdictOf x
-    read-verdict t = yes r t v
+    -- accepted, and laid out
+    pub read-laid : tagOf place-type r ≡ 0 → (toldVerdict Accepted ≡ verdictOn (found x)) × (d ≡ laidOr f x)
+    read-laid t = yes r t v
       where
-        yes : (r : PlaceRead) → tagOf place-type r ≡ 0 → leaving s n r d ≡ x → Accepted ≡ verdictOf x
-        yes (At p) t v = ap verdictOf v
-        yes (Refused r) t v = absurd (omega arith)
-
-    pub read-buffers : tagOf place-type r ≡ 0 → d ≡ laidOr f x
-    read-buffers t = yes r t v
-      where
-        yes : (r : PlaceRead) → tagOf place-type r ≡ 0 → leaving s n r d ≡ x → d ≡ laidOr f x
-        yes (At p) t v = ap (laidOr f) v
+        yes : (r : PlaceRead) → tagOf place-type r ≡ 0 → leaving s n r d ≡ x → (toldVerdict Accepted ≡ verdictOn (found x)) × (d ≡ laidOr f x)
+        yes (At p) t v = (ap (λ (y : Read Flat). verdictOn (found y)) v, ap (laidOr f) v)
         yes (Refused r) t v = absurd (omega arith)
 
     pub unread : tagOf place-type r ≡ 1 → x ≡ refused (placeRefusal r)

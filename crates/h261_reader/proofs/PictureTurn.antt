@@ -19,7 +19,7 @@ use Rattle.laws.proofs.Lists.{drop-on}
 use Rattle.refusals.specs.declared.Refusal.{Refusal}
 use Rattle.bits.specs.Bits.{Bit, bitsLeft}
 use Rattle.bits.proofs.Value.{left-none}
-use Rattle.bits.specs.Read.{Read, got, refused, judged}
+use Rattle.bits.specs.Read.{Read, got, refused, judgedRead}
 use Rattle.bits.specs.Code.{word}
 use Rattle.h261_words.specs.Tables.{table1}
 use Rattle.h261_words.specs.Words.{isMC}
@@ -29,7 +29,7 @@ use Rattle.h261_groups.specs.declared.Format.{Format}
 use Rattle.h261_groups.specs.declared.Format.the-variants.{Qcif, Cif}
 use Rattle.layout.specs.Value.{Vector, zeroVector, Macroblock}
 use Rattle.h261_description.specs.Vector.{Before, atStart}
-use Rattle.h261_description.specs.Value.{after, shape}
+use Rattle.h261_description.specs.Value.{beforeNext, shape}
 use Rattle.layout.specs.Flat.{Flat, putMacroblocks, putGroups, flat}
 use Rattle.layout.specs.Proper.{If}
 use Rattle.h261_description.specs.Proper.{ProperVector}
@@ -47,6 +47,7 @@ use Rattle.h261_layers.specs.Grammar.{Mba, step, stuffed, ended, mbaOf, mba, ma
 use Rattle.fields.proofs.Meaning.{was-got, onward}
 use Rattle.h261_layers.proofs.MacroblockWhole.{vector-kept}
 use Rattle.h261_layers.proofs.MacroblockSteps.{opened}
+use Rattle.h261_reader.specs.Described.{Lengths}
 use Rattle.h261_reader.proofs.MacroblocksTurn.{MacroblocksSoFar, macroblocks-first, macroblocks-refused, macroblocks-ended, macroblocks-stuffed, macroblocks-inside, macroblocks-more}
 use Rattle.h261_reader.proofs.GroupsTurn.{macroblocksAt, quantised, GroupsSoFar, groups-done, groups-head, groups-inside, groups-more}
 
@@ -78,7 +79,7 @@ pub record Led (last : Bool) (address n p : ℕ) (x : Mba) (q : ℕ) : Type 0 wh
   pub met : Met last address x
 
 module _ (address : ℕ) (s : List ℕ) (n p : ℕ) (l : p ≤ n) (x : Mba) (q : ℕ) where
-  word-led : (last : Bool) → judged (word table1) (mbaOf last address) (bitsLeft s n p) p ≡ got x (bitsLeft s n q) q → Led last address n p x q
+  word-led : (last : Bool) → judgedRead (word table1) (mbaOf last address) (bitsLeft s n p) p ≡ got x (bitsLeft s n q) q → Led last address n p x q
   word-led last e = let o = onward s n p x q (mba-reads last address) l e in record { ahead = omega (arith, o .ahead); inside = o .inside; met = o .good }
 
   pub mba-led : (last : Bool) → mba last address (bitsLeft s n p) p ≡ got x (bitsLeft s n q) q → (x ≡ ended → ⊥) → Led last address n p x q
@@ -151,7 +152,7 @@ module _ {s : List ℕ} {n : ℕ} {f : Format} {last : Bool} {number g : ℕ} {h
           let o = onward s n q (was .0) z (macroblock-reads f number (beforeOf b) k) (led .inside) (was .1) in
           (omega (arith, o .ahead, led .ahead), o .inside)
 
-      left-behind : after (was .0) ≡ beforeOf c
+      left-behind : beforeNext (was .0) ≡ beforeOf c
       left-behind = ap (λ (y : Sent). y .before) (was .2)
 
       pub group-more : length ms′ ≡ length ms → length ls′ ≡ length ls → InGroup s n f last number g head ms₀ ls₀ from ms′ ls′ c z
@@ -185,6 +186,10 @@ module _ {s : List ℕ} {n : ℕ} {f : Format} {last : Bool} {number g : ℕ} {h
       (macroblocks-ended (h .so-far) q (is-found r (Ended q) w e), mba-inside (b .address) s n p (h .inside) ended q last (sym (is-found r (Ended q) w e)))
 
 -- ---- between groups
+-- all groups, laid out over what the buffers hold
+abbrev pub groupsLaid : Format → List ℕ → ℕ → ℕ → Flat → Read Flat
+groupsLaid f s n at d = mapRead (putGroups (shape f) 0 d) (groupsRead f (groupNumbers f) (bitsLeft s n at) at)
+
 pub record PictureSoFar (start : Read Flat) (s : List ℕ) (n : ℕ) (f : Format) (head ms ls : List ℕ) (g p : ℕ) : Type 0 where
   pub inside : p ≤ n
   pub most : g ≤ groupCount f
@@ -194,7 +199,7 @@ pub record PictureSoFar (start : Read Flat) (s : List ℕ) (n : ℕ) (f : Format
   pub same : GroupsSoFar start s n f (drop g (groupNumbers f)) (flat head ms ls) g p
 
 pub picture-first : (s : List ℕ) (n : ℕ) (f : Format) (head ms ls : List ℕ) (p : ℕ) → p ≤ n → length head ≡ 3 + groupCount f → length ms ≡ groupCount f * 132 → length ls ≡ groupCount f * 12672
-    → PictureSoFar (mapRead (putGroups (shape f) 0 (flat head ms ls)) (groupsRead f (groupNumbers f) (bitsLeft s n p) p)) s n f head ms ls 0 p
+    → PictureSoFar (groupsLaid f s n p (flat head ms ls)) s n f head ms ls 0 p
 picture-first s n f head ms ls p l a b c = record { inside = l; most = omega arith; head-long = a; ms-long = b; ls-long = c; same = record { same = refl } }
 
 module _ {start : Read Flat} {s : List ℕ} {n : ℕ} {f : Format} {head ms ls : List ℕ} {g p : ℕ} (h : PictureSoFar start s n f head ms ls g p) where
@@ -249,6 +254,7 @@ pub record Left (start : Read Flat) (s : List ℕ) (n c g : ℕ) (head₀ ms₀ 
   pub no : g < c → refused r ≡ start
   pub yes : c ≤ g → got (flat head ms ls) (bitsLeft s n p) p ≡ start
 
+-- the same, of equal buffers, place and refusal
 pub left-as : {start : Read Flat} {s : List ℕ} {n c g : ℕ} {head₀ ms₀ ls₀ head ms ls head′ ms′ ls′ : List ℕ} {p p′ : ℕ} {r r′ : Refusal} → Left start s n c g head₀ ms₀ ls₀ head ms ls p r
     → head′ ≡ head → ms′ ≡ ms → ls′ ≡ ls → p′ ≡ p → r′ ≡ r → Left start s n c g head₀ ms₀ ls₀ head′ ms′ ls′ p′ r′
 left-as {s = s} {n} h a b c d e = record {
@@ -259,17 +265,35 @@ left-as {s = s} {n} h a b c d e = record {
   yes = λ l. (λ i. got (flat (a i) (b i) (c i)) (bitsLeft s n (d i)) (d i)) ∙ h .yes l;
 }
 
--- left by a refusal, with groups to come
-pub left-refused : (start : Read Flat) (s : List ℕ) (n c g : ℕ) (head₀ ms₀ ls₀ head ms ls : List ℕ) (p : ℕ) (r : Refusal) → g < c → length head ≡ length head₀ → length ms ≡ length ms₀ → length ls ≡ length ls₀ → refused r ≡ start
-    → Left start s n c g head₀ ms₀ ls₀ head ms ls p r
-left-refused start s n c g head₀ ms₀ ls₀ head ms ls p r l a b d e = record { head-long = a; ms-long = b; ls-long = d; no = λ m. e; yes = λ m. absurd (never c g l m) }
-  where
-    never : (c g : ℕ) → g < c → c ≤ g → ⊥
-    never c g l m = omega arith
+module _ {start : Read Flat} {s : List ℕ} {n : ℕ} {f : Format} {head₀ ms₀ ls₀ head ms ls : List ℕ} {g p : ℕ} (lengths : Lengths f head₀ ms₀ ls₀) (h : PictureSoFar start s n f head ms ls g p) where
+  out-refused : (head′ ms′ ls′ : List ℕ) (z : ℕ) (r : Refusal) → g < groupCount f → length head′ ≡ length head → length ms′ ≡ length ms → length ls′ ≡ length ls → refused r ≡ start
+      → Left start s n (groupCount f) g head₀ ms₀ ls₀ head′ ms′ ls′ z r
+  out-refused head′ ms′ ls′ z r l a b c e = record {
+    head-long = a ∙ h .head-long ∙ sym (lengths .head-long);
+    ms-long = b ∙ h .ms-long ∙ sym (lengths .ms-long);
+    ls-long = c ∙ h .ls-long ∙ sym (lengths .ls-long);
+    no = λ m. e;
+    yes = λ m. absurd (omega arith);
+  }
 
-pub left-done : (start : Read Flat) (s : List ℕ) (n c g : ℕ) (head₀ ms₀ ls₀ head ms ls : List ℕ) (p : ℕ) (r : Refusal) → c ≤ g → length head ≡ length head₀ → length ms ≡ length ms₀ → length ls ≡ length ls₀
-    → got (flat head ms ls) (bitsLeft s n p) p ≡ start → Left start s n c g head₀ ms₀ ls₀ head ms ls p r
-left-done start s n c g head₀ ms₀ ls₀ head ms ls p r l a b d e = record { head-long = a; ms-long = b; ls-long = d; no = λ m. absurd (never c g l m); yes = λ m. e }
-  where
-    never : (c g : ℕ) → c ≤ g → g < c → ⊥
-    never c g l m = omega arith
+  -- at a group's head
+  pub out-head : (z number : ℕ) (r : Refusal) → g < groupCount f → number ≡ getD (groupNumbers f) g 0 → groupHead number (bitsLeft s n p) p ≡ refused r → Left start s n (groupCount f) g head₀ ms₀ ls₀ head ms ls z r
+  out-head z number r l e d = out-refused head ms ls z r l refl refl refl (picture-no-head h l number r e d)
+
+  -- among its macroblocks
+  pub out-inside : (ms′ ls′ : List ℕ) (z number gquant q : ℕ) (r : Refusal) → g < groupCount f → number ≡ getD (groupNumbers f) g 0 → groupHead number (bitsLeft s n p) p ≡ got gquant (bitsLeft s n q) q
+      → length ms′ ≡ length ms → length ls′ ≡ length ls
+      → refused r ≡ mapRead (putMacroblocks 33 g (flat (set head (3 + g) gquant) ms ls)) (macroblocksAt f (eqb (g + 1) (groupCount f)) number (bitsLeft s n q) q)
+      → Left start s n (groupCount f) g head₀ ms₀ ls₀ (set head (3 + g) gquant) ms′ ls′ z r
+  out-inside ms′ ls′ z number gquant q r l e d b c w =
+      out-refused (set head (3 + g) gquant) ms′ ls′ z r l (length-set head (3 + g) gquant) b c (picture-inside h l number gquant q e d r w)
+
+  -- after the last group
+  pub out-done : (r : Refusal) → groupCount f ≤ g → Left start s n (groupCount f) g head₀ ms₀ ls₀ head ms ls p r
+  out-done r l = record {
+    head-long = h .head-long ∙ sym (lengths .head-long);
+    ms-long = h .ms-long ∙ sym (lengths .ms-long);
+    ls-long = h .ls-long ∙ sym (lengths .ls-long);
+    no = λ m. absurd (omega arith);
+    yes = λ m. picture-done h l;
+  }

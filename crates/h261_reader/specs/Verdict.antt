@@ -13,7 +13,7 @@ use Rattle.refusals.specs.Number.{number}
 use Rattle.bits.specs.Bits.{Bit, source}
 use Rattle.bits.specs.Read.{got, refused, endless}
 use Rattle.h261_groups.specs.declared.Format.{Format}
-use Rattle.h261_description.specs.Value.{Picture, laid, pictureIn}
+use Rattle.h261_description.specs.Value.{Picture, laidPicture, pictureIn}
 use Rattle.h261_description.specs.Valid.{valid}
 use Rattle.h261_layers.specs.Grammar.{reading}
 
@@ -42,11 +42,11 @@ AllRead = (f : Format) (s : List ℕ) (n : ℕ) (p : Picture) (left : List Bit) 
 
 -- "It is valid when ..": what is accepted lays out as a valid description
 abbrev pub AcceptedValid : Type 0
-AcceptedValid = (f : Format) (s : List ℕ) (n : ℕ) (p : Picture) (left : List Bit) (at : ℕ) → reading f s n ≡ got p left at → T (valid f (laid f p))
+AcceptedValid = (f : Format) (s : List ℕ) (n : ℕ) (p : Picture) (left : List Bit) (at : ℕ) → reading f s n ≡ got p left at → T (valid f (laidPicture f p))
 
 -- and that description describes it again
 abbrev pub AcceptedDescribed : Type 0
-AcceptedDescribed = (f : Format) (s : List ℕ) (n : ℕ) (p : Picture) (left : List Bit) (at : ℕ) → reading f s n ≡ got p left at → pictureIn (laid f p) ≡ p
+AcceptedDescribed = (f : Format) (s : List ℕ) (n : ℕ) (p : Picture) (left : List Bit) (at : ℕ) → reading f s n ≡ got p left at → pictureIn (laidPicture f p) ≡ p
 
 -- "the picture is exactly those bits": two slices that hold N bits, and the same, are read alike
 abbrev pub OnlyBits : Type 0

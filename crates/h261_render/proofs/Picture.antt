@@ -25,15 +25,15 @@ use Rattle.h261_words.specs.Words.{isIntra, isMC, isFiltered, hasMQUANT}
 use Rattle.h261_groups.specs.declared.Format.{Format}
 use Rattle.h261_groups.specs.declared.Format.the-variants.{Qcif, Cif}
 use Rattle.h261_groups.specs.Format.{sizeOf}
-use Rattle.h261_groups.specs.Order.{macroblockCount, groupOf, addressOf, rowOf, columnOf, macroblockAt}
+use Rattle.h261_groups.specs.Order.{macroblockCount, rowOf, columnOf, macroblockAt}
 use Rattle.h261_groups.proofs.Numbers.{number-row, number-column, of-number, of-row, of-column}
-use Rattle.h261_groups.proofs.Blocks.{number-less}
+use Rattle.h261_groups.proofs.Blocks.{groupOf, addressOf, number-less}
 use Rattle.layout.specs.Value.{Vector}
 use Rattle.h261_description.specs.Vector.{inRange, inPicture}
 use Rattle.layout.specs.Flat.{Flat, numberOf}
 use Rattle.h261_description.specs.Valid.{valid}
 use Rattle.layout.specs.Fields.{typeOf, quantOf, horizontalOf, verticalOf, vectorAt}
-use Rattle.h261_description.specs.Fields.{gquantOf, vectorOf, quantiserBefore, quantiserOf}
+use Rattle.h261_description.specs.Fields.{gquantOf, vectorSent, quantiserBefore, quantiserOf}
 use Rattle.h261_description.proofs.ValidAt.{Fine, fine-at, head-length, macroblocks-length, levels-length, is-quantiser, quantiser-at}
 use Rattle.h261_description.specs.Moved.{Points}
 use Rattle.h261_description.proofs.Moved.{points-in}
@@ -80,7 +80,7 @@ intra-is type = go (isIntra type) (isFiltered type)
     go false false = refl
 
 pub sent-all : {r c q : ℕ} {k : Prediction} {v : Vector} {t u : List ℕ} (f : Format) (n : ℕ) (d : Flat) (s : List ℕ) → r ≡ rowOf f n → c ≡ columnOf f n → (typeOf d n ≡ 0 → ⊥)
-    → k ≡ predictionOf (typeOf d n) → v ≡ vectorOf d n → q ≡ quantiserOf d n
+    → k ≡ predictionOf (typeOf d n) → v ≡ vectorSent d n → q ≡ quantiserOf d n
     → Macroblock (sizeOf f) r c (sentValues (predictionsFrom f s k v) (λ b. differenceOf (bytesFrom (d .levels) (n * 384 + b * 64)) (intraOf k) q)) t u
     → Macroblock (sizeOf f) (rowOf f n) (columnOf f n) (contentValues (sizeOf f) s (contentOf f d s n)) t u
 unfolding contentOf

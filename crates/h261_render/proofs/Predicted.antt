@@ -20,7 +20,7 @@ use Rattle.samples.proofs.Wrote.{wrote, wrote-as}
 use Rattle.h261_groups.specs.declared.Format.{Format}
 use Rattle.h261_groups.specs.Format.{sizeOf}
 use Rattle.layout.specs.Value.{Vector}
-use Rattle.h261_description.specs.Moved.{moved, Aims}
+use Rattle.h261_description.specs.Moved.{movedPlace, Aims}
 use Rattle.h261_render.specs.declared.Prediction.{Prediction}
 use Rattle.h261_render.specs.declared.Prediction.the-variants.{Inter}
 use Rattle.h261_render.specs.Sample.{source, predicted, predictionsFrom}
@@ -49,7 +49,7 @@ pub copied : {k : Prediction} (s : List ℕ) (from : ℕ) (bytes : ℕ → ℕ) 
 copied s from bytes q {to} {w} {t} {u} e h n r = subst (λ (k : Prediction). PutFor k s from bytes q to w t u) (sym e) (put-copied s from bytes q h n r)
 
 -- ---- the block at (y, x) of plane p, moved by its vector to row my, column mx
-module _ (f : Format) (p y x : ℕ) (v : Vector) {my mx : ℕ} (ey : my ≡ moved p (y * 8) (v .vertical)) (ex : mx ≡ moved p (x * 8) (v .horizontal)) where
+module _ (f : Format) (p y x : ℕ) (v : Vector) {my mx : ℕ} (ey : my ≡ movedPlace p (y * 8) (v .vertical)) (ex : mx ≡ movedPlace p (x * 8) (v .horizontal)) where
   down : Aims f p y x v → my + 8 ≤ high (sizeOf f) p
   down a = subst (λ (k : ℕ). k + 8 ≤ high (sizeOf f) p) (sym ey) (a .bottom)
 

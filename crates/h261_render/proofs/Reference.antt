@@ -18,7 +18,7 @@ use Rattle.h261_groups.specs.Order.{macroblockCount, macroblockAt}
 use Rattle.h261_groups.proofs.Blocks.{number-less}
 use Rattle.layout.specs.Flat.{Flat}
 use Rattle.layout.specs.Fields.{typeOf}
-use Rattle.h261_description.specs.Fields.{vectorOf, refresh, nothingSent}
+use Rattle.h261_description.specs.Fields.{vectorSent, refresh, nothingSent}
 use Rattle.h261_render.specs.Sample.{predictionsFrom, predictionOf, contentOf, contentsOf, rendered}
 use Rattle.h261_render.specs.Reference.{RefreshSame, NothingSame}
 use Rattle.h261_render.proofs.Picture.{is-sent, not-sent}
@@ -39,11 +39,11 @@ module _ (f : Format) (d : Flat) (n : ℕ) (h : T (isIntra (typeOf d n))) where
       no : {k : ℕ} → suc k ≡ 0 → ⊥
       no e = omega arith
 
-  intra-none : (s : List ℕ) (p y x i j : ℕ) → predictionsFrom f s (predictionOf (typeOf d n)) (vectorOf d n) p y x i j ≡ pos 0
+  intra-none : (s : List ℕ) (p y x i j : ℕ) → predictionsFrom f s (predictionOf (typeOf d n)) (vectorSent d n) p y x i j ≡ pos 0
   intra-none s p y x i j = ⊎-elim (ap of) (ap of) (intra-types (typeOf d n) h)
     where
       of : ℕ → ℤ
-      of k = predictionsFrom f s (predictionOf k) (vectorOf d n) p y x i j
+      of k = predictionsFrom f s (predictionOf k) (vectorSent d n) p y x i j
 
   intra-alike : (s t : List ℕ) → Alike (contentOf f d s n) (contentOf f d t n)
   unfolding contentOf

@@ -16,15 +16,15 @@ use Rattle.h261_groups.specs.Order.{macroblockAt}
 use Rattle.layout.specs.Value.{Vector}
 use Rattle.layout.specs.Flat.{Flat}
 use Rattle.layout.specs.Fields.{typeOf}
-use Rattle.h261_description.specs.Fields.{vectorOf, quantiserOf}
-use Rattle.h261_description.specs.Moved.{moved}
+use Rattle.h261_description.specs.Fields.{vectorSent, quantiserOf}
+use Rattle.h261_description.specs.Moved.{movedPlace}
 use Rattle.h261_filter.specs.Filter.{filterAt}
 use Rattle.h261_render.specs.declared.Prediction.{Prediction}
 use Rattle.h261_render.specs.declared.Prediction.the-variants.{Intra, Inter, Filtered}
 
 -- the reference's block at block row y, block column x of plane p, moved by the vector
 abbrev pub source : Format → List ℕ → Vector → ℕ → ℕ → ℕ → ℕ → ℕ → ℤ
-source f s v p y x i j = pos (getD s (index (sizeOf f) p (moved p (y * 8) (v .vertical) + i) (moved p (x * 8) (v .horizontal) + j)) 0)
+source f s v p y x i j = pos (getD s (index (sizeOf f) p (movedPlace p (y * 8) (v .vertical) + i) (movedPlace p (x * 8) (v .horizontal) + j)) 0)
 
 -- "prediction (0 for INTRA)"; FIL is applied to the moved block by itself
 abbrev pub predicted : Prediction → (ℕ → ℕ → ℤ) → ℕ → ℕ → ℤ
@@ -43,7 +43,7 @@ predictionOf type = pick (isIntra type) Intra (pick (isFiltered type) Filtered I
 unfoldable pub contentOf : Format → Flat → List ℕ → ℕ → Content
 contentOf f d s n = record {
   sent = opposite (eqb (typeOf d n) 0);
-  prediction = predictionsFrom f s (predictionOf (typeOf d n)) (vectorOf d n);
+  prediction = predictionsFrom f s (predictionOf (typeOf d n)) (vectorSent d n);
   difference = λ b. differenceOf (bytesFrom (d .levels) (n * 384 + b * 64)) (isIntra (typeOf d n)) (quantiserOf d n);
 }
 

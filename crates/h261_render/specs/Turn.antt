@@ -6,7 +6,8 @@ use lib.Dec.{T}
 use Rattle.laws.specs.Rows.{Room}
 use Rattle.size.specs.Size.{storeLength}
 use Rattle.size.specs.Place.{On}
-use Rattle.samples.specs.Ready.{Fits, Coded, Ready}
+use Rattle.quantiser.specs.Level.{Coded}
+use Rattle.samples.specs.Ready.{Fits, Ready}
 use Rattle.h261_groups.specs.declared.Format.{Format}
 use Rattle.h261_groups.specs.Format.{sizeOf}
 use Rattle.h261_groups.specs.Order.{macroblockCount}
@@ -49,10 +50,14 @@ pub record MacroblockOf (f : Format) (r c : ℕ) (v : Vector) (at quantiser n m 
   pub points : Points f r c v
   pub coded : Coded 384 at quantiser k
 
--- macroblock i of a description, with the quantiser of the one before it
-pub record TurnOf (f : Format) (d : Flat) (i last n m : ℕ) : Type 0 where
+-- a valid description, and two stores of their named length
+pub record PictureOf (f : Format) (d : Flat) (n m : ℕ) : Type 0 where
   pub fine : T (valid f d)
   pub reference : n ≡ storeLength (sizeOf f)
   pub store : m ≡ storeLength (sizeOf f)
+
+-- macroblock i of it, with the quantiser of the one before
+pub record TurnOf (f : Format) (d : Flat) (i last n m : ℕ) : Type 0 where
+  pub picture : PictureOf f d n m
   pub number : i < macroblockCount f
   pub before : (i % 33 ≡ 0 → ⊥) → last ≡ quantiserBefore d (i / 33) (i % 33)

@@ -13,7 +13,7 @@ ghost use Rattle.samples.specs.Wrote.{blockFrom, Wrote};
 ghost use Rattle.h261_groups.specs.Format.{sizeOf};
 ghost use Rattle.h261_description.specs.Vector.{ahead, back};
 ghost use Rattle.layout.specs.Flat.{numberOf};
-ghost use Rattle.h261_description.specs.Moved.{halved, moved};
+ghost use Rattle.h261_description.specs.Moved.{halvedPlace, movedPlace};
 ghost use Rattle.h261_render.specs.Sample.{predicted, predictionsFrom};
 ghost use Rattle.h261_render.specs.Turn.{intraOf, vectorFrom, BlockAt, BlockOf};
 use crate::Prediction;
@@ -21,7 +21,7 @@ use h261_groups::Format;
 
 // How far a component goes on, and how far back, in a plane: halved towards zero in CB and CR.
 fn forth(plane: usize, component: u8) -> usize
-    ensures { λ r. ⌜ r ≡ halved plane (ahead (numberOf component)) ⌝ }
+    ensures { λ r. ⌜ r ≡ halvedPlace plane (ahead (numberOf component)) ⌝ }
 {
     if component < 128 {
         if plane == 0 {
@@ -35,7 +35,7 @@ fn forth(plane: usize, component: u8) -> usize
 }
 
 fn behind(plane: usize, component: u8) -> usize
-    ensures { λ r. ⌜ r ≡ halved plane (back (numberOf component)) ⌝ }
+    ensures { λ r. ⌜ r ≡ halvedPlace plane (back (numberOf component)) ⌝ }
 {
     if component < 128 {
         0
@@ -50,8 +50,8 @@ fn behind(plane: usize, component: u8) -> usize
 
 // A row or column of a plane, moved by a component of a vector.
 fn moved(plane: usize, place: usize, component: u8) -> usize
-    requires { ⌜ (place ≤ 65535) × (halved plane (back (numberOf component)) ≤ place) ⌝ }
-    ensures { λ r. ⌜ r ≡ moved plane place (numberOf component) ⌝ }
+    requires { ⌜ (place ≤ 65535) × (halvedPlace plane (back (numberOf component)) ≤ place) ⌝ }
+    ensures { λ r. ⌜ r ≡ movedPlace plane place (numberOf component) ⌝ }
 {
     place + forth(plane, component) - behind(plane, component)
 }

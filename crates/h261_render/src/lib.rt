@@ -1,20 +1,18 @@
 // From a description and a reference to a store.
 ghost use mathlib.Core.Path.{_≡_};
 ghost use Prim.Native.Nat.{_+_, _/_, _%_, _<_, _≤_};
-ghost use lib.Dec.{T, eqb};
+ghost use lib.Dec.{eqb};
 ghost use lib.ListN.{getD, length};
 ghost use Rattle.laws.specs.Choice.{pick};
-ghost use Rattle.size.specs.Size.{storeLength};
 ghost use Rattle.samples.specs.Content.{contentValues};
 ghost use Rattle.samples.specs.Wrote.{Macroblock};
 ghost use Rattle.h261_words.specs.Words.{hasMQUANT};
 ghost use Rattle.h261_groups.specs.Format.{sizeOf};
 ghost use Rattle.h261_groups.specs.Order.{rowOf, columnOf};
-ghost use Rattle.h261_description.specs.Valid.{valid};
 ghost use Rattle.layout.specs.Flat.{flat};
 ghost use Rattle.h261_description.specs.Fields.{quantiserOf};
 ghost use Rattle.h261_render.specs.Sample.{predictionOf, contentOf, rendered};
-ghost use Rattle.h261_render.specs.Turn.{TurnOf};
+ghost use Rattle.h261_render.specs.Turn.{PictureOf, TurnOf};
 use h261_groups::Format;
 
 mod block;
@@ -114,7 +112,7 @@ pub fn render(
     reference: &[u8],
     store: &mut [u8],
 )
-    requires { ⌜ T (valid format (flat (now head) (now macroblocks) (now levels))) × (length (now reference) ≡ storeLength (sizeOf format)) × (length (now store) ≡ storeLength (sizeOf format)) ⌝ }
+    requires { ⌜ PictureOf format (flat (now head) (now macroblocks) (now levels)) (length (now reference)) (length (now store)) ⌝ }
     ensures { λ _. ⌜ now (store .exit) ≡ rendered format (flat (now (head .entry)) (now (macroblocks .entry)) (now (levels .entry))) (now (reference .entry)) ⌝ }
 {
     let count = h261_groups::order::macroblock_count(format);

@@ -7,6 +7,7 @@ ghost use Rattle.h261_groups.specs.Format.{macroblocksLength, levelsLength, gro
 ghost use Rattle.layout.specs.Numbers.{all, isQuantiser};
 ghost use Rattle.h261_description.specs.Valid.{lengthsOf, validHead, validMacroblocks, validGroups, valid as isValid};
 ghost use Rattle.layout.specs.Flat.{flat};
+ghost use Rattle.h261_validity.specs.Ready.{GroupReady};
 
 pub mod levels;
 mod macroblock;
@@ -58,7 +59,7 @@ fn valid_head(head: &[u8], format: Format) -> bool
 
 // The 33 macroblocks of a group that the slices begin with.
 fn valid_group(format: Format, number: usize, fields: &[u8], levels: &[u8]) -> bool
-    requires { ⌜ (1 ≤ number) × (number ≤ 12) × (132 ≤ length (now fields)) × (12672 ≤ length (now levels)) ⌝ }
+    requires { ⌜ GroupReady number (now fields) (now levels) ⌝ }
     ensures { λ r. ⌜ r ≡ validMacroblocks 33 format number 1 (now (fields .entry)) (now (levels .entry)) ⌝ }
 {
     let mut k: usize = 0;

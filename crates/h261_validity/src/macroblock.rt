@@ -5,11 +5,13 @@ ghost use mathlib.Core.Path.{_≡_};
 ghost use Prim.Native.Nat.{_≤_, _<_};
 ghost use lib.ListN.{length, getD};
 ghost use Rattle.laws.specs.Choice.{both, pick};
+ghost use Rattle.h261_groups.specs.Format.{Addressed};
 ghost use Rattle.h261_words.specs.Words.{hasMQUANT, isMC};
 ghost use Rattle.h261_description.specs.Vector.{inRange, inside};
 ghost use Rattle.layout.specs.Flat.{numberOf};
 ghost use Rattle.layout.specs.Numbers.{isQuantiser, isZero};
 ghost use Rattle.h261_description.specs.Valid.{validVector, validMacroblock};
+ghost use Rattle.h261_validity.specs.Ready.{MacroblockReady};
 
 // Whether a byte is a quantiser, 1 to 31.
 pub fn is_quantiser(byte: u8) -> bool
@@ -52,7 +54,7 @@ fn valid_component(byte: u8, from: usize, end: usize) -> bool
 
 // The vector obeys the rules where the type has one, and is 0 where it hasn't.
 fn valid_vector(format: Format, number: usize, address: usize, fields: &[u8]) -> bool
-    requires { ⌜ (1 ≤ number) × (number ≤ 12) × (1 ≤ address) × (address ≤ 33) × (length (now fields) ≡ 4) ⌝ }
+    requires { ⌜ (Addressed number address) × (length (now fields) ≡ 4) ⌝ }
     ensures { λ r. ⌜ r ≡ pick (isMC (getD (now (fields .entry)) 0 0)) (validVector format number address (now (fields .entry))) (both (isZero (getD (now (fields .entry)) 2 0)) (isZero (getD (now (fields .entry)) 3 0))) ⌝ }
 {
     let across = fields[2];
@@ -79,7 +81,7 @@ pub fn valid_macroblock(
     fields: &[u8],
     levels: &[u8],
 ) -> bool
-    requires { ⌜ (1 ≤ number) × (number ≤ 12) × (1 ≤ address) × (address ≤ 33) × (length (now fields) ≡ 4) × (length (now levels) ≡ 384) ⌝ }
+    requires { ⌜ MacroblockReady number address (now fields) (now levels) ⌝ }
     ensures { λ r. ⌜ r ≡ validMacroblock format number address (now (fields .entry)) (now (levels .entry)) ⌝ }
 {
     let kind = fields[0];

@@ -1,4 +1,5 @@
--- The codeword of a meaning, from the entry that spells it; and a coefficient's, with its sign or as an escape. Assumes nothing.
+-- The codeword of a meaning, from the entry that spells it; and a coefficient's, with its sign or as an escape; a codeword appended.
+-- Assumes nothing.
 use mathlib.Core.Path.{_≡_, refl, sym, ap, _∙_}
 use mathlib.Core.Bool.{Bool, true, false}
 use mathlib.Core.List.{List, [], _∷_, _++_}
@@ -7,15 +8,16 @@ use native.Mathlib.Nat.{pow-suc}
 use native.Mathlib.Omega.{arith}
 use borrow.Author.Tests.{lt-ltb, le-ltb, ne-eqb}
 use lib.Dec.{T, eqb, ltb, leb, eqb→eq, leb→le}
-use lib.ListN.{length, getD}
+use lib.ListN.{getD}
 use Rattle.laws.specs.Choice.{pick, both, either, opposite}
 use Rattle.laws.proofs.Choice.{both-left, both-right, either-right, T-true, true-false, opposite-no, second-no}
 use Rattle.laws.specs.Table.{allB}
 use Rattle.laws.proofs.Table.{all-at}
 use Rattle.bits.specs.Bits.{Bit, O, I, bitsOf}
 use Rattle.bits.specs.Code.{Entry, wordOf, has}
+use Rattle.bits.specs.Appended.{FieldFits, WroteBits, CountablePlace}
 use Rattle.bits.proofs.Numbers.{bitsOf-append}
-use Rattle.bits.proofs.Fields.{length-bitsOf}
+use Rattle.bits.proofs.Appended.{wrote-as}
 use Rattle.h261_words.specs.Tables.{pair, endOfBlock, escape, pairs, firstTable5, laterTable5, tableOf}
 use Rattle.layout.specs.Value.{coefficient}
 use Rattle.h261_words.specs.Words.{negative, size, tcoeffOf}
@@ -23,9 +25,10 @@ use Rattle.h261_words.specs.Lookup.{alike, spells, spelt}
 use Rattle.h261_words.specs.Back.{Sendable}
 use Rattle.h261_words.proofs.Back.{size-some, negative-small}
 use Rattle.h261_words.specs.Written.{codewordOf, Writes}
+use Rattle.h261_words.specs.declared.Codeword.{Codeword}
 
 pub writes : (w : List Bit) (k x : ℕ) → bitsOf k x ≡ w → 1 ≤ k → k ≤ 24 → x < 2 ^ k → Writes w (codewordOf k x)
-writes w k x e a b c = record { is = e; length-is = sym (length-bitsOf k x) ∙ ap length e; some = a; short = b; small = c }
+writes w k x e a b c = record { is = e; fits = record { some = a; short = b; small = c } }
 
 alike-eq : (w v : List Bit) → T (alike w v) → w ≡ v
 alike-eq [] [] h = refl
@@ -208,3 +211,11 @@ module _ (run code lv n : ℕ) (g : Sendable (coefficient run code)) (el : lv �
 pub end-writes : Writes (wordOf laterTable5 endOfBlock) (codewordOf 2 2)
 unfolding laterTable5 wordOf
 end-writes = writes (wordOf laterTable5 endOfBlock) 2 2 refl (omega arith) (omega arith) (omega arith)
+
+-- ---- a codeword appended
+module _ {w : List Bit} {c : Codeword} (h : Writes w c) {at : ℕ} where
+  pub word-ready : CountablePlace at w → FieldFits (c .width) (c .bits) × CountablePlace at (bitsOf (c .width) (c .bits))
+  word-ready n = (h .fits, rw (h .is) n)
+
+  pub word-wrote : {s t : List ℕ} {r : ℕ} → WroteBits (bitsOf (c .width) (c .bits)) s at t r → WroteBits w s at t r
+  word-wrote g = wrote-as g (h .is)

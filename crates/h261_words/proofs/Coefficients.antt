@@ -10,7 +10,7 @@ use Rattle.laws.specs.Choice.{either}
 use Rattle.refusals.specs.declared.Reason.{Reason}
 use Rattle.refusals.specs.declared.Reason.the-variants.{BitsEnd, Forbidden}
 use Rattle.bits.specs.Bits.{Bit}
-use Rattle.bits.specs.Read.{Read, got, bad, next, settle, moved, field}
+use Rattle.bits.specs.Read.{Read, got, bad, next, settle, movedRead, field}
 use Rattle.bits.specs.Code.{Entry, word}
 use Rattle.h261_words.specs.Tables.{endOfBlock, escape}
 use Rattle.h261_words.specs.Words.{Event, sent, over, signed, escaped, paired, tcoeff, allowed, coefficientRead}
@@ -28,7 +28,7 @@ module _ (table : List Entry) (bs : List Bit) (at : ℕ) where
     end-read z = rw (e, eq-eqb m endOfBlock z)
 
     module _ (n : m ≡ endOfBlock → ⊥) (z : m ≡ escape) where
-      pub escape-from : (x : Read Event) → escaped cs p ≡ x → coefficientRead table bs at ≡ next (moved at x) (λ a. settle at (allowed a))
+      pub escape-from : (x : Read Event) → escaped cs p ≡ x → coefficientRead table bs at ≡ next (movedRead at x) (λ a. settle at (allowed a))
       unfolding tcoeff coefficientRead
       escape-from x f = rw (e, ne-eqb m endOfBlock n, eq-eqb m escape z, f)
 
@@ -43,7 +43,7 @@ module _ (table : List Entry) (bs : List Bit) (at : ℕ) where
       escape-read run ds q code es r f g = escape-from (got (sent (coefficient run code)) es r) (rw (f, g))
 
     module _ (n : m ≡ endOfBlock → ⊥) (z : m ≡ escape → ⊥) where
-      pub pair-from : (x : Read Event) → paired m cs p ≡ x → coefficientRead table bs at ≡ next (moved at x) (λ a. settle at (allowed a))
+      pub pair-from : (x : Read Event) → paired m cs p ≡ x → coefficientRead table bs at ≡ next (movedRead at x) (λ a. settle at (allowed a))
       unfolding tcoeff coefficientRead
       pair-from x f = rw (e, ne-eqb m endOfBlock n, ne-eqb m escape z, f)
 

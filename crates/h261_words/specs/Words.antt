@@ -6,7 +6,7 @@ use lib.Dec.{ltb, eqb}
 use Rattle.laws.specs.Choice.{pick, both, oneOf}
 use Rattle.refusals.specs.declared.Reason.the-variants.{Forbidden}
 use Rattle.bits.specs.Bits.{Bit, bitsOf}
-use Rattle.bits.specs.Read.{Reader, _>>=_, done, field, whole, Judged, fine, against, judged}
+use Rattle.bits.specs.Read.{Reader, _>>=_, done, field, whole, Judged, fine, against, judgedRead}
 use Rattle.bits.specs.Code.{Entry, word, wordOf, has}
 use Rattle.layout.specs.Value.{Coefficient, coefficient}
 use Rattle.layout.specs.Numbers.{forbidden}
@@ -63,7 +63,7 @@ allowed over = fine over
 
 -- a codeword of Table 5 with an allowed level
 unfoldable pub coefficientRead : List Entry → Reader Event
-coefficientRead table = judged (tcoeff table) allowed
+coefficientRead table = judgedRead (tcoeff table) allowed
 
 -- ---- and back: "a table code wherever Table 5 has one"
 abbrev pub negative : ℕ → ℕ

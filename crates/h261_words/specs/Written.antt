@@ -1,9 +1,10 @@
 -- A codeword as the code hands it to the bit writer. Assumes nothing.
 use mathlib.Core.Path.{_≡_}
 use mathlib.Core.List.{List}
-use Prim.Native.Nat.{ℕ, _+_, _*_, _^_, _<_, _≤_}
-use lib.ListN.{length}
+use Prim.Native.Nat.{ℕ, _≤_}
 use Rattle.bits.specs.Bits.{Bit, bitsOf}
+use Rattle.bits.specs.Appended.{FieldFits}
+use Rattle.h261_words.specs.Lookup.{Tables}
 use Rattle.h261_words.specs.declared.Codeword.{Codeword}
 
 -- a codeword of some bits and a number
@@ -13,15 +14,10 @@ codewordOf width bits = record { width = width; bits = bits }
 -- c is the word: as many bits, of this number
 pub record Writes (word : List Bit) (c : Codeword) : Type 0 where
   pub is : bitsOf (c .width) (c .bits) ≡ word
-  pub length-is : c .width ≡ length word
-  pub some : 1 ≤ c .width
-  pub short : c .width ≤ 24
-  pub small : c .bits < 2 ^ (c .width)
+  pub fits : FieldFits (c .width) (c .bits)
 
--- c has some bits and not too many, and they have room from a place of the output on
-pub record Fits (out : List ℕ) (at : ℕ) (c : Codeword) : Type 0 where
-  pub some : 1 ≤ c .width
-  pub short : c .width ≤ 24
-  pub small : c .bits < 2 ^ (c .width)
-  pub room : at + c .width ≤ 8 * length out
-  pub near : at < 4294967296
+-- a meaning that has a codeword: 1 to `most`
+pub record MeaningAsked (t : List ℕ) (most meaning : ℕ) : Type 0 where
+  pub tables : Tables t
+  pub some : 1 ≤ meaning
+  pub known : meaning ≤ most

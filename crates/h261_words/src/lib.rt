@@ -1,12 +1,12 @@
 // H.261's Tables 1 to 5: codewords read and written.
-use bits::WordRead;
+use bits::FieldRead;
 use refusals::Reason;
 use refusals::Refusal;
 ghost use mathlib.Core.Path.{_≡_};
 ghost use Rattle.bits.specs.Bits.{bitsOf, bitsLeft};
 ghost use Rattle.bits.specs.Code.{word as wordRead, wordOf};
-ghost use Rattle.bits.specs.Write.{written};
-ghost use Rattle.bits.specs.Answer.{Within, asWord};
+ghost use Rattle.bits.specs.Appended.{FieldFits, WroteBits, CountablePlace};
+ghost use Rattle.bits.specs.Answer.{Within, asField};
 ghost use Prim.Native.Nat.{_+_, _*_, _/_, _%_, _≤_, _<_};
 ghost use lib.ListN.{getD};
 ghost use Rattle.laws.specs.Choice.{pick};
@@ -15,7 +15,7 @@ ghost use Rattle.layout.specs.Value.{coefficient as coefficientOf};
 ghost use Rattle.h261_words.specs.Words.{negative, size, coefficientRead, tcoeffOf};
 ghost use Rattle.h261_words.specs.Answer.{asCoefficient};
 ghost use Rattle.h261_words.specs.Back.{Sendable};
-ghost use Rattle.h261_words.specs.Written.{codewordOf, Writes, Fits};
+ghost use Rattle.h261_words.specs.Written.{codewordOf, Writes, MeaningAsked};
 ghost use Rattle.h261_words.specs.Lookup.{Tables, entryPlace, firstAt, laterAt};
 
 pub mod kind;
@@ -64,33 +64,33 @@ pub enum CoefficientRead {
 }
 
 // MBA at `at`: a step of 1 to 33, 34 for stuffing, 35 for a start code.
-pub fn mba(tables: &WordTables, bytes: &[u8], count: usize, at: usize) -> WordRead
+pub fn mba(tables: &WordTables, bytes: &[u8], count: usize, at: usize) -> FieldRead
     requires { ⌜ (Tables (now tables)) × (Within (now bytes) count at) ⌝ }
-    ensures { λ r. ⌜ asWord (now (bytes .entry)) count r ≡ wordRead table1 (bitsLeft (now (bytes .entry)) count at) at ⌝ }
+    ensures { λ r. ⌜ asField (now (bytes .entry)) count r ≡ wordRead table1 (bitsLeft (now (bytes .entry)) count at) at ⌝ }
 {
     bits::walk(tables, MBA_TREE, bytes, count, at)
 }
 
 // MTYPE at `at`: 1 to 10, in the order of document 01's table.
-pub fn mtype(tables: &WordTables, bytes: &[u8], count: usize, at: usize) -> WordRead
+pub fn mtype(tables: &WordTables, bytes: &[u8], count: usize, at: usize) -> FieldRead
     requires { ⌜ (Tables (now tables)) × (Within (now bytes) count at) ⌝ }
-    ensures { λ r. ⌜ asWord (now (bytes .entry)) count r ≡ wordRead table2 (bitsLeft (now (bytes .entry)) count at) at ⌝ }
+    ensures { λ r. ⌜ asField (now (bytes .entry)) count r ≡ wordRead table2 (bitsLeft (now (bytes .entry)) count at) at ⌝ }
 {
     bits::walk(tables, MTYPE_TREE, bytes, count, at)
 }
 
 // A component of MVD at `at`: 16 more than the difference that Table 3 prints first.
-pub fn mvd(tables: &WordTables, bytes: &[u8], count: usize, at: usize) -> WordRead
+pub fn mvd(tables: &WordTables, bytes: &[u8], count: usize, at: usize) -> FieldRead
     requires { ⌜ (Tables (now tables)) × (Within (now bytes) count at) ⌝ }
-    ensures { λ r. ⌜ asWord (now (bytes .entry)) count r ≡ wordRead table3 (bitsLeft (now (bytes .entry)) count at) at ⌝ }
+    ensures { λ r. ⌜ asField (now (bytes .entry)) count r ≡ wordRead table3 (bitsLeft (now (bytes .entry)) count at) at ⌝ }
 {
     bits::walk(tables, MVD_TREE, bytes, count, at)
 }
 
 // CBP at `at`: 1 to 63.
-pub fn cbp(tables: &WordTables, bytes: &[u8], count: usize, at: usize) -> WordRead
+pub fn cbp(tables: &WordTables, bytes: &[u8], count: usize, at: usize) -> FieldRead
     requires { ⌜ (Tables (now tables)) × (Within (now bytes) count at) ⌝ }
-    ensures { λ r. ⌜ asWord (now (bytes .entry)) count r ≡ wordRead table4 (bitsLeft (now (bytes .entry)) count at) at ⌝ }
+    ensures { λ r. ⌜ asField (now (bytes .entry)) count r ≡ wordRead table4 (bitsLeft (now (bytes .entry)) count at) at ⌝ }
 {
     bits::walk(tables, CBP_TREE, bytes, count, at)
 }
@@ -187,7 +187,7 @@ fn spelt(tables: &WordTables, place: usize) -> Codeword
 
 // The codeword of MBA: a step of 1 to 33, 34 for stuffing, 35 for a start code.
 pub fn mba_codeword(tables: &WordTables, step: usize) -> Codeword
-    requires { ⌜ (Tables (now tables)) × (1 ≤ step) × (step ≤ 35) ⌝ }
+    requires { ⌜ MeaningAsked (now tables) 35 step ⌝ }
     ensures { λ r. ⌜ Writes (wordOf table1 step) r ⌝ }
 {
     spelt(tables, MBA_WORDS + step)
@@ -195,7 +195,7 @@ pub fn mba_codeword(tables: &WordTables, step: usize) -> Codeword
 
 // The codeword of MTYPE, 1 to 10.
 pub fn mtype_codeword(tables: &WordTables, kind: usize) -> Codeword
-    requires { ⌜ (Tables (now tables)) × (1 ≤ kind) × (kind ≤ 10) ⌝ }
+    requires { ⌜ MeaningAsked (now tables) 10 kind ⌝ }
     ensures { λ r. ⌜ Writes (wordOf table2 kind) r ⌝ }
 {
     spelt(tables, MTYPE_WORDS + kind)
@@ -211,7 +211,7 @@ pub fn mvd_codeword(tables: &WordTables, difference: usize) -> Codeword
 
 // The codeword of CBP, 1 to 63.
 pub fn cbp_codeword(tables: &WordTables, pattern: usize) -> Codeword
-    requires { ⌜ (Tables (now tables)) × (1 ≤ pattern) × (pattern ≤ 63) ⌝ }
+    requires { ⌜ MeaningAsked (now tables) 63 pattern ⌝ }
     ensures { λ r. ⌜ Writes (wordOf table4 pattern) r ⌝ }
 {
     spelt(tables, CBP_WORDS + pattern)
@@ -289,13 +289,12 @@ pub fn coefficient_codeword(tables: &WordTables, run: usize, code: u8, first: bo
     }
 }
 
-// A codeword at a place of the output; the place after it.
-pub fn put(out: &mut [u8], at: usize, word: Codeword) -> usize
-    requires { ⌜ Fits (now out) at word ⌝ }
-    ensures { λ r. ⌜ (r ≡ at + word .width) × (now (out .exit) ≡ written (now (out .entry)) at (bitsOf (word .width) (word .bits))) ⌝ }
+// A codeword at a place of the output, as far as it has room; the place after it.
+pub fn append(out: &mut [u8], at: usize, word: Codeword) -> usize
+    requires { ⌜ (FieldFits (word .width) (word .bits)) × (CountablePlace at (bitsOf (word .width) (word .bits))) ⌝ }
+    ensures { λ r. ⌜ WroteBits (bitsOf (word .width) (word .bits)) (now (out .entry)) at (now (out .exit)) r ⌝ }
 {
     let width = word.width;
     let number = word.bits;
-    bits::put(out, at, width, number);
-    at + width
+    bits::append(out, at, width, number)
 }

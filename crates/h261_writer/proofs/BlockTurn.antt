@@ -15,17 +15,19 @@ use Rattle.laws.proofs.Choice.{both-left, both-right, both-make, true-false, op
 use Rattle.laws.proofs.Lists.{drop-on}
 use Rattle.bits.specs.Bits.{Bit, bitsOf}
 use Rattle.bits.specs.Code.{wordOf}
+use Rattle.bits.specs.Appended.{WroteBits, CountablePlace}
+use Rattle.bits.proofs.Appended.{wrote-none, wrote-as, wrote-then, first-countable, then-countable, next-countable}
 use Rattle.h261_words.specs.Tables.{endOfBlock, laterTable5, tableOf}
 use Rattle.layout.specs.Value.{Coefficient, coefficient, Block}
 use Rattle.h261_words.specs.Words.{tcoeffOf}
 use Rattle.layout.specs.Numbers.{forbidden, all, isZero, isLevel, codesFirst}
 use Rattle.h261_words.specs.Back.{Sendable}
 use Rattle.layout.specs.Flat.{gather, gathers}
-use Rattle.layout.proofs.Levels.{all-index}
-use Rattle.h261_writer.specs.Write.{coefficientsOf, blockOf, blocksOf, present, patternOf}
-use Rattle.h261_writer.specs.Sound.{codedOf}
-use Rattle.h261_writer.specs.Put.{Wrote, Room}
-use Rattle.h261_writer.proofs.Put.{wrote-none, wrote-as, wrote-most, wrote-then, room-after}
+use Rattle.layout.proofs.Levels.{all-index, all-take, all-drop}
+use Rattle.h261_writer.specs.Write.{coefficientsOf, blockOf, blocksOf, presenceOf, patternOf}
+use Rattle.h261_writer.specs.Sound.{codedBits}
+use Rattle.h261_writer.specs.Asked.{CoefficientsAsked, BlockAsked, BlocksAsked}
+use Rattle.h261_validity.proofs.Steps.{piece-length}
 
 -- ---- lists
 pub past : (l : List ℕ) (n : ℕ) → length l ≡ n → drop n l ≡ []
@@ -43,7 +45,7 @@ piece-first l a n h =
 level-fine : (b : ℕ) → T (isLevel b) → (b ≡ 0 → ⊥) → forbidden b ≡ false
 level-fine b t n = λ i. either (ne-eqb b 0 n i) (either (opposite-no (eqb b 128) (both-right (leb b 255) (opposite (eqb b 128)) t) i) false)
 
-pub sendable : (levels : List ℕ) (k run : ℕ) → T (all isLevel levels) → k < length levels → (getD levels k 0 ≡ 0 → ⊥) → run ≤ 63 → Sendable (coefficient run (getD levels k 0))
+sendable : (levels : List ℕ) (k run : ℕ) → T (all isLevel levels) → k < length levels → (getD levels k 0 ≡ 0 → ⊥) → run ≤ 63 → Sendable (coefficient run (getD levels k 0))
 sendable levels k run t l n r =
     let b = getD levels k 0 in
     let g : T (isLevel b) = all-index isLevel levels t k l in
@@ -63,12 +65,12 @@ gather-none : (run : ℕ) → gather run [] ≡ []
 unfolding gather
 gather-none run = refl
 
-coded-cons : (first : Bool) (c : Coefficient) (cs : Block) → codedOf first (c ∷ cs) ≡ tcoeffOf (tableOf first) c ++ codedOf false cs
+coded-cons : (first : Bool) (c : Coefficient) (cs : Block) → codedBits first (c ∷ cs) ≡ tcoeffOf (tableOf first) c ++ codedBits false cs
 unfolding coefficientsOf
 coded-cons true c cs = refl
 coded-cons false c cs = refl
 
-coded-last : codedOf false [] ≡ wordOf laterTable5 endOfBlock
+coded-last : codedBits false [] ≡ wordOf laterTable5 endOfBlock
 unfolding coefficientsOf
 coded-last = refl
 
@@ -77,12 +79,12 @@ pub record CodedSoFar (whole : List Bit) (levels : List ℕ) (s : List ℕ) (at 
   pub inside : k ≤ 64
   pub low : run ≤ k
   pub bits : List Bit
-  pub wrote : Wrote (24 * k) bits s at t place
-  pub same : whole ≡ bits ++ codedOf first (gather run (drop k levels))
+  pub wrote : WroteBits bits s at t place
+  pub same : whole ≡ bits ++ codedBits first (gather run (drop k levels))
 
 pub coded-begin : (levels : List ℕ) (s : List ℕ) (at : ℕ) (opening : Bool) (from : ℕ) → from ≤ 1
-    → CodedSoFar (codedOf opening (gather 0 (drop from levels))) levels s at s opening 0 from at
-coded-begin levels s at opening from l = record { inside = omega arith; low = omega arith; bits = []; wrote = wrote-none (24 * from) s at; same = refl }
+    → CodedSoFar (codedBits opening (gather 0 (drop from levels))) levels s at s opening 0 from at
+coded-begin levels s at opening from l = record { inside = omega arith; low = omega arith; bits = []; wrote = wrote-none s at; same = refl }
 
 module _ {whole : List Bit} {levels : List ℕ} {s : List ℕ} {at : ℕ} {t : List ℕ} {first : Bool} {run k place : ℕ} (h : CodedSoFar whole levels s at t first run k place)
     (size : length levels ≡ 64)
@@ -92,70 +94,101 @@ module _ {whole : List Bit} {levels : List ℕ} {s : List ℕ} {at : ℕ} {t : L
       inside = omega arith;
       low = omega (arith, h .low);
       bits = h .bits;
-      wrote = wrote-most (h .wrote) (24 * (k + 1)) (omega arith);
-      same = h .same ∙ ap (λ (b : Block). h .bits ++ codedOf first b) (ap (gather run) (drop-on levels k (omega arith)) ∙ gather-zero run (getD levels k 0) (drop (k + 1) levels) z);
+      wrote = h .wrote;
+      same = h .same ∙ ap (λ (b : Block). h .bits ++ codedBits first b) (ap (gather run) (drop-on levels k (omega arith)) ∙ gather-zero run (getD levels k 0) (drop (k + 1) levels) z);
     }
 
-    module _ (room : Room s at 1560) where
-      pub coded-room : k < 64 → Room t place 24
-      coded-room l = room-after (h .wrote) room (omega arith) 24 (omega arith)
+    module _ (l : k < 64) (n : getD levels k 0 ≡ 0 → ⊥) where
+      abbrev coded-word : List Bit
+      coded-word = tcoeffOf (tableOf first) (coefficient run (getD levels k 0))
 
-      pub coded-more : {u : List ℕ} {q : ℕ} → k < 64 → (getD levels k 0 ≡ 0 → ⊥)
-          → Wrote 24 (tcoeffOf (tableOf first) (coefficient run (getD levels k 0))) t place u q → CodedSoFar whole levels s at u false 0 (k + 1) q
-      coded-more l n g =
-          let c : Coefficient = coefficient run (getD levels k 0) in
-          let w : List Bit = tcoeffOf (tableOf first) c in
-          record {
-            inside = omega arith;
-            low = omega arith;
-            bits = h .bits ++ w;
-            wrote = wrote-most (wrote-then (h .wrote) room (omega arith) g) (24 * (k + 1)) (omega arith);
-            same =
-                h .same
-                ∙ ap (λ (b : Block). h .bits ++ codedOf first b) (ap (gather run) (drop-on levels k (omega arith)) ∙ gather-code run (getD levels k 0) (drop (k + 1) levels) n)
-                ∙ ap (λ (x : List Bit). h .bits ++ x) (coded-cons first c (gather 0 (drop (k + 1) levels)))
-                ∙ sym (append-assoc (h .bits) w (codedOf false (gather 0 (drop (k + 1) levels))));
-          }
+      abbrev coded-rest : List Bit
+      coded-rest = codedBits false (gather 0 (drop (k + 1) levels))
 
-      module _ (l : 64 ≤ k) where
-        ended : (b : Bool) → first ≡ b → whole ≡ h .bits ++ codedOf b []
-        ended b e =
-            h .same ∙ ap₂ (λ (x : Bool) (y : Block). h .bits ++ codedOf x y) e (ap (gather run) (past levels k (omega (arith, h .inside))) ∙ gather-none run)
+      coded-on : whole ≡ h .bits ++ (coded-word ++ coded-rest)
+      coded-on =
+          h .same
+          ∙ ap (λ (b : Block). h .bits ++ codedBits first b) (ap (gather run) (drop-on levels k (omega arith)) ∙ gather-code run (getD levels k 0) (drop (k + 1) levels) n)
+          ∙ ap (λ (x : List Bit). h .bits ++ x) (coded-cons first (coefficient run (getD levels k 0)) (gather 0 (drop (k + 1) levels)))
 
-        pub coded-room-end : Room t place 24
-        coded-room-end = room-after (h .wrote) room (omega (arith, h .inside)) 24 (omega (arith, h .inside))
+      pub coded-sendable : T (all isLevel levels) → Sendable (coefficient run (getD levels k 0))
+      coded-sendable t = sendable levels k run t (omega arith) n (omega (arith, h .low))
 
-        pub coded-none : first ≡ true → Wrote 1560 whole s at t place
-        coded-none e = wrote-most (wrote-as (h .wrote) (sym (ended true e ∙ append-nil (h .bits)))) 1560 (omega (arith, h .inside))
+      pub coded-counts : CountablePlace at whole → CountablePlace place coded-word
+      coded-counts c = next-countable (h .wrote) coded-word coded-rest coded-on c
 
-        pub coded-end : {u : List ℕ} {q : ℕ} → first ≡ false → Wrote 24 (wordOf laterTable5 endOfBlock) t place u q → Wrote 1560 whole s at u q
-        coded-end e g =
-            wrote-most (wrote-as (wrote-then (h .wrote) room (omega (arith, h .inside)) g) (sym (ended false e ∙ ap (λ (x : List Bit). h .bits ++ x) coded-last))) 1560 (omega (arith, h .inside))
+      pub coded-more : {u : List ℕ} {q : ℕ} → WroteBits coded-word t place u q → CodedSoFar whole levels s at u false 0 (k + 1) q
+      coded-more g = record {
+        inside = omega arith;
+        low = omega arith;
+        bits = h .bits ++ coded-word;
+        wrote = wrote-then (h .wrote) g;
+        same = coded-on ∙ sym (append-assoc (h .bits) coded-word coded-rest);
+      }
+
+    module _ (l : 64 ≤ k) where
+      ended : (b : Bool) → first ≡ b → whole ≡ h .bits ++ codedBits b []
+      ended b e = h .same ∙ ap₂ (λ (x : Bool) (y : Block). h .bits ++ codedBits x y) e (ap (gather run) (past levels k (omega (arith, h .inside))) ∙ gather-none run)
+
+      pub coded-none : first ≡ true → WroteBits whole s at t place
+      coded-none e = wrote-as (h .wrote) (sym (ended true e ∙ append-nil (h .bits)))
+
+      module _ (e : first ≡ false) where
+        ended-by : whole ≡ h .bits ++ wordOf laterTable5 endOfBlock
+        ended-by = ended false e ∙ ap (λ (x : List Bit). h .bits ++ x) coded-last
+
+        pub end-counts : CountablePlace at whole → CountablePlace place (wordOf laterTable5 endOfBlock)
+        end-counts c = then-countable (h .wrote) (wordOf laterTable5 endOfBlock) (rw ended-by at c)
+
+        pub coded-end : {u : List ℕ} {q : ℕ} → WroteBits (wordOf laterTable5 endOfBlock) t place u q → WroteBits whole s at u q
+        coded-end g = wrote-as (wrote-then (h .wrote) g) (sym ended-by)
 
 -- ---- a block
-module _ (levels : List ℕ) (intra : Bool) {s : List ℕ} {at : ℕ} (room : Room s at 1584) where
-  pub block-intra : {t : List ℕ} {p : ℕ} {u : List ℕ} {q : ℕ} → length levels ≡ 64 → intra ≡ true → T (either (opposite intra) (opposite (isZero (getD levels 0 0))))
-      → Wrote 24 (bitsOf 8 (getD levels 0 0)) s at t p → Wrote 1560 (codedOf false (gather 0 (drop 1 levels))) t p u q → Wrote 1584 (blockOf intra (gather 0 levels)) s at u q
-  block-intra size e some a b =
-      let no-zero : isZero (getD levels 0 0) ≡ false = opposite-no (isZero (getD levels 0 0)) (subst (λ (x : Bool). T (either (opposite x) (opposite (isZero (getD levels 0 0))))) e some) in
-      let n : getD levels 0 0 ≡ 0 → ⊥ = λ z. true-false (sym (eq-eqb (getD levels 0 0) 0 z) ∙ no-zero) in
-      let is : gather 0 levels ≡ coefficient 0 (getD levels 0 0) ∷ gather 0 (drop 1 levels) = ap (gather 0) (drop-on levels 0 (omega arith)) ∙ gather-code 0 (getD levels 0 0) (drop 1 levels) n in
-      wrote-as (wrote-then a room (lit≤ tt) b)
-      (sym (ap₂ blockOf e is))
+module _ {tables levels : List ℕ} {intra : Bool} {at : ℕ} (a : BlockAsked tables levels intra at) where
+  module _ (e : intra ≡ true) where
+    abbrev code-bits : List Bit
+    code-bits = bitsOf 8 (getD levels 0 0)
 
-  pub block-inter : {u : List ℕ} {q : ℕ} → intra ≡ false → Wrote 1560 (codedOf true (gather 0 (drop 0 levels))) s at u q → Wrote 1584 (blockOf intra (gather 0 levels)) s at u q
-  block-inter e a = wrote-most (wrote-as a (sym (ap (λ (x : Bool). blockOf x (gather 0 levels)) e))) 1584 (lit≤ tt)
+    abbrev later-bits : List Bit
+    later-bits = codedBits false (gather 0 (drop 1 levels))
+
+    -- an INTRA block: its code, then its coefficients
+    intra-on : blockOf intra (gather 0 levels) ≡ code-bits ++ later-bits
+    intra-on =
+        let no-zero : isZero (getD levels 0 0) ≡ false = opposite-no (isZero (getD levels 0 0)) (subst (λ (x : Bool). T (either (opposite x) (opposite (isZero (getD levels 0 0))))) e (a .coded)) in
+        let n : getD levels 0 0 ≡ 0 → ⊥ = λ z. true-false (sym (eq-eqb (getD levels 0 0) 0 z) ∙ no-zero) in
+        ap₂ blockOf e (ap (gather 0) (drop-on levels 0 (omega (arith, a .long))) ∙ gather-code 0 (getD levels 0 0) (drop 1 levels) n)
+
+    pub code-counts : CountablePlace at code-bits
+    code-counts = first-countable code-bits later-bits (subst (CountablePlace at) intra-on (a .counts))
+
+    pub intra-asked : {s t : List ℕ} {p : ℕ} → WroteBits code-bits s at t p → CoefficientsAsked tables levels 1 false p
+    intra-asked w =
+        record { tables = a .tables; long = a .long; allowed = a .allowed; near = lit≤ tt; counts = then-countable w later-bits (subst (CountablePlace at) intra-on (a .counts)) }
+
+    pub block-intra : {s t : List ℕ} {p : ℕ} {u : List ℕ} {q : ℕ} → WroteBits code-bits s at t p → WroteBits later-bits t p u q → WroteBits (blockOf intra (gather 0 levels)) s at u q
+    block-intra w v = wrote-as (wrote-then w v) (sym intra-on)
+
+  module _ (e : intra ≡ false) where
+    inter-on : blockOf intra (gather 0 levels) ≡ codedBits true (gather 0 (drop 0 levels))
+    inter-on = ap (λ (x : Bool). blockOf x (gather 0 levels)) e
+
+    pub inter-asked : CoefficientsAsked tables levels 0 true at
+    inter-asked = record { tables = a .tables; long = a .long; allowed = a .allowed; near = lit≤ tt; counts = subst (CountablePlace at) inter-on (a .counts) }
+
+    pub block-inter : {s u : List ℕ} {q : ℕ} → WroteBits (codedBits true (gather 0 (drop 0 levels))) s at u q → WroteBits (blockOf intra (gather 0 levels)) s at u q
+    block-inter w = wrote-as w (sym inter-on)
 
 -- ---- the six blocks: b are behind
 pub record BlocksSoFar (whole : List Bit) (levels : List ℕ) (intra : Bool) (s : List ℕ) (at : ℕ) (t : List ℕ) (place b : ℕ) : Type 0 where
   pub left : ℕ
   pub count : b + left ≡ 6
   pub bits : List Bit
-  pub wrote : Wrote (1584 * b) bits s at t place
+  pub wrote : WroteBits bits s at t place
   pub same : whole ≡ bits ++ blocksOf intra (gathers left (drop (b * 64) levels))
 
 pub blocks-begin : (levels : List ℕ) (intra : Bool) (s : List ℕ) (at : ℕ) → BlocksSoFar (blocksOf intra (gathers 6 levels)) levels intra s at s at 0
-blocks-begin levels intra s at = record { left = 6; count = refl; bits = []; wrote = wrote-none 0 s at; same = refl }
+blocks-begin levels intra s at = record { left = 6; count = refl; bits = []; wrote = wrote-none s at; same = refl }
 
 blocks-none : (intra : Bool) (n : ℕ) (l : List ℕ) → n ≡ 0 → blocksOf intra (gathers n l) ≡ []
 unfolding gathers blocksOf
@@ -176,62 +209,77 @@ codes-at (suc n) (suc b) l t h =
     subst (λ (x : ℕ). T (opposite (isZero x))) (getD-drop 64 l (b * 64) 0 ∙ ap (λ (k : ℕ). getD l k 0) e) r
 
 -- an INTRA block of a macroblock begins with its code
-pub block-begins : (levels : List ℕ) (intra : Bool) (b : ℕ) → T (either (opposite intra) (codesFirst 6 levels)) → b < 6
+block-begins : (levels : List ℕ) (intra : Bool) (b : ℕ) → T (either (opposite intra) (codesFirst 6 levels)) → b < 6
     → T (either (opposite intra) (opposite (isZero (getD (take (b * 64 + 64 - b * 64) (drop (b * 64) levels)) 0 0))))
 block-begins levels false b t l = tt
 block-begins levels true b t l =
     subst (λ (x : ℕ). T (opposite (isZero x))) (sym (piece-first levels (b * 64) 64 (omega arith))) (codes-at 6 b levels t l)
 
 module _ {whole : List Bit} {levels : List ℕ} {intra : Bool} {s : List ℕ} {at : ℕ} {t : List ℕ} {place b : ℕ} (h : BlocksSoFar whole levels intra s at t place b) where
-  pub blocks-done : 6 ≤ b → Wrote 9504 whole s at t place
+  pub blocks-done : 6 ≤ b → WroteBits whole s at t place
   blocks-done l =
-      wrote-most
-      (wrote-as (h .wrote) (sym (h .same ∙ ap (λ (x : List Bit). h .bits ++ x) (blocks-none intra (h .left) (drop (b * 64) levels) (omega (arith, h .count))) ∙ append-nil (h .bits))))
-      9504 (omega (arith, h .count))
+      wrote-as (h .wrote) (sym (h .same ∙ ap (λ (x : List Bit). h .bits ++ x) (blocks-none intra (h .left) (drop (b * 64) levels) (omega (arith, h .count))) ∙ append-nil (h .bits)))
 
-  module _ (room : Room s at 9504) (l : b < 6) where
-    pub blocks-room : Room t place 1584
-    blocks-room = room-after (h .wrote) room (omega arith) 1584 (omega arith)
+  module _ (l : b < 6) where
+    abbrev own-levels : List ℕ
+    own-levels = take (b * 64 + 64 - b * 64) (drop (b * 64) levels)
 
-    pub blocks-more : {u : List ℕ} {q : ℕ} → Wrote 1584 (blockOf intra (gather 0 (take (b * 64 + 64 - b * 64) (drop (b * 64) levels)))) t place u q
-        → BlocksSoFar whole levels intra s at u q (b + 1)
-    blocks-more g =
+    abbrev own-bits : List Bit
+    own-bits = blockOf intra (gather 0 own-levels)
+
+    abbrev blocks-rest : List Bit
+    blocks-rest = blocksOf intra (gathers (5 - b) (drop ((b + 1) * 64) levels))
+
+    blocks-on : whole ≡ h .bits ++ (own-bits ++ blocks-rest)
+    blocks-on =
         let e : h .left ≡ suc (5 - b) = omega (arith, h .count) in
         let m : b * 64 + 64 ≡ (b + 1) * 64 = omega arith in
-        let w : List Bit = blockOf intra (gather 0 (take (b * 64 + 64 - b * 64) (drop (b * 64) levels))) in
-        let rest : List Bit = blocksOf intra (gathers (5 - b) (drop ((b + 1) * 64) levels)) in
-        let on : blocksOf intra (gathers (h .left) (drop (b * 64) levels)) ≡ w ++ rest =
-        ap (λ (n : ℕ). blocksOf intra (gathers n (drop (b * 64) levels))) e ∙ blocks-one intra (5 - b) (drop (b * 64) levels)
+        h .same
+        ∙ ap (λ (x : List Bit). h .bits ++ x)
+        (ap (λ (n : ℕ). blocksOf intra (gathers n (drop (b * 64) levels))) e
+        ∙ blocks-one intra (5 - b) (drop (b * 64) levels)
         ∙ ap₂ (λ (x y : List ℕ). blockOf intra (gather 0 x) ++ blocksOf intra (gathers (5 - b) y)) (sym (piece levels (b * 64) 64))
-        (drop-drop 64 (b * 64) levels ∙ ap (λ (n : ℕ). drop n levels) m) in
-        record {
-          left = 5 - b;
-          count = omega arith;
-          bits = h .bits ++ w;
-          wrote = wrote-most (wrote-then (h .wrote) room (omega arith) g) (1584 * (b + 1)) (omega arith);
-          same = h .same ∙ ap (λ (x : List Bit). h .bits ++ x) on ∙ sym (append-assoc (h .bits) w rest);
-        }
+        (drop-drop 64 (b * 64) levels ∙ ap (λ (n : ℕ). drop n levels) m))
+
+    -- what the block asks
+    pub block-asked : {tables : List ℕ} → BlocksAsked tables levels intra at → CountablePlace at whole → BlockAsked tables own-levels intra place
+    block-asked a c = record {
+      tables = a .tables;
+      long = piece-length levels (b * 64) 64 (omega (arith, a .long));
+      allowed = all-take isLevel (b * 64 + 64 - b * 64) (drop (b * 64) levels) (all-drop isLevel (b * 64) levels (a .allowed));
+      coded = block-begins levels intra b (a .coded) l;
+      counts = next-countable (h .wrote) own-bits blocks-rest blocks-on c;
+    }
+
+    pub blocks-more : {u : List ℕ} {q : ℕ} → WroteBits own-bits t place u q → BlocksSoFar whole levels intra s at u q (b + 1)
+    blocks-more g = record {
+      left = 5 - b;
+      count = omega arith;
+      bits = h .bits ++ own-bits;
+      wrote = wrote-then (h .wrote) g;
+      same = blocks-on ∙ sym (append-assoc (h .bits) own-bits blocks-rest);
+    }
 
 -- ---- CBP
-pub present-none : (run : ℕ) (l : List ℕ) → all isZero l ≡ true → 0 ≡ present (gather run l)
+pub present-none : (run : ℕ) (l : List ℕ) → all isZero l ≡ true → 0 ≡ presenceOf (gather run l)
 unfolding gather
 present-none run [] e = refl
 present-none run (zero ∷ xs) e = present-none (suc run) xs e
 present-none run (suc x ∷ xs) e = absurd (true-false (sym e ∙ ap (λ (b : Bool). both b (all isZero xs)) (eqb·suc-zero x)))
 
-pub present-some : (run : ℕ) (l : List ℕ) → all isZero l ≡ false → 1 ≡ present (gather run l)
+pub present-some : (run : ℕ) (l : List ℕ) → all isZero l ≡ false → 1 ≡ presenceOf (gather run l)
 unfolding gather
 present-some run [] e = absurd (true-false e)
 present-some run (zero ∷ xs) e = present-some (suc run) xs e
 present-some run (suc x ∷ xs) e = refl
 
-present-low : (b : Block) → present b ≤ 1
+present-low : (b : Block) → presenceOf b ≤ 1
 present-low [] = lit≤ tt
 present-low (c ∷ cs) = lit≤ tt
 
 pub pattern-is : (l : List ℕ) (a b c d e f : ℕ)
-    → a ≡ present (gather 0 (take 64 l)) → b ≡ present (gather 0 (take 64 (drop 64 l))) → c ≡ present (gather 0 (take 64 (drop 128 l)))
-    → d ≡ present (gather 0 (take 64 (drop 192 l))) → e ≡ present (gather 0 (take 64 (drop 256 l))) → f ≡ present (gather 0 (take 64 (drop 320 l)))
+    → a ≡ presenceOf (gather 0 (take 64 l)) → b ≡ presenceOf (gather 0 (take 64 (drop 64 l))) → c ≡ presenceOf (gather 0 (take 64 (drop 128 l)))
+    → d ≡ presenceOf (gather 0 (take 64 (drop 192 l))) → e ≡ presenceOf (gather 0 (take 64 (drop 256 l))) → f ≡ presenceOf (gather 0 (take 64 (drop 320 l)))
     → a * 32 + b * 16 + c * 8 + d * 4 + e * 2 + f ≡ patternOf (gathers 6 l)
 unfolding patternOf gathers
 pattern-is l a b c d e f p q r s t u =
@@ -239,7 +287,7 @@ pattern-is l a b c d e f p q r s t u =
     let three : drop 64 (drop 64 (drop 64 l)) ≡ drop 192 l = ap (drop 64) two ∙ drop-drop 64 128 l in
     let four : drop 64 (drop 64 (drop 64 (drop 64 l))) ≡ drop 256 l = ap (drop 64) three ∙ drop-drop 64 192 l in
     let five : drop 64 (drop 64 (drop 64 (drop 64 (drop 64 l)))) ≡ drop 320 l = ap (drop 64) four ∙ drop-drop 64 256 l in
-    let g : List ℕ → ℕ = λ x. present (gather 0 (take 64 x)) in
+    let g : List ℕ → ℕ = λ x. presenceOf (gather 0 (take 64 x)) in
     let sum : a * 32 + b * 16 + c * 8 + d * 4 + e * 2 + f ≡ a * 32 + (b * 16 + (c * 8 + (d * 4 + (e * 2 + (f * 1 + 0))))) = omega arith in
     sum ∙ (λ i. p i * 32 + (q i * 16 + ((r ∙ ap g (sym two)) i * 8 + ((s ∙ ap g (sym three)) i * 4 + ((t ∙ ap g (sym four)) i * 2 + ((u ∙ ap g (sym five)) i * 1 + 0))))))
 
@@ -249,15 +297,15 @@ unfolding patternOf gathers
 pattern-zero zero [] h e = tt
 pattern-zero zero (x ∷ xs) h e = absurd (omega arith)
 pattern-zero (suc n) l h e =
-    let z : present (gather 0 (take 64 l)) ≡ 0 = none (gather 0 (take 64 l)) (2 ^ length (gathers n (drop 64 l))) _ (pow-pos (length (gathers n (drop 64 l)))) e in
+    let z : presenceOf (gather 0 (take 64 l)) ≡ 0 = none (gather 0 (take 64 l)) (2 ^ length (gathers n (drop 64 l))) _ (pow-pos (length (gathers n (drop 64 l)))) e in
     let r : patternOf (gathers n (drop 64 l)) ≡ 0 = omega (arith, e) in
     joined 64 l (zero-all 0 (take 64 l) z) (pattern-zero n (drop 64 l) (omega (arith, length-drop 64 l)) r)
   where
-    none : (b : Block) (p m : ℕ) → 0 < p → present b * p + m ≡ 0 → present b ≡ 0
+    none : (b : Block) (p m : ℕ) → 0 < p → presenceOf b * p + m ≡ 0 → presenceOf b ≡ 0
     none [] p m h e = refl
     none (c ∷ cs) p m h e = absurd (omega arith)
 
-    zero-all : (run : ℕ) (l : List ℕ) → present (gather run l) ≡ 0 → T (all isZero l)
+    zero-all : (run : ℕ) (l : List ℕ) → presenceOf (gather run l) ≡ 0 → T (all isZero l)
     zero-all run l e = go (all isZero l) refl
       where
         go : (b : Bool) → all isZero l ≡ b → T b

@@ -1,5 +1,5 @@
+pub mod Longest
 pub mod BlockTurn
 pub mod MacroblockSteps
 pub mod GroupTurn
 pub mod WriteSteps
-pub mod Put

@@ -1,7 +1,7 @@
 -- The fields of a macroblock as they are written, on plain values. Assumes nothing.
 use mathlib.Core.Path.{_≡_, refl, sym, ap, subst, _∙_}
 use mathlib.Core.Bool.{Bool, true, false}
-use mathlib.Core.List.{List}
+use mathlib.Core.List.{List, [], _∷_}
 use Prim.Native.Nat.{ℕ, _+_, _-_, _%_, _^_, _≤_, _<_}
 use native.Mathlib.Omega.{arith}
 use lib.Dec.{T, leb, ltb, eqb, leb→le, ltb→lt, eqb→eq, lit≤}
@@ -14,19 +14,22 @@ use Rattle.laws.specs.Table.{allB}
 use Rattle.laws.proofs.Table.{all-at}
 use Rattle.bits.specs.Bits.{Bit, bitsOf}
 use Rattle.bits.specs.Code.{wordOf}
-use Rattle.h261_words.specs.Tables.{table1, table2, table4}
+use Rattle.bits.specs.Appended.{FieldFits, WroteBits, CountablePlace}
+use Rattle.bits.proofs.Appended.{wrote-none, wrote-as, wrote-then, first-countable, then-countable, CountableParts}
+use Rattle.h261_words.specs.Tables.{table1, table2, table3, table4}
 use Rattle.h261_words.specs.Words.{isIntra, isMC, hasMQUANT, hasCBP}
+use Rattle.h261_words.specs.Written.{MeaningAsked}
 use Rattle.h261_groups.specs.declared.Format.{Format}
-use Rattle.layout.specs.Value.{Vector}
-use Rattle.h261_description.specs.Vector.{Before, inRange, inPicture, preceding}
-use Rattle.layout.specs.Flat.{numberOf, gathers, vectorIn, macroblockIn}
+use Rattle.layout.specs.Value.{Vector, zeroVector}
+use Rattle.h261_description.specs.Vector.{Before, inRange, inPicture, restarts, preceding}
+use Rattle.layout.specs.Flat.{numberOf, byteVector, gathers, vectorIn, macroblockIn}
 use Rattle.layout.specs.Numbers.{all, isZero, isQuantiser, isLevel, codesFirst}
+use Rattle.h261_description.proofs.Levels.{all-levels}
 use Rattle.h261_description.specs.Valid.{validVector, validLevels, validMacroblock}
-use Rattle.h261_writer.specs.Write.{given, vectorOf, blocksOf, patternOf, macroblockOf}
-use Rattle.h261_writer.specs.Sound.{Near, Sound, behind}
-use Rattle.h261_writer.specs.Put.{Wrote, Room}
-use Rattle.h261_writer.proofs.Put.{wrote-none, wrote-as, wrote-then, room-after}
-use Rattle.h261_writer.proofs.BlockTurn.{pattern-some}
+use Rattle.h261_writer.specs.Write.{bitsIf, componentBits, vectorBits, blocksOf, patternOf, macroblockOf}
+use Rattle.h261_writer.specs.Asked.{ComponentAsked, ComponentsAsked, VectorAsked, PatternAsked, BlocksAsked, MacroblockAsked}
+use Rattle.h261_writer.specs.Sound.{NearComponent, SoundMacroblock, beforeIn}
+use Rattle.h261_writer.proofs.BlockTurn.{pattern-some, pattern-low}
 
 -- ---- one component: a computed test over all pairs of numbers in -15..15
 abbrev near : ℕ → ℕ
@@ -47,14 +50,14 @@ agrees p b = eqb (sentFor (near p) (near b)) ((near b + 304 - near p) % 32)
 all-agree : T (allB 31 (λ p. allB 31 (λ b. agrees p b)))
 all-agree = tt
 
-kept : (b : ℕ) → b < 256 → Near b → ((b + 15) % 256 < 31) × (near ((b + 15) % 256) ≡ b)
+kept : (b : ℕ) → b < 256 → NearComponent b → ((b + 15) % 256 < 31) × (near ((b + 15) % 256) ≡ b)
 kept b l n =
     let t = either-right (opposite (inRange (numberOf b))) _ (ap opposite (T-true (inRange (numberOf b)) n)) (all-at 256 placed all-placed b l) in
     let x = ltb ((b + 15) % 256) 31 in
     let y = eqb (near ((b + 15) % 256)) b in
     (ltb→lt ((b + 15) % 256) 31 (both-left x y t), eqb→eq (near ((b + 15) % 256)) b (both-right x y t))
 
-pub difference : (p b : ℕ) → p < 256 → b < 256 → Near p → Near b → (b + 304 - p) % 32 ≡ natAbs ((numberOf b -ℤ numberOf p) +ℤ pos 48) % 32
+pub difference : (p b : ℕ) → p < 256 → b < 256 → NearComponent p → NearComponent b → (b + 304 - p) % 32 ≡ natAbs ((numberOf b -ℤ numberOf p) +ℤ pos 48) % 32
 difference p b l h m n =
     let i = kept p l m in
     let j = kept b h n in
@@ -63,27 +66,39 @@ difference p b l h m n =
     (subst (λ (y : ℕ). sentFor (near ((p + 15) % 256)) y ≡ (y + 304 - near ((p + 15) % 256)) % 32) (j .1)
     (eqb→eq _ _ t)))
 
+-- so the component's codeword is that of the difference
+pub difference-counts : {t : List ℕ} {p b at : ℕ} → p < 256 → b < 256 → ComponentAsked t p b at → CountablePlace at (wordOf table3 ((b + 304 - p) % 32))
+difference-counts {p = p} {b = b} {at = at} l h a = subst (λ (n : ℕ). CountablePlace at (wordOf table3 n)) (sym (difference p b l h (a .preceding-near) (a .near))) (a .counts)
+
 -- ---- what the type may leave out
-pub given-not : (bits : List Bit) {m : ℕ} {s : List ℕ} {at : ℕ} (b : Bool) → b ≡ false → Wrote m (given b bits) s at s at
-given-not bits {m} {s} {at} b e = wrote-as (wrote-none m s at) (sym (ap (λ (x : Bool). given x bits) e))
+pub left-out : (bits : List Bit) {s : List ℕ} {at : ℕ} (b : Bool) → b ≡ false → WroteBits (bitsIf b bits) s at s at
+left-out bits {s} {at} b e = wrote-as (wrote-none s at) (sym (ap (λ (x : Bool). bitsIf x bits) e))
 
-pub given-so : {bits : List Bit} {m : ℕ} {s : List ℕ} {at : ℕ} {t : List ℕ} {p : ℕ} (b : Bool) → b ≡ true → Wrote m bits s at t p → Wrote m (given b bits) s at t p
-given-so {bits} b e w = wrote-as w (sym (ap (λ (x : Bool). given x bits) e))
+module _ {bits : List Bit} {at : ℕ} (b : Bool) (e : b ≡ true) where
+  pub sent-counts : CountablePlace at (bitsIf b bits) → CountablePlace at bits
+  sent-counts n = subst (λ (x : Bool). CountablePlace at (bitsIf x bits)) e n
 
-pub pointing : (b r : Bool) (before : Before) (step : ℕ) (v p : Vector) {m : ℕ} {s : List ℕ} {at : ℕ} {t : List ℕ} {q : ℕ} → b ≡ true → preceding before step ≡ p
-    → Wrote m (vectorOf p v) s at t q → Wrote m (given b (vectorOf (preceding before step) v)) s at t q
-pointing b r before step v p e d w = given-so b e (wrote-as w (ap (λ (x : Vector). vectorOf x v) (sym d)))
+  pub sent-wrote : {s t : List ℕ} {p : ℕ} → WroteBits bits s at t p → WroteBits (bitsIf b bits) s at t p
+  sent-wrote w = wrote-as w (sym (ap (λ (x : Bool). bitsIf x bits) e))
+
+-- the vector against the preceding one
+module _ (b : Bool) (before : Before) (step : ℕ) (v p : Vector) {at : ℕ} (e : b ≡ true) (d : preceding before step ≡ p) where
+  pub pointing-counts : CountablePlace at (bitsIf b (vectorBits (preceding before step) v)) → CountablePlace at (vectorBits p v)
+  pointing-counts n = subst (λ (x : Vector). CountablePlace at (vectorBits x v)) d (sent-counts b e n)
+
+  pub pointing : {s t : List ℕ} {q : ℕ} → WroteBits (vectorBits p v) s at t q → WroteBits (bitsIf b (vectorBits (preceding before step) v)) s at t q
+  pointing w = sent-wrote b e (wrote-as w (ap (λ (x : Vector). vectorBits x v) (sym d)))
 
 -- MQUANT has five bits
-pub quantiser-fits : (type q : ℕ) → T (pick (hasMQUANT type) (isQuantiser q) (isZero q)) → q < 2 ^ 5
-quantiser-fits type q t = go (hasMQUANT type) t
+pub quantiser-fits : (type q : ℕ) → T (pick (hasMQUANT type) (isQuantiser q) (isZero q)) → FieldFits 5 q
+quantiser-fits type q t = record { some = lit≤ tt; short = lit≤ tt; small = go (hasMQUANT type) t }
   where
     go : (b : Bool) → T (pick b (isQuantiser q) (isZero q)) → q < 2 ^ 5
     go true t = let l : q ≤ 31 = leb→le q 31 (both-right (leb 1 q) (leb q 31) t) in omega arith
     go false t = let l : q ≡ 0 = eqb→eq q 0 t in omega arith
 
 -- a pattern is 1 to 63 where the type has CBP
-pub pattern-sent : (type : ℕ) (levels : List ℕ) → length levels ≡ 384 → T (validLevels type levels) → hasCBP type ≡ true → 1 ≤ patternOf (gathers 6 levels)
+pattern-sent : (type : ℕ) (levels : List ℕ) → length levels ≡ 384 → T (validLevels type levels) → hasCBP type ≡ true → 1 ≤ patternOf (gathers 6 levels)
 pattern-sent type levels h t e = go (isIntra type) (intra-not type e) t
   where
     one-or-other : (a b : Bool) → T (either a (either b false)) → T a ⊎ T b
@@ -110,6 +125,13 @@ pattern-sent type levels h t e = go (isIntra type) (intra-not type e) t
         (both-right (all isLevel levels) (opposite (all isZero levels))
         (subst (λ (x : Bool). T (pick x (both (all isLevel levels) (opposite (all isZero levels))) (all isZero levels))) e t))
 
+pub pattern-word-asked : {t : List ℕ} {type : ℕ} {levels : List ℕ} {at n : ℕ} → PatternAsked t type levels at → hasCBP type ≡ true → n ≡ patternOf (gathers 6 levels) → MeaningAsked t 63 n
+pattern-word-asked {type = type} {levels = levels} a e i =
+    record { tables = a .tables; some = omega (arith, pattern-sent type levels (a .long) (a .levelled) e); known = omega (arith, pattern-low levels) }
+
+pub pattern-counts : {t : List ℕ} {type : ℕ} {levels : List ℕ} {at n : ℕ} → PatternAsked t type levels at → hasCBP type ≡ true → n ≡ patternOf (gathers 6 levels) → CountablePlace at (wordOf table4 n)
+pattern-counts {type = type} {at = at} a e i = subst (λ (k : ℕ). CountablePlace at (wordOf table4 k)) (sym i) (sent-counts (hasCBP type) e (a .counts))
+
 -- those of INTRA begin with codes
 pub all-codes : (type : ℕ) (levels : List ℕ) (intra : Bool) → intra ≡ isIntra type → T (validLevels type levels) → T (either (opposite intra) (codesFirst 6 levels))
 all-codes type levels intra e t = subst (λ (x : Bool). T (either (opposite x) (codesFirst 6 levels))) (sym e) (go (isIntra type) t)
@@ -118,26 +140,125 @@ all-codes type levels intra e t = subst (λ (x : Bool). T (either (opposite x) (
     go true t = both-right (all isLevel levels) (codesFirst 6 levels) t
     go false t = tt
 
+-- ---- a vector: its two components, against the preceding vector or none
+module _ {t : List ℕ} {horizontal vertical across down at : ℕ} (a : ComponentsAsked t horizontal vertical across down at) where
+  abbrev across-bits : List Bit
+  across-bits = componentBits (numberOf horizontal) (numberOf across)
+
+  abbrev down-bits : List Bit
+  down-bits = componentBits (numberOf vertical) (numberOf down)
+
+  pub across-asked : ComponentAsked t horizontal across at
+  across-asked = record { tables = a .tables; preceding-near = a .horizontal-near; near = a .across-near; counts = first-countable across-bits down-bits (a .counts) }
+
+  pub down-asked : {s u : List ℕ} {p : ℕ} → WroteBits across-bits s at u p → ComponentAsked t vertical down p
+  down-asked w = record { tables = a .tables; preceding-near = a .vertical-near; near = a .down-near; counts = then-countable w down-bits (a .counts) }
+
+module _ {t : List ℕ} {kind last step horizontal vertical across down at : ℕ} (a : VectorAsked t kind last step horizontal vertical across down at) (e : isMC kind ≡ true) where
+  abbrev restarting : Bool
+  restarting = restarts last step
+
+  -- the components that precede
+  pub zero-asked : restarting ≡ true → ComponentsAsked t 0 0 across down at
+  zero-asked r = record {
+    tables = a .tables;
+    horizontal-near = tt;
+    vertical-near = tt;
+    across-near = a .across-near;
+    down-near = a .down-near;
+    counts = pointing-counts (isMC kind) (beforeIn last horizontal vertical) step (byteVector across down) zeroVector e (ap (λ (b : Bool). pick b zeroVector (byteVector horizontal vertical)) r) (a .counts);
+  }
+
+  pub own-asked : restarting ≡ false → ComponentsAsked t horizontal vertical across down at
+  own-asked r = record {
+    tables = a .tables;
+    horizontal-near = a .horizontal-near;
+    vertical-near = a .vertical-near;
+    across-near = a .across-near;
+    down-near = a .down-near;
+    counts = pointing-counts (isMC kind) (beforeIn last horizontal vertical) step (byteVector across down) (byteVector horizontal vertical) e (ap (λ (b : Bool). pick b zeroVector (byteVector horizontal vertical)) r) (a .counts);
+  }
+
+  pub zero-wrote : {s u : List ℕ} {q : ℕ} → restarting ≡ true → WroteBits (vectorBits zeroVector (byteVector across down)) s at u q
+      → WroteBits (bitsIf (isMC kind) (vectorBits (preceding (beforeIn last horizontal vertical) step) (byteVector across down))) s at u q
+  zero-wrote r w =
+      pointing (isMC kind) (beforeIn last horizontal vertical) step (byteVector across down) zeroVector e (ap (λ (b : Bool). pick b zeroVector (byteVector horizontal vertical)) r) w
+
+  pub own-wrote : {s u : List ℕ} {q : ℕ} → restarting ≡ false → WroteBits (vectorBits (byteVector horizontal vertical) (byteVector across down)) s at u q
+      → WroteBits (bitsIf (isMC kind) (vectorBits (preceding (beforeIn last horizontal vertical) step) (byteVector across down))) s at u q
+  own-wrote r w =
+      pointing (isMC kind) (beforeIn last horizontal vertical) step (byteVector across down) (byteVector horizontal vertical) e (ap (λ (b : Bool). pick b zeroVector (byteVector horizontal vertical)) r) w
+
 -- ---- the whole macroblock
-pub macroblock-whole : (last horizontal vertical address : ℕ) (fields levels : List ℕ) {intra : Bool} {s : List ℕ} {at : ℕ} {t₁ t₂ t₃ t₄ t₅ t₆ : List ℕ} {p₁ p₂ p₃ p₄ p₅ p₆ : ℕ} → Room s at 9648
-    → Wrote 24 (wordOf table1 (address - last)) s at t₁ p₁ → Wrote 24 (wordOf table2 (getD fields 0 0)) t₁ p₁ t₂ p₂
-    → Wrote 24 (given (hasMQUANT (getD fields 0 0)) (bitsOf 5 (getD fields 1 0))) t₂ p₂ t₃ p₃
-    → Wrote 48 (given (isMC (getD fields 0 0)) (vectorOf (preceding (behind last horizontal vertical) (address - last)) (vectorIn fields))) t₃ p₃ t₄ p₄
-    → Wrote 24 (given (hasCBP (getD fields 0 0)) (wordOf table4 (patternOf (gathers 6 levels)))) t₄ p₄ t₅ p₅
-    → intra ≡ isIntra (getD fields 0 0) → Wrote 9504 (blocksOf intra (gathers 6 levels)) t₅ p₅ t₆ p₆
-    → Wrote 9648 (macroblockOf (behind last horizontal vertical) (macroblockIn address fields levels)) s at t₆ p₆
-unfolding macroblockOf
-macroblock-whole last horizontal vertical address fields levels room a b c d e i f =
-    let ra = room-after a room (lit≤ tt) 9624 (lit≤ tt) in
-    let rb = room-after b ra (lit≤ tt) 9600 (lit≤ tt) in
-    let rc = room-after c rb (lit≤ tt) 9576 (lit≤ tt) in
-    let rd = room-after d rc (lit≤ tt) 9528 (lit≤ tt) in
-    wrote-then a room (lit≤ tt) (wrote-then b ra (lit≤ tt) (wrote-then c rb (lit≤ tt) (wrote-then d rc (lit≤ tt) (wrote-then e rd (lit≤ tt)
-    (wrote-as f (ap (λ (x : Bool). blocksOf x (gathers 6 levels)) i))))))
+module _ {t fields levels : List ℕ} {last address horizontal vertical at : ℕ} (a : MacroblockAsked t fields levels last address horizontal vertical at) where
+  abbrev type : ℕ
+  type = getD fields 0 0
+
+  abbrev before : Before
+  before = beforeIn last horizontal vertical
+
+  abbrev address-bits : List Bit
+  address-bits = wordOf table1 (address - last)
+
+  abbrev type-bits : List Bit
+  type-bits = wordOf table2 type
+
+  abbrev quantiser-bits : List Bit
+  quantiser-bits = bitsIf (hasMQUANT type) (bitsOf 5 (getD fields 1 0))
+
+  abbrev pointing-bits : List Bit
+  pointing-bits = bitsIf (isMC type) (vectorBits (preceding before (address - last)) (vectorIn fields))
+
+  abbrev pattern-bits : List Bit
+  pattern-bits = bitsIf (hasCBP type) (wordOf table4 (patternOf (gathers 6 levels)))
+
+  abbrev blocks-bits : List Bit
+  blocks-bits = blocksOf (isIntra type) (gathers 6 levels)
+
+  pub macroblock-parts : CountableParts at (address-bits ∷ type-bits ∷ quantiser-bits ∷ pointing-bits ∷ pattern-bits ∷ blocks-bits ∷ [])
+  unfolding macroblockOf
+  macroblock-parts = record { counts = a .counts }
+
+  pub address-asked : MeaningAsked t 35 (address - last)
+  address-asked = record { tables = a .tables; some = omega (arith, a .after); known = omega (arith, a .inside) }
+
+  pub type-asked : MeaningAsked t 10 type
+  type-asked = record { tables = a .tables; some = a .sound .some; known = a .sound .known }
+
+  pub vector-asked : {p : ℕ} → CountablePlace p pointing-bits → VectorAsked t type last (address - last) horizontal vertical (getD fields 2 0) (getD fields 3 0) p
+  vector-asked n = record {
+    tables = a .tables;
+    inside = omega (arith, a .after, a .inside);
+    horizontal-near = a .across-near;
+    vertical-near = a .down-near;
+    across-near = a .sound .across;
+    down-near = a .sound .down;
+    counts = n;
+  }
+
+  pub pattern-asked : {p : ℕ} → CountablePlace p pattern-bits → PatternAsked t type levels p
+  pattern-asked n = record { tables = a .tables; long = a .levels-long; levelled = a .sound .levelled; counts = n }
+
+  module _ {intra : Bool} (i : intra ≡ isIntra type) where
+    pub blocks-asked : {p : ℕ} → CountablePlace p blocks-bits → BlocksAsked t levels intra p
+    blocks-asked {p} n = record {
+      tables = a .tables;
+      long = a .levels-long;
+      allowed = all-levels type levels (a .sound .levelled);
+      coded = all-codes type levels intra i (a .sound .levelled);
+      counts = subst (λ (b : Bool). CountablePlace p (blocksOf b (gathers 6 levels))) (sym i) n;
+    }
+
+    pub macroblock-whole : {s : List ℕ} {t₁ t₂ t₃ t₄ t₅ t₆ : List ℕ} {p₁ p₂ p₃ p₄ p₅ p₆ : ℕ} → WroteBits address-bits s at t₁ p₁ → WroteBits type-bits t₁ p₁ t₂ p₂
+        → WroteBits quantiser-bits t₂ p₂ t₃ p₃ → WroteBits pointing-bits t₃ p₃ t₄ p₄ → WroteBits pattern-bits t₄ p₄ t₅ p₅
+        → WroteBits (blocksOf intra (gathers 6 levels)) t₅ p₅ t₆ p₆ → WroteBits (macroblockOf before (macroblockIn address fields levels)) s at t₆ p₆
+    unfolding macroblockOf
+    macroblock-whole a b c d e f =
+        wrote-then a (wrote-then b (wrote-then c (wrote-then d (wrote-then e (wrote-as f (ap (λ (x : Bool). blocksOf x (gathers 6 levels)) i))))))
 
 -- ---- a valid macroblock that is sent can be written
 in-range : (f : Format) (number address : ℕ) (fields : List ℕ) (mc : Bool)
-    → T (pick mc (validVector f number address fields) (both (isZero (getD fields 2 0)) (isZero (getD fields 3 0)))) → Near (getD fields 2 0) × Near (getD fields 3 0)
+    → T (pick mc (validVector f number address fields) (both (isZero (getD fields 2 0)) (isZero (getD fields 3 0)))) → NearComponent (getD fields 2 0) × NearComponent (getD fields 3 0)
 in-range f number address fields true t =
     let bytes = both (leb (getD fields 2 0) 255) (leb (getD fields 3 0) 255) in
     let x = inRange (numberOf (getD fields 2 0)) in
@@ -148,9 +269,9 @@ in-range f number address fields true t =
 in-range f number address fields false t =
     let a : getD fields 2 0 ≡ 0 = eqb→eq (getD fields 2 0) 0 (both-left (isZero (getD fields 2 0)) (isZero (getD fields 3 0)) t) in
     let b : getD fields 3 0 ≡ 0 = eqb→eq (getD fields 3 0) 0 (both-right (isZero (getD fields 2 0)) (isZero (getD fields 3 0)) t) in
-    (subst Near (sym a) tt, subst Near (sym b) tt)
+    (subst NearComponent (sym a) tt, subst NearComponent (sym b) tt)
 
-pub sound : (f : Format) (number address : ℕ) (fields levels : List ℕ) → 1 ≤ getD fields 0 0 → T (validMacroblock f number address fields levels) → Sound fields levels
+pub sound : (f : Format) (number address : ℕ) (fields levels : List ℕ) → 1 ≤ getD fields 0 0 → T (validMacroblock f number address fields levels) → SoundMacroblock fields levels
 unfolding validMacroblock
 sound f number address fields levels some t =
     let type = getD fields 0 0 in

@@ -15,30 +15,30 @@ use Rattle.h261_description.specs.Valid.{validLevels}
 use Rattle.h261_writer.specs.Write.{blockOf, coefficientsOf}
 
 -- what is left of a block: the first coefficient of one that isn't INTRA is yet to come, or EOB ends it
-abbrev pub codedOf : Bool → Block → List Bit
-codedOf true b = blockOf false b
-codedOf false b = coefficientsOf b
+abbrev pub codedBits : Bool → Block → List Bit
+codedBits true b = blockOf false b
+codedBits false b = coefficientsOf b
 
 -- what the last macroblock left behind, its vector in two bytes
-abbrev pub behind : ℕ → ℕ → ℕ → Before
-behind address horizontal vertical = record { address = address; vector = byteVector horizontal vertical }
+abbrev pub beforeIn : ℕ → ℕ → ℕ → Before
+beforeIn address horizontal vertical = record { address = address; vector = byteVector horizontal vertical }
 
 -- a component in -15..15
-abbrev pub Near : ℕ → Type 0
-Near byte = T (inRange (numberOf byte))
+abbrev pub NearComponent : ℕ → Type 0
+NearComponent byte = T (inRange (numberOf byte))
 
 -- a macroblock that can be sent
-pub record Sound (fields levels : List ℕ) : Type 0 where
+pub record SoundMacroblock (fields levels : List ℕ) : Type 0 where
   pub some : 1 ≤ getD fields 0 0
   pub known : getD fields 0 0 ≤ 10
   pub quantised : T (pick (hasMQUANT (getD fields 0 0)) (isQuantiser (getD fields 1 0)) (isZero (getD fields 1 0)))
-  pub across : Near (getD fields 2 0)
-  pub down : Near (getD fields 3 0)
+  pub across : NearComponent (getD fields 2 0)
+  pub down : NearComponent (getD fields 3 0)
   pub levelled : T (validLevels (getD fields 0 0) levels)
 
 -- a group each of whose macroblocks is unsent or can be sent
 pub record SoundGroup (fields levels : List ℕ) : Type 0 where
-  pub each : (k : ℕ) → k < 33 → 1 ≤ getD fields (k * 4) 0 → Sound (take 4 (drop (k * 4) fields)) (take 384 (drop (k * 384) levels))
+  pub each : (k : ℕ) → k < 33 → 1 ≤ getD fields (k * 4) 0 → SoundMacroblock (take 4 (drop (k * 4) fields)) (take 384 (drop (k * 384) levels))
 
 -- the group that the slices begin with
 abbrev pub groupIn : ℕ → List ℕ → List ℕ → Group

@@ -13,13 +13,13 @@ use Rattle.h261_words.specs.Words.{isIntra, isMC, hasMQUANT, hasCBP, tcoeffOf}
 use Rattle.h261_groups.specs.Format.{formatBit, groupNumbers}
 use Rattle.layout.specs.Value.{Vector, Block, Macroblock, Group}
 use Rattle.h261_description.specs.Vector.{Before, atStart, preceding}
-use Rattle.h261_description.specs.Value.{Picture, after}
+use Rattle.h261_description.specs.Value.{Picture, beforeNext}
 use Rattle.h261_groups.specs.declared.Format.{Format}
 
 -- what the type may leave out
-abbrev pub given : Bool → List Bit → List Bit
-given true bits = bits
-given false bits = []
+abbrev pub bitsIf : Bool → List Bit → List Bit
+bitsIf true bits = bits
+bitsIf false bits = []
 
 -- ---- blocks
 unfoldable pub coefficientsOf : Block → List Bit
@@ -36,20 +36,20 @@ blocksOf intra [] = []
 blocksOf intra (b ∷ bs) = blockOf intra b ++ blocksOf intra bs
 
 -- "CBP is taken from the levels": 32 P1 + 16 P2 + 8 P3 + 4 P4 + 2 P5 + P6, Pn 1 "if any coefficient is present for block n, else 0" (H.261)
-abbrev pub present : Block → ℕ
-present [] = 0
-present (c ∷ cs) = 1
+abbrev pub presenceOf : Block → ℕ
+presenceOf [] = 0
+presenceOf (c ∷ cs) = 1
 
 unfoldable pub patternOf : List Block → ℕ
 patternOf [] = 0
-patternOf (b ∷ bs) = present b * 2 ^ length bs + patternOf bs
+patternOf (b ∷ bs) = presenceOf b * 2 ^ length bs + patternOf bs
 
 -- ---- vectors: Table 3 holds the difference modulo 32, from -16 on
-abbrev pub componentOf : ℤ → ℤ → List Bit
-componentOf preceding z = wordOf table3 (natAbs ((z -ℤ preceding) +ℤ pos 48) % 32)
+abbrev pub componentBits : ℤ → ℤ → List Bit
+componentBits preceding z = wordOf table3 (natAbs ((z -ℤ preceding) +ℤ pos 48) % 32)
 
-abbrev pub vectorOf : Vector → Vector → List Bit
-vectorOf preceding v = componentOf (preceding .horizontal) (v .horizontal) ++ componentOf (preceding .vertical) (v .vertical)
+abbrev pub vectorBits : Vector → Vector → List Bit
+vectorBits preceding v = componentBits (preceding .horizontal) (v .horizontal) ++ componentBits (preceding .vertical) (v .vertical)
 
 -- ---- macroblocks
 unfoldable pub macroblockOf : Before → Macroblock → List Bit
@@ -57,14 +57,14 @@ macroblockOf before m =
     let step = m .address - before .address in
     wordOf table1 step
     ++ (wordOf table2 (m .type)
-    ++ (given (hasMQUANT (m .type)) (bitsOf 5 (m .quant))
-    ++ (given (isMC (m .type)) (vectorOf (preceding before step) (m .vector))
-    ++ (given (hasCBP (m .type)) (wordOf table4 (patternOf (m .blocks)))
+    ++ (bitsIf (hasMQUANT (m .type)) (bitsOf 5 (m .quant))
+    ++ (bitsIf (isMC (m .type)) (vectorBits (preceding before step) (m .vector))
+    ++ (bitsIf (hasCBP (m .type)) (wordOf table4 (patternOf (m .blocks)))
     ++ blocksOf (isIntra (m .type)) (m .blocks)))))
 
 unfoldable pub macroblocksOf : Before → List Macroblock → List Bit
 macroblocksOf before [] = []
-macroblocksOf before (m ∷ ms) = macroblockOf before m ++ macroblocksOf (after m) ms
+macroblocksOf before (m ∷ ms) = macroblockOf before m ++ macroblocksOf (beforeNext m) ms
 
 -- ---- groups: GBSC, GN, GQUANT, GEI 0
 unfoldable pub groupOf : ℕ → Group → List Bit

@@ -1,23 +1,12 @@
 // The blocks of a macroblock: their coefficients as runs and levels, to EOB.
 use h261_words::WordTables;
 ghost use mathlib.Core.Path.{_≡_};
-ghost use Prim.Native.Nat.{_+_, _*_, _<_};
 ghost use lib.ListN.{length, drop};
-ghost use Rattle.bits.specs.Bits.{bitsOf};
+ghost use Rattle.bits.specs.Appended.{WroteBits};
 ghost use Rattle.layout.specs.Flat.{gather, gathers};
-ghost use Rattle.h261_writer.specs.Write.{blockOf, blocksOf, present as presentOf, patternOf};
-ghost use Rattle.h261_writer.specs.Sound.{codedOf};
-ghost use Rattle.h261_writer.specs.Asked.{FieldAsked, CoefficientsAsked, BlockAsked, BlocksAsked};
-ghost use Rattle.h261_writer.specs.Put.{Wrote};
-
-// A field of `width` bits; the place after it.
-pub fn field(out: &mut [u8], at: usize, width: usize, value: u32) -> usize
-    requires { ⌜ FieldAsked width value (now out) at ⌝ }
-    ensures { λ r. ⌜ Wrote 24 (bitsOf width value) (now (out .entry)) at (now (out .exit)) r ⌝ }
-{
-    bits::put(out, at, width, value);
-    at + width
-}
+ghost use Rattle.h261_writer.specs.Write.{blockOf, blocksOf, presenceOf, patternOf};
+ghost use Rattle.h261_writer.specs.Sound.{codedBits};
+ghost use Rattle.h261_writer.specs.Asked.{CoefficientsAsked, BlockAsked, BlocksAsked};
 
 // The coefficients of a block from one of its levels on; `opening` where the first is yet to come in a block that isn't INTRA, which isn't sent if it has none.
 fn coefficients(
@@ -28,8 +17,8 @@ fn coefficients(
     out: &mut [u8],
     at: usize,
 ) -> usize
-    requires { ⌜ CoefficientsAsked (now tables) (now levels) from (now out) at ⌝ }
-    ensures { λ r. ⌜ Wrote 1560 (codedOf opening (gather 0 (drop from (now (levels .entry))))) (now (out .entry)) at (now (out .exit)) r ⌝ }
+    requires { ⌜ CoefficientsAsked (now tables) (now levels) from opening at ⌝ }
+    ensures { λ r. ⌜ WroteBits (codedBits opening (gather 0 (drop from (now (levels .entry))))) (now (out .entry)) at (now (out .exit)) r ⌝ }
 {
     let mut first = opening;
     let mut run: usize = 0;
@@ -43,23 +32,23 @@ fn coefficients(
             continue;
         }
         let word = h261_words::coefficient_codeword(tables, run, code, first);
-        place = h261_words::put(out, place, word);
+        place = h261_words::append(out, place, word);
         first = false;
         run = 0;
     }
     if first {
         return place;
     }
-    h261_words::put(out, place, h261_words::end_codeword())
+    h261_words::append(out, place, h261_words::end_codeword())
 }
 
 // One block of 64 levels.
 fn block(tables: &WordTables, levels: &[u8], intra: bool, out: &mut [u8], at: usize) -> usize
-    requires { ⌜ BlockAsked (now tables) (now levels) intra (now out) at ⌝ }
-    ensures { λ r. ⌜ Wrote 1584 (blockOf intra (gather 0 (now (levels .entry)))) (now (out .entry)) at (now (out .exit)) r ⌝ }
+    requires { ⌜ BlockAsked (now tables) (now levels) intra at ⌝ }
+    ensures { λ r. ⌜ WroteBits (blockOf intra (gather 0 (now (levels .entry)))) (now (out .entry)) at (now (out .exit)) r ⌝ }
 {
     if intra {
-        let after = field(out, at, 8, levels[0] as u32);
+        let after = bits::append(out, at, 8, levels[0] as u32);
         return coefficients(tables, levels, 1, false, out, after);
     }
     coefficients(tables, levels, 0, true, out, at)
@@ -67,8 +56,8 @@ fn block(tables: &WordTables, levels: &[u8], intra: bool, out: &mut [u8], at: us
 
 // The six blocks of a macroblock.
 pub fn blocks(tables: &WordTables, levels: &[u8], intra: bool, out: &mut [u8], at: usize) -> usize
-    requires { ⌜ BlocksAsked (now tables) (now levels) intra (now out) at ⌝ }
-    ensures { λ r. ⌜ Wrote 9504 (blocksOf intra (gathers 6 (now (levels .entry)))) (now (out .entry)) at (now (out .exit)) r ⌝ }
+    requires { ⌜ BlocksAsked (now tables) (now levels) intra at ⌝ }
+    ensures { λ r. ⌜ WroteBits (blocksOf intra (gathers 6 (now (levels .entry)))) (now (out .entry)) at (now (out .exit)) r ⌝ }
 {
     let mut place = at;
     let mut b: usize = 0;
@@ -82,7 +71,7 @@ pub fn blocks(tables: &WordTables, levels: &[u8], intra: bool, out: &mut [u8], a
 
 // Whether a block has a coefficient, as a number.
 fn present(levels: &[u8]) -> usize
-    ensures { λ r. ⌜ r ≡ presentOf (gather 0 (now (levels .entry))) ⌝ }
+    ensures { λ r. ⌜ r ≡ presenceOf (gather 0 (now (levels .entry))) ⌝ }
 {
     if h261_validity::levels::all_zero(levels) {
         return 0;

@@ -1,14 +1,12 @@
 // The group layer.
-use crate::block;
 use crate::macroblock;
 use h261_words::WordTables;
-ghost use Prim.Native.Nat.{_+_, _<_};
+ghost use Rattle.bits.specs.Appended.{WroteBits};
 ghost use Rattle.h261_description.specs.Vector.{atStart};
 ghost use Rattle.layout.specs.Flat.{macroblocksIn};
 ghost use Rattle.h261_writer.specs.Write.{macroblocksOf, groupOf};
 ghost use Rattle.h261_writer.specs.Sound.{groupIn};
 ghost use Rattle.h261_writer.specs.Asked.{MacroblocksAsked, GroupAsked};
-ghost use Rattle.h261_writer.specs.Put.{Wrote};
 
 // The macroblocks of a group that are sent; the slices begin with its 33.
 fn macroblocks(
@@ -18,8 +16,8 @@ fn macroblocks(
     out: &mut [u8],
     at: usize,
 ) -> usize
-    requires { ⌜ MacroblocksAsked (now tables) (now fields) (now levels) (now out) at ⌝ }
-    ensures { λ r. ⌜ Wrote 318384 (macroblocksOf atStart (macroblocksIn 33 1 (now (fields .entry)) (now (levels .entry)))) (now (out .entry)) at (now (out .exit)) r ⌝ }
+    requires { ⌜ MacroblocksAsked (now tables) (now fields) (now levels) at ⌝ }
+    ensures { λ r. ⌜ WroteBits (macroblocksOf atStart (macroblocksIn 33 1 (now (fields .entry)) (now (levels .entry)))) (now (out .entry)) at (now (out .exit)) r ⌝ }
 {
     let mut last: usize = 0;
     let mut horizontal: u8 = 0;
@@ -61,12 +59,12 @@ pub fn group(
     out: &mut [u8],
     at: usize,
 ) -> usize
-    requires { ⌜ GroupAsked (now tables) number gquant (now fields) (now levels) (now out) at ⌝ }
-    ensures { λ r. ⌜ Wrote 318480 (groupOf number (groupIn gquant (now (fields .entry)) (now (levels .entry)))) (now (out .entry)) at (now (out .exit)) r ⌝ }
+    requires { ⌜ GroupAsked (now tables) number gquant (now fields) (now levels) at ⌝ }
+    ensures { λ r. ⌜ WroteBits (groupOf number (groupIn gquant (now (fields .entry)) (now (levels .entry)))) (now (out .entry)) at (now (out .exit)) r ⌝ }
 {
-    let started = block::field(out, at, 16, 1);
-    let numbered = block::field(out, started, 4, number as u32);
-    let quantised = block::field(out, numbered, 5, gquant as u32);
-    let ready = block::field(out, quantised, 1, 0);
+    let started = bits::append(out, at, 16, 1);
+    let numbered = bits::append(out, started, 4, number as u32);
+    let quantised = bits::append(out, numbered, 5, gquant as u32);
+    let ready = bits::append(out, quantised, 1, 0);
     macroblocks(tables, fields, levels, out, ready)
 }

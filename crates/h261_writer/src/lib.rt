@@ -3,10 +3,8 @@ use h261_groups::Format;
 use refusals::Reason;
 use refusals::Refusal;
 ghost use mathlib.Core.Path.{_≡_};
-ghost use Prim.Native.Nat.{_+_, _≤_, _<_};
-ghost use mathlib.Core.List.{_++_};
 ghost use lib.Dec.{T};
-ghost use lib.ListN.{length, take, drop};
+ghost use lib.ListN.{length};
 ghost use Rattle.laws.specs.Choice.{either};
 ghost use Rattle.refusals.specs.Number.{refusal};
 ghost use Rattle.h261_description.specs.Valid.{lengthsOf, valid as isValid};
@@ -14,7 +12,7 @@ ghost use Rattle.layout.specs.Flat.{flat};
 ghost use Rattle.size.specs.Size.{outputLength};
 ghost use Rattle.h261_groups.specs.Format.{sizeOf};
 ghost use Rattle.h261_groups.specs.declared.Format.the-variants.{Qcif, Cif};
-ghost use Rattle.h261_writer.specs.Output.{written, filledWithin, WriteSays, WriteLeaves};
+ghost use Rattle.h261_writer.specs.Output.{pictureBits, filledWithin, WriteSays, WriteLeaves};
 
 mod block;
 mod group;
@@ -38,18 +36,6 @@ pub fn one_format(head: &[u8], macroblocks: &[u8], levels: &[u8]) -> bool
     h261_validity::lengths(head, macroblocks, levels, Format::Cif)
 }
 
-// The first `count` bytes of `from`.
-fn copy(from: &[u8], count: usize, out: &mut [u8])
-    requires { ⌜ (count ≤ length (now from)) × (count ≤ length (now out)) ⌝ }
-    ensures { λ _. ⌜ now (out .exit) ≡ take count (now (from .entry)) ++ drop count (now (out .entry)) ⌝ }
-{
-    let mut i: usize = 0;
-    while i < count {
-        out[i] = from[i];
-        i += 1;
-    }
-}
-
 fn refused(reason: Reason) -> Written
     ensures { λ r. ⌜ r ≡ Written.Refused (refusal reason 0) ⌝ }
 {
@@ -57,7 +43,7 @@ fn refused(reason: Reason) -> Written
 }
 
 // The bits of a valid description's picture, and how many they are: the last started byte is filled with zeros, and nothing after it is touched. They are made in a scratch
-// array that has room for the longest picture there is, so that a picture above the limit touches nothing.
+// array that has room for the larger format's limit, and counted on where it ends, so that a picture above the limit touches nothing.
 pub fn write_valid(
     head: &[u8],
     macroblocks: &[u8],
@@ -66,17 +52,18 @@ pub fn write_valid(
     out: &mut [u8],
 ) -> usize
     requires { ⌜ (T (isValid format (flat (now head) (now macroblocks) (now levels)))) × (length (now out) ≡ outputLength (sizeOf format)) ⌝ }
-    ensures count { λ r. ⌜ r ≡ length (written format (flat (now (head .entry)) (now (macroblocks .entry)) (now (levels .entry)))) ⌝ }
+    ensures count { λ r. ⌜ r ≡ length (pictureBits format (flat (now (head .entry)) (now (macroblocks .entry)) (now (levels .entry)))) ⌝ }
     ensures bytes { λ _. ⌜ now (out .exit) ≡ filledWithin format (flat (now (head .entry)) (now (macroblocks .entry)) (now (levels .entry))) (now (out .entry)) ⌝ }
 {
     let tables = h261_words::tables();
-    let mut scratch = [0u8; 480000];
+    let mut scratch = [0u8; 32768];
     let count = picture::picture(&tables, head, macroblocks, levels, format, &mut scratch);
     let most = h261_groups::limit(format);
     if most < count {
         return count;
     }
-    copy(&scratch, (count + 7) / 8, out);
+    let started = (count + 7) / 8;
+    bytes::copy(&scratch[..started], out);
     count
 }
 

@@ -6,34 +6,34 @@ ghost use lib.Dec.{T};
 ghost use Rattle.laws.specs.Choice.{pick};
 ghost use Rattle.bits.specs.Bits.{bitsOf};
 ghost use Rattle.bits.specs.Code.{wordOf};
+ghost use Rattle.bits.specs.Appended.{WroteBits, CountablePlace};
 ghost use Rattle.h261_words.specs.Tables.{table4};
 ghost use Rattle.h261_words.specs.Words.{hasMQUANT, hasCBP};
 ghost use Rattle.layout.specs.Flat.{gathers, macroblockIn};
 ghost use Rattle.layout.specs.Numbers.{isQuantiser, isZero};
-ghost use Rattle.h261_writer.specs.Write.{given, patternOf, macroblockOf};
-ghost use Rattle.h261_writer.specs.Sound.{behind};
+ghost use Rattle.h261_writer.specs.Write.{bitsIf, patternOf, macroblockOf};
+ghost use Rattle.h261_writer.specs.Sound.{beforeIn};
 ghost use Rattle.h261_writer.specs.Asked.{PatternAsked, MacroblockAsked};
-ghost use Rattle.h261_writer.specs.Put.{Wrote, Room};
 
 // MQUANT, where the type has it.
 fn quantiser(kind: u8, mquant: u8, out: &mut [u8], at: usize) -> usize
-    requires { ⌜ (T (pick (hasMQUANT kind) (isQuantiser mquant) (isZero mquant))) × (Room (now out) at 24) ⌝ }
-    ensures { λ r. ⌜ Wrote 24 (given (hasMQUANT kind) (bitsOf 5 mquant)) (now (out .entry)) at (now (out .exit)) r ⌝ }
+    requires { ⌜ (T (pick (hasMQUANT kind) (isQuantiser mquant) (isZero mquant))) × (CountablePlace at (bitsIf (hasMQUANT kind) (bitsOf 5 mquant))) ⌝ }
+    ensures { λ r. ⌜ WroteBits (bitsIf (hasMQUANT kind) (bitsOf 5 mquant)) (now (out .entry)) at (now (out .exit)) r ⌝ }
 {
     if h261_words::kind::has_mquant(kind as u16) {
-        return block::field(out, at, 5, mquant as u32);
+        return bits::append(out, at, 5, mquant as u32);
     }
     at
 }
 
 // CBP, where the type has it.
 fn pattern(tables: &WordTables, kind: u8, levels: &[u8], out: &mut [u8], at: usize) -> usize
-    requires { ⌜ PatternAsked (now tables) kind (now levels) (now out) at ⌝ }
-    ensures { λ r. ⌜ Wrote 24 (given (hasCBP kind) (wordOf table4 (patternOf (gathers 6 (now (levels .entry)))))) (now (out .entry)) at (now (out .exit)) r ⌝ }
+    requires { ⌜ PatternAsked (now tables) kind (now levels) at ⌝ }
+    ensures { λ r. ⌜ WroteBits (bitsIf (hasCBP kind) (wordOf table4 (patternOf (gathers 6 (now (levels .entry)))))) (now (out .entry)) at (now (out .exit)) r ⌝ }
 {
     if h261_words::kind::has_cbp(kind as u16) {
         let word = h261_words::cbp_codeword(tables, block::pattern(levels));
-        return h261_words::put(out, at, word);
+        return h261_words::append(out, at, word);
     }
     at
 }
@@ -50,13 +50,13 @@ pub fn macroblock(
     out: &mut [u8],
     at: usize,
 ) -> usize
-    requires { ⌜ MacroblockAsked (now tables) (now fields) (now levels) last address horizontal vertical (now out) at ⌝ }
-    ensures { λ r. ⌜ Wrote 9648 (macroblockOf (behind last horizontal vertical) (macroblockIn address (now (fields .entry)) (now (levels .entry)))) (now (out .entry)) at (now (out .exit)) r ⌝ }
+    requires { ⌜ MacroblockAsked (now tables) (now fields) (now levels) last address horizontal vertical at ⌝ }
+    ensures { λ r. ⌜ WroteBits (macroblockOf (beforeIn last horizontal vertical) (macroblockIn address (now (fields .entry)) (now (levels .entry)))) (now (out .entry)) at (now (out .exit)) r ⌝ }
 {
     let kind = fields[0];
     let step = address - last;
-    let addressed = h261_words::put(out, at, h261_words::mba_codeword(tables, step));
-    let typed = h261_words::put(
+    let addressed = h261_words::append(out, at, h261_words::mba_codeword(tables, step));
+    let typed = h261_words::append(
         out,
         addressed,
         h261_words::mtype_codeword(tables, kind as usize),

@@ -1,16 +1,17 @@
 // The picture layer.
-use crate::block;
 use crate::group;
 use h261_groups::Format;
 use h261_words::WordTables;
-ghost use Prim.Native.Nat.{_+_, _<_};
+ghost use lib.Dec.{T};
 ghost use lib.ListN.{drop};
+ghost use Rattle.bits.specs.Appended.{WroteBits};
 ghost use Rattle.h261_groups.specs.Format.{groupNumbers};
+ghost use Rattle.h261_words.specs.Lookup.{Tables};
 ghost use Rattle.layout.specs.Flat.{groupsIn, flat};
+ghost use Rattle.h261_description.specs.Valid.{valid as isValid};
 ghost use Rattle.h261_writer.specs.Write.{groupsOf};
-ghost use Rattle.h261_writer.specs.Output.{written};
-ghost use Rattle.h261_writer.specs.Asked.{PictureAsked};
-ghost use Rattle.h261_writer.specs.Put.{Wrote};
+ghost use Rattle.h261_writer.specs.Output.{pictureBits};
+ghost use Rattle.h261_writer.specs.Asked.{GroupsAsked};
 
 fn groups(
     tables: &WordTables,
@@ -21,8 +22,8 @@ fn groups(
     out: &mut [u8],
     at: usize,
 ) -> usize
-    requires { ⌜ PictureAsked (now tables) format (flat (now head) (now macroblocks) (now levels)) (now out) at 3821760 ⌝ }
-    ensures { λ r. ⌜ Wrote 3821760 (groupsOf (groupNumbers format) (groupsIn 33 (drop 3 (now (head .entry))) (now (macroblocks .entry)) (now (levels .entry)))) (now (out .entry)) at (now (out .exit)) r ⌝ }
+    requires { ⌜ GroupsAsked (now tables) format (now head) (now macroblocks) (now levels) at ⌝ }
+    ensures { λ r. ⌜ WroteBits (groupsOf (groupNumbers format) (groupsIn 33 (drop 3 (now (head .entry))) (now (macroblocks .entry)) (now (levels .entry)))) (now (out .entry)) at (now (out .exit)) r ⌝ }
 {
     let count = h261_groups::order::group_count(format);
     let mut place = at;
@@ -55,13 +56,13 @@ pub fn picture(
     format: Format,
     out: &mut [u8],
 ) -> usize
-    requires { ⌜ PictureAsked (now tables) format (flat (now head) (now macroblocks) (now levels)) (now out) 0 3821856 ⌝ }
-    ensures { λ r. ⌜ Wrote 3821856 (written format (flat (now (head .entry)) (now (macroblocks .entry)) (now (levels .entry)))) (now (out .entry)) 0 (now (out .exit)) r ⌝ }
+    requires { ⌜ (Tables (now tables)) × (T (isValid format (flat (now head) (now macroblocks) (now levels)))) ⌝ }
+    ensures { λ r. ⌜ WroteBits (pictureBits format (flat (now (head .entry)) (now (macroblocks .entry)) (now (levels .entry)))) (now (out .entry)) 0 (now (out .exit)) r ⌝ }
 {
-    let started = block::field(out, 0, 20, 16);
-    let numbered = block::field(out, started, 5, head[0] as u32);
+    let started = bits::append(out, 0, 20, 16);
+    let numbered = bits::append(out, started, 5, head[0] as u32);
     let kind = (head[1] as u32) * 8 + (h261_groups::bit(format) as u32) * 4 + 3;
-    let typed = block::field(out, numbered, 6, kind);
-    let ready = block::field(out, typed, 1, 0);
+    let typed = bits::append(out, numbered, 6, kind);
+    let ready = bits::append(out, typed, 1, 0);
     groups(tables, head, macroblocks, levels, format, out, ready)
 }

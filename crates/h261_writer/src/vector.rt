@@ -1,22 +1,21 @@
 // MVD: a macroblock's vector against the preceding one. Components are bytes, in two's complement.
 use h261_words::WordTables;
-ghost use Prim.Native.Nat.{_+_};
+ghost use Rattle.bits.specs.Appended.{WroteBits};
 ghost use Rattle.h261_words.specs.Words.{isMC};
 ghost use Rattle.h261_description.specs.Vector.{preceding as precedingOf};
-ghost use Rattle.layout.specs.Flat.{numberOf};
-ghost use Rattle.h261_writer.specs.Write.{given, componentOf, vectorOf};
-ghost use Rattle.h261_writer.specs.Sound.{behind};
+ghost use Rattle.layout.specs.Flat.{numberOf, byteVector};
+ghost use Rattle.h261_writer.specs.Write.{bitsIf, componentBits, vectorBits};
+ghost use Rattle.h261_writer.specs.Sound.{beforeIn};
 ghost use Rattle.h261_writer.specs.Asked.{ComponentAsked, ComponentsAsked, VectorAsked};
-ghost use Rattle.h261_writer.specs.Put.{Wrote};
 
 // One component: Table 3 holds its difference modulo 32, from -16 on.
 fn component(tables: &WordTables, preceding: u8, byte: u8, out: &mut [u8], at: usize) -> usize
-    requires { ⌜ ComponentAsked (now tables) preceding byte (now out) at ⌝ }
-    ensures { λ r. ⌜ Wrote 24 (componentOf (numberOf preceding) (numberOf byte)) (now (out .entry)) at (now (out .exit)) r ⌝ }
+    requires { ⌜ ComponentAsked (now tables) preceding byte at ⌝ }
+    ensures { λ r. ⌜ WroteBits (componentBits (numberOf preceding) (numberOf byte)) (now (out .entry)) at (now (out .exit)) r ⌝ }
 {
     let difference = (byte as usize + 304 - preceding as usize) % 32;
     let word = h261_words::mvd_codeword(tables, difference);
-    h261_words::put(out, at, word)
+    h261_words::append(out, at, word)
 }
 
 fn components(
@@ -28,8 +27,8 @@ fn components(
     out: &mut [u8],
     at: usize,
 ) -> usize
-    requires { ⌜ ComponentsAsked (now tables) horizontal vertical across down (now out) at ⌝ }
-    ensures { λ r. ⌜ Wrote 48 (vectorOf (behind 0 horizontal vertical .vector) (behind 0 across down .vector)) (now (out .entry)) at (now (out .exit)) r ⌝ }
+    requires { ⌜ ComponentsAsked (now tables) horizontal vertical across down at ⌝ }
+    ensures { λ r. ⌜ WroteBits (vectorBits (byteVector horizontal vertical) (byteVector across down)) (now (out .entry)) at (now (out .exit)) r ⌝ }
 {
     let after = component(tables, horizontal, across, out, at);
     component(tables, vertical, down, out, after)
@@ -48,8 +47,8 @@ pub fn vector(
     out: &mut [u8],
     at: usize,
 ) -> usize
-    requires { ⌜ VectorAsked (now tables) last step horizontal vertical across down (now out) at ⌝ }
-    ensures { λ r. ⌜ Wrote 48 (given (isMC kind) (vectorOf (precedingOf (behind last horizontal vertical) step) (behind 0 across down .vector))) (now (out .entry)) at (now (out .exit)) r ⌝ }
+    requires { ⌜ VectorAsked (now tables) kind last step horizontal vertical across down at ⌝ }
+    ensures { λ r. ⌜ WroteBits (bitsIf (isMC kind) (vectorBits (precedingOf (beforeIn last horizontal vertical) step) (byteVector across down))) (now (out .entry)) at (now (out .exit)) r ⌝ }
 {
     if !h261_words::kind::is_mc(kind as u16) {
         return at;

@@ -9,7 +9,15 @@ use lib.Dec.{T}
 use lib.ListN.{getD, length, take, drop}
 use lib.Seq.{drop-drop}
 use Rattle.laws.proofs.Choice.{both-left, both-right}
+use Rattle.layout.specs.Flat.{Flat}
 use Rattle.layout.specs.Valid.{everyMacroblock, everyGroup}
+
+-- the four bytes and the 384 levels of macroblock n, in sending order
+abbrev pub fieldsAt : Flat → ℕ → List ℕ
+fieldsAt d n = take 4 (drop (n * 4) (d .macroblocks))
+
+abbrev pub levelsAt : Flat → ℕ → List ℕ
+levelsAt d n = take 384 (drop (n * 384) (d .levels))
 
 -- past one entry of w numbers, then k more; past g groups of `each`, then m entries
 drop-next : (w k : ℕ) (xs : List ℕ) → drop (k * w) (drop w xs) ≡ drop (suc k * w) xs
@@ -53,9 +61,11 @@ module _ (each : ℕ) (good : ℕ → ℕ → List ℕ → List ℕ → Bool) wh
       (group-in numbers (drop (each * 4) fields) (drop (each * 384) levels) rest g (le-of-suc-le-suc l))
 
   -- macroblock m of group g, both from 0
-  pub every-at : (numbers fields levels : List ℕ) → T (everyGroup each good numbers fields levels) → (g m : ℕ) → g < length numbers → m < each
-      → T (good (getD numbers g 0) (m + 1) (take 4 (drop ((g * each + m) * 4) fields)) (take 384 (drop ((g * each + m) * 384) levels)))
-  every-at numbers fields levels t g m l h =
+  pub every-at : (numbers : List ℕ) (d : Flat) → T (everyGroup each good numbers (d .macroblocks) (d .levels)) → (g m : ℕ) → g < length numbers → m < each
+      → T (good (getD numbers g 0) (m + 1) (fieldsAt d (g * each + m)) (levelsAt d (g * each + m)))
+  every-at numbers d t g m l h =
       let address : 1 + m ≡ m + 1 = omega arith in
+      let fields = d .macroblocks in
+      let levels = d .levels in
       coe 0 1 (i. T (good (getD numbers g 0) (address i) (take 4 (drop-entries each g m 4 fields i)) (take 384 (drop-entries each g m 384 levels i))))
       (macroblock-in (good (getD numbers g 0)) each 1 (drop (g * (each * 4)) fields) (drop (g * (each * 384)) levels) (group-in numbers fields levels t g l) m h)

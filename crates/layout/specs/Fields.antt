@@ -1,18 +1,10 @@
 -- The fields of a description, by the macroblock's number in sending order. Assumes nothing.
 use Prim.Native.Nat.{ℕ, _+_, _*_}
-use mathlib.Core.List.{List}
-use lib.ListN.{getD, take, drop}
+use lib.ListN.{getD}
 use Rattle.layout.specs.Value.{Vector}
 use Rattle.layout.specs.Flat.{Flat, byteVector}
 
--- the four bytes and the 384 levels of macroblock n
-abbrev pub fieldsAt : Flat → ℕ → List ℕ
-fieldsAt d n = take 4 (drop (n * 4) (d .macroblocks))
-
-abbrev pub levelsAt : Flat → ℕ → List ℕ
-levelsAt d n = take 384 (drop (n * 384) (d .levels))
-
--- each of them
+-- the four bytes of macroblock n
 abbrev pub typeOf : Flat → ℕ → ℕ
 typeOf d n = getD (d .macroblocks) (n * 4) 0
 
@@ -24,9 +16,6 @@ horizontalOf d n = getD (d .macroblocks) (n * 4 + 2) 0
 
 abbrev pub verticalOf : Flat → ℕ → ℕ
 verticalOf d n = getD (d .macroblocks) (n * 4 + 3) 0
-
-abbrev pub levelOf : Flat → ℕ → ℕ → ℕ
-levelOf d n k = getD (d .levels) (n * 384 + k) 0
 
 -- the vector that the bytes of macroblock n say, whatever its type
 abbrev pub vectorAt : Flat → ℕ → Vector

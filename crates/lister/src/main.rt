@@ -1,89 +1,277 @@
-// Lists the QCIF blocks on standard input: a line for each, and how the receiver of their clip stands at the end.
+// Lists the blocks on standard input: `lister`, `lister SIZE` or `lister SIZE CLIP`, with SIZE qcif or cif and CLIP from 1 to 65535.
+//
+// A line for each block, and how the clip's receiver stands at the end; docs/REFUSALS.md says what each line means. Without a size the blocks are QCIF's. Without a clip the
+// first good block chooses it, and standard error says which; with one, another clip's blocks are refused by 23.
+//
+//     ./pagesorrel lister qcif 7 < clip.blocks
+use account::End;
+use account::blocks::Met;
+use arguments::ClipWord;
+use arguments::FormatWord;
 use coding::Kind;
 use libc::STDERR_FILENO;
-use libc::STDIN_FILENO;
 use libc::STDOUT_FILENO;
 use listing::Clip;
+use standing::Opened;
 
-// What is left to do: whether there is more to read, and the clip so far.
-struct Turn {
-    more: bool,
-    clip: Clip,
+// Whether there is more to do, and if not, why.
+enum Going {
+    On,
+    Ended,
+    Unread,
+    Unwritten,
 }
 
-// Output that can't be written ends the listing, and is named.
-fn say(text: &[u8]) -> bool {
-    if io::write_all(STDOUT_FILENO, text) {
-        return true;
+// After a turn: whether there is more to do, the clip, and what was met so far.
+struct Turn {
+    going: Going,
+    clip: Clip,
+    met: Met,
+}
+
+// ---- what is said
+
+fn say_chosen(n: u64, clip: u16) {
+    let mut text = [0u8; 128];
+    let count = account::remarks::chosen(n, clip, &mut text);
+    io::write_all(STDERR_FILENO, &text[..count]);
+}
+
+// Where no clip was asked for, the block that chose it.
+fn choose(n: u64, before: Clip, after: Clip) {
+    match before {
+        Clip::Known(_) => {}
+        Clip::Unknown => match after {
+            Clip::Known(receiver) => say_chosen(n, receiver.clip),
+            Clip::Unknown => {}
+        },
     }
-    io::write_all(STDERR_FILENO, b"lister: the listing could not be written\n");
-    false
+}
+
+// ---- a block
+
+fn written(all: bool, clip: Clip, met: Met) -> Turn {
+    if all {
+        return Turn {
+            going: Going::On,
+            clip,
+            met,
+        };
+    }
+    Turn {
+        going: Going::Unwritten,
+        clip,
+        met,
+    }
 }
 
 fn whole(
     n: u64,
+    kind: Kind,
     clip: Clip,
+    met: Met,
     block: &[u8; 512],
-    collection: &mut [u8; 8500],
-    first: &mut [u8; 38016],
-    second: &mut [u8; 38016],
+    collection: &mut [u8],
+    first: &mut [u8],
+    second: &mut [u8],
 ) -> Turn {
-    let listed = listing::list(Kind::H261Qcif, clip, block, collection, first, second);
+    let listed = listing::list(kind, clip, block, collection, first, second);
     let answer = listed.answer;
     let next = listed.next;
+    choose(n, clip, next);
     let mut text = [0u8; 128];
     let count = listing::line(n, answer, &mut text);
-    let more = say(&text[..count]);
-    Turn { more, clip: next }
+    let all = io::write_all(STDOUT_FILENO, &text[..count]);
+    written(all, next, account::blocks::after(met, answer))
 }
 
-fn short(n: u64) {
+fn short(n: u64, clip: Clip, met: Met) -> Turn {
     let mut text = [0u8; 128];
     let count = listing::short(n, &mut text);
-    say(&text[..count]);
-}
-
-fn end(clip: Clip) {
-    let mut text = [0u8; 128];
-    let count = listing::end(clip, &mut text);
-    say(&text[..count]);
+    if io::write_all(STDOUT_FILENO, &text[..count]) {
+        return Turn {
+            going: Going::Ended,
+            clip,
+            met: account::blocks::short(met),
+        };
+    }
+    Turn {
+        going: Going::Unwritten,
+        clip,
+        met,
+    }
 }
 
 fn one(
     n: u64,
+    kind: Kind,
     clip: Clip,
-    collection: &mut [u8; 8500],
-    first: &mut [u8; 38016],
-    second: &mut [u8; 38016],
+    met: Met,
+    collection: &mut [u8],
+    first: &mut [u8],
+    second: &mut [u8],
 ) -> Turn {
     let mut block = [0u8; 512];
-    let got = io::read_full(STDIN_FILENO, &mut block);
-    if got == 512 {
-        return whole(n, clip, &block, collection, first, second);
+    let filled = account::input::fill(&mut block);
+    if filled.failed {
+        return Turn {
+            going: Going::Unread,
+            clip,
+            met,
+        };
     }
-    if 0 < got {
-        short(n);
+    if filled.count == 512 {
+        return whole(n, kind, clip, met, &block, collection, first, second);
     }
-    Turn { more: false, clip }
+    if 0 < filled.count {
+        return short(n, clip, met);
+    }
+    Turn {
+        going: Going::Ended,
+        clip,
+        met,
+    }
+}
+
+// ---- the end
+
+fn unread() -> End {
+    os::fail(b"lister: the input could not be read");
+    End::Unread
+}
+
+fn unwritten() -> End {
+    os::fail(b"lister: the listing could not be written");
+    End::Unwritten
+}
+
+fn end(clip: Clip, met: Met) -> End {
+    let mut text = [0u8; 128];
+    let count = listing::end(clip, &mut text);
+    if io::write_all(STDOUT_FILENO, &text[..count]) {
+        return account::blocks::end(met);
+    }
+    unwritten()
+}
+
+fn finish(going: Going, clip: Clip, met: Met) -> End {
+    match going {
+        Going::Unread => unread(),
+        Going::Unwritten => unwritten(),
+        _ => end(clip, met),
+    }
+}
+
+fn goes_on(going: Going) -> bool {
+    match going {
+        Going::On => true,
+        _ => false,
+    }
 }
 
 // Nothing says that the input ends, so the loop counts its turns.
-fn all(collection: &mut [u8; 8500], first: &mut [u8; 38016], second: &mut [u8; 38016]) {
-    let mut clip = Clip::Unknown;
-    let mut more = true;
+fn all(
+    kind: Kind,
+    opened: Clip,
+    collection: &mut [u8],
+    first: &mut [u8],
+    second: &mut [u8],
+) -> End {
+    let mut clip = opened;
+    let mut met = account::blocks::open();
+    let mut going = Going::On;
     let mut n: u64 = 0;
-    while n < 18446744073709551615 && more {
-        let turn = one(n, clip, collection, first, second);
+    while n < 18446744073709551615 && goes_on(going) {
+        let turn = one(n, kind, clip, met, collection, first, second);
         clip = turn.clip;
-        more = turn.more;
+        met = turn.met;
+        going = turn.going;
         n += 1;
     }
-    end(clip);
+    finish(going, clip, met)
 }
 
-fn main() {
+fn qcif(clip: Clip) -> End {
     let mut collection = [0u8; 8500];
     let mut first = [0u8; 38016];
     let mut second = [0u8; 38016];
-    all(&mut collection, &mut first, &mut second);
+    all(
+        Kind::H261Qcif,
+        clip,
+        &mut collection,
+        &mut first,
+        &mut second,
+    )
+}
+
+fn cif(clip: Clip) -> End {
+    let mut collection = [0u8; 33000];
+    let mut first = [0u8; 152064];
+    let mut second = [0u8; 152064];
+    all(
+        Kind::H261Cif,
+        clip,
+        &mut collection,
+        &mut first,
+        &mut second,
+    )
+}
+
+// ---- the words
+
+fn usage() -> End {
+    io::write_all(
+        STDERR_FILENO,
+        b"usage: lister [qcif|cif [CLIP]] < BLOCKS, with CLIP from 1 to 65535\n",
+    );
+    End::Misnamed
+}
+
+fn run(kind: Kind, clip: Clip) -> End {
+    match kind {
+        Kind::H261Qcif => qcif(clip),
+        Kind::H261Cif => cif(clip),
+    }
+}
+
+fn of_clip(kind: Kind, word: &[u8]) -> End {
+    match arguments::clip_named(word) {
+        ClipWord::Names(clip) => match standing::open(clip, kind) {
+            Opened::Open(receiver) => run(kind, Clip::Known(receiver)),
+            Opened::Refused(_) => usage(),
+        },
+        ClipWord::Other => usage(),
+    }
+}
+
+fn of_size(count: usize, size: &[u8], clip: &[u8]) -> End {
+    match arguments::format_named(size) {
+        FormatWord::Names(format) => {
+            let kind = coding::kind_of(format);
+            if count == 2 {
+                return run(kind, Clip::Unknown);
+            }
+            of_clip(kind, clip)
+        }
+        FormatWord::Other => usage(),
+    }
+}
+
+// How many words there are, the program's own name among them, and the two after it.
+fn of_words(count: usize, size: &[u8], clip: &[u8]) -> End {
+    if count <= 1 {
+        return run(Kind::H261Qcif, Clip::Unknown);
+    }
+    if count <= 3 {
+        return of_size(count, size, clip);
+    }
+    usage()
+}
+
+fn main() {
+    let mut size = [0u8; 16];
+    let mut clip = [0u8; 16];
+    let sizes = os::arg(1, &mut size);
+    let clips = os::arg(2, &mut clip);
+    account::tell(of_words(os::arg_count(), &size[..sizes], &clip[..clips]));
 }

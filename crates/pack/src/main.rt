@@ -1,12 +1,15 @@
-// Packs the raw H.261 stream on standard input into blocks: `pack qcif CLIP` or `pack cif CLIP`, with a clip from 1 to 65535.
+// Packs the raw H.261 stream on standard input into blocks: `pack SIZE CLIP`, with SIZE qcif or cif and CLIP from 1 to 65535.
 //
 // Each picture reaches from its start code, at any bit, to the next one or to the stream's end. A refused picture is a line on standard error, and the next one takes its
-// number. Where standard error is a terminal, a line there tells how far it has come.
+// number; what stands before the first picture is a line too, and at the end how many pictures were recorded. Where standard error is a terminal, a line there tells how far
+// it has come.
+//
+//     ./pagesorrel pack qcif 7 < clips/testsrc2-qcif-fine.h261 > clip.blocks
+use account::End;
 use arguments::ClipWord;
 use arguments::FormatWord;
 use h261_groups::Format;
 use libc::STDERR_FILENO;
-use libc::STDIN_FILENO;
 use libc::STDOUT_FILENO;
 use refusals::Refusal;
 use refusals::Verdict;
@@ -16,17 +19,19 @@ use sender::Sender;
 use stream::Stream;
 ghost use Prim.Native.Nat.{_<_, _≤_};
 
-// What has gone by of the stream, and the sender so far; whether the blocks can still be written; whether a terminal shows how far it has come.
+// What has gone by of the stream, and the sender so far; whether the blocks can still be written; whether something was cut; whether a terminal shows how far it has come.
 struct Pack {
     stream: Stream,
     sender: Sender,
     writes: bool,
+    cut: bool,
     terminal: bool,
 }
 
-// Whether there is more to read, and what came of it so far.
+// Whether there is more to read, whether it can be read, and what came of it so far.
 struct Turn {
     more: bool,
+    reads: bool,
     pack: Pack,
 }
 
@@ -59,20 +64,34 @@ fn say_refused(terminal: bool, offset: usize, why: Refusal) {
     io::write_all(STDERR_FILENO, &text[..count]);
 }
 
+// What stands before the first picture.
+fn say_before(terminal: bool, bytes: usize) {
+    clear(terminal);
+    let mut text = [0u8; 128];
+    let count = account::remarks::before(bytes as u64, &mut text);
+    io::write_all(STDERR_FILENO, &text[..count]);
+}
+
+fn say_nothing(bytes: usize) {
+    let mut text = [0u8; 128];
+    let count = account::remarks::nothing(bytes as u64, &mut text);
+    io::write_all(STDERR_FILENO, &text[..count]);
+}
+
+fn say_pictures(pictures: u32) {
+    let mut text = [0u8; 128];
+    let count = text::remarks::pictures(pictures as u64, &mut text);
+    io::write_all(STDERR_FILENO, &text[..count]);
+}
+
 // The first blocks of `out`. It has room for all that the sender writes, so the tests never fail.
 fn put_blocks(blocks: usize, out: &[u8]) -> bool {
     if blocks <= 66 {
         let end = 512 * blocks;
         if end <= out.len() {
-            if io::write_all(STDOUT_FILENO, &out[..end]) {
-                return true;
-            }
+            return io::write_all(STDOUT_FILENO, &out[..end]);
         }
     }
-    io::write_all(
-        STDERR_FILENO,
-        b"pack: a picture's blocks could not be written\n",
-    );
     false
 }
 
@@ -96,11 +115,14 @@ fn send(
     match answer {
         Answer::Blocks(blocks) => {
             pack.writes = put_blocks(blocks, out);
-            say_progress(pack.terminal, next.picture, stream.offset);
+            if pack.writes {
+                say_progress(pack.terminal, next.picture, stream.offset);
+            }
             pack
         }
         Answer::Refused(why) => {
             say_refused(pack.terminal, stream.offset, why);
+            pack.cut = true;
             pack
         }
     }
@@ -108,7 +130,7 @@ fn send(
 
 // A picture of `count` bits, the last one of them before `ones`: read, and its description sent.
 fn read(
-    pack: Pack,
+    before: Pack,
     count: usize,
     ones: usize,
     picture: &[u8],
@@ -119,15 +141,17 @@ fn read(
     first: &mut [u8],
     second: &mut [u8],
 ) -> Pack {
-    let stream = pack.stream;
-    let sender = pack.sender;
+    let stream = before.stream;
+    let sender = before.sender;
     let kind = sender.kind;
     let format = coding::format_of(kind);
     let verdict = stream::read(format, picture, count, ones, head, macroblocks, levels);
     match verdict {
-        Verdict::Accepted => send(pack, head, macroblocks, levels, out, first, second),
+        Verdict::Accepted => send(before, head, macroblocks, levels, out, first, second),
         Verdict::Refused(why) => {
-            say_refused(pack.terminal, stream.offset, why);
+            say_refused(before.terminal, stream.offset, why);
+            let mut pack = before;
+            pack.cut = true;
             pack
         }
     }
@@ -144,11 +168,10 @@ fn finish(
 ) -> Pack {
     let sender = pack.sender;
     let kind = sender.kind;
-    let format = coding::format_of(kind);
-    let heads = h261_groups::head_length(format);
-    let fields = h261_groups::macroblocks_length(format);
-    let coefficients = h261_groups::levels_length(format);
-    let blocks = h261_groups::blocks_length(format);
+    let heads = coding::head_length(kind);
+    let fields = coding::macroblocks_length(kind);
+    let coefficients = coding::levels_length(kind);
+    let blocks = size::blocks_length(coding::size_of(kind));
     let mut head = [0u8; 15];
     let mut macroblocks = [0u8; 1584];
     let mut levels = [0u8; 152064];
@@ -175,10 +198,10 @@ fn bits_before(count: usize) -> usize {
     count - 19
 }
 
-// Where a start code ends with the next bit, the picture before it is whole.
+// Where a start code ends with the next bit, the picture before it is whole. After a failed write nothing more is done.
 fn end(pack: Pack, starts: bool, picture: &[u8], first: &mut [u8], second: &mut [u8]) -> Pack {
     let stream = pack.stream;
-    if starts && stream.begun {
+    if starts && stream.begun && pack.writes {
         return finish(
             pack,
             bits_before(stream.count),
@@ -191,11 +214,27 @@ fn end(pack: Pack, starts: bool, picture: &[u8], first: &mut [u8], second: &mut 
     pack
 }
 
+// The first picture has begun: bytes before it are no picture's.
+fn begun(before: Pack) -> Pack {
+    let stream = before.stream;
+    if 0 < stream.offset {
+        say_before(before.terminal, stream.offset);
+        let mut pack = before;
+        pack.cut = true;
+        return pack;
+    }
+    before
+}
+
 fn bit(before: Pack, bit: bool, picture: &mut [u8], first: &mut [u8], second: &mut [u8]) -> Pack {
     let stream = before.stream;
-    let mut pack = end(before, stream::starts(stream, bit), picture, first, second);
+    let starts = stream::starts(stream, bit);
+    let mut pack = end(before, starts, picture, first, second);
     let next = stream::push(stream, bit, picture);
     pack.stream = next;
+    if starts && !stream.begun {
+        return begun(pack);
+    }
     pack
 }
 
@@ -232,38 +271,88 @@ fn goes_on(got: usize, writes: bool) -> bool {
 
 fn one(pack: Pack, picture: &mut [u8], first: &mut [u8], second: &mut [u8]) -> Turn {
     let mut input = io::buffer();
-    let got = io::read_full(STDIN_FILENO, &mut input);
+    let filled = account::input::fill(&mut input);
+    let got = filled.count;
     let next = chunk(pack, &input, 8 * got, picture, first, second);
     Turn {
         more: goes_on(got, next.writes),
+        reads: !filled.failed,
         pack: next,
     }
 }
 
+// ---- the end
+
+fn unread(terminal: bool) -> End {
+    clear(terminal);
+    os::fail(b"pack: the stream could not be read");
+    End::Unread
+}
+
+fn unwritten(terminal: bool) -> End {
+    clear(terminal);
+    os::fail(b"pack: a picture's blocks could not be written");
+    End::Unwritten
+}
+
+fn recorded(pack: Pack) -> End {
+    let stream = pack.stream;
+    let sender = pack.sender;
+    if !stream.begun {
+        say_nothing(stream.place / 8);
+        return End::Done(false, 0);
+    }
+    end_progress(pack.terminal);
+    say_pictures(sender.picture);
+    End::Done(pack.cut, sender.picture as u64)
+}
+
+// The picture at the stream's end.
+fn last(pack: Pack, picture: &[u8], first: &mut [u8], second: &mut [u8]) -> Pack {
+    let stream = pack.stream;
+    if stream.begun {
+        return finish(pack, stream.count, stream.last, picture, first, second);
+    }
+    pack
+}
+
+fn ended(before: Pack, reads: bool, picture: &[u8], first: &mut [u8], second: &mut [u8]) -> End {
+    if !before.writes {
+        return unwritten(before.terminal);
+    }
+    if !reads {
+        return unread(before.terminal);
+    }
+    let pack = last(before, picture, first, second);
+    if !pack.writes {
+        return unwritten(pack.terminal);
+    }
+    recorded(pack)
+}
+
 // The stream, and the picture at its end. Nothing says that the input ends, so the loop counts its turns.
-fn all(opened: Pack, picture: &mut [u8], first: &mut [u8], second: &mut [u8]) {
+fn all(opened: Pack, picture: &mut [u8], first: &mut [u8], second: &mut [u8]) -> End {
     let mut pack = opened;
     let mut more = true;
+    let mut reads = true;
     let mut n: u64 = 0;
     while n < 18446744073709551615 && more {
         let turn = one(pack, picture, first, second);
         pack = turn.pack;
         more = turn.more;
+        reads = turn.reads;
         n += 1;
     }
-    let stream = pack.stream;
-    if stream.begun {
-        finish(pack, stream.count, stream.last, picture, first, second);
-    }
+    ended(pack, reads, picture, first, second)
 }
 
-// The buffers that last as long as the stream have room for either format.
-fn record(sender: Sender) {
+// The buffers that last as long as the stream have room for any size.
+fn record(sender: Sender) -> End {
     let kind = sender.kind;
-    let format = coding::format_of(kind);
+    let size = coding::size_of(kind);
     let terminal = libc::isatty(STDERR_FILENO) == 1;
-    let bytes = h261_groups::output_length(format);
-    let samples = h261_groups::store_length(format);
+    let bytes = size::output_length(size);
+    let samples = size::store_length(size);
     let mut picture = [0u8; 32768];
     let mut first = [0u8; 152064];
     let mut second = [0u8; 152064];
@@ -271,6 +360,7 @@ fn record(sender: Sender) {
         stream: stream::open(),
         sender,
         writes: true,
+        cut: false,
         terminal,
     };
     all(
@@ -278,38 +368,43 @@ fn record(sender: Sender) {
         &mut picture[..bytes],
         &mut first[..samples],
         &mut second[..samples],
-    );
-    end_progress(terminal);
+    )
 }
 
-fn usage() {
+// ---- the words
+
+fn usage() -> End {
     io::write_all(
         STDERR_FILENO,
         b"usage: pack qcif|cif CLIP < STREAM.h261 > BLOCKS, with CLIP from 1 to 65535\n",
     );
+    End::Misnamed
 }
 
-fn begin(format: Format, clip: u16) {
+fn begin(format: Format, clip: u16) -> End {
     match sender::open(clip, coding::kind_of(format)) {
         Opened::Open(sender) => record(sender),
         Opened::Refused(_) => usage(),
     }
 }
 
-fn named(format: Format) {
-    let mut word = [0u8; 16];
-    let count = os::arg(2, &mut word);
-    match arguments::clip_named(&word[..count]) {
-        ClipWord::Names(clip) => begin(format, clip),
-        ClipWord::Other => usage(),
+fn of_words(count: usize, size: &[u8], clip: &[u8]) -> End {
+    if count != 3 {
+        return usage();
+    }
+    match arguments::format_named(size) {
+        FormatWord::Names(format) => match arguments::clip_named(clip) {
+            ClipWord::Names(number) => begin(format, number),
+            ClipWord::Other => usage(),
+        },
+        FormatWord::Other => usage(),
     }
 }
 
 fn main() {
-    let mut word = [0u8; 16];
-    let count = os::arg(1, &mut word);
-    match arguments::format_named(&word[..count]) {
-        FormatWord::Names(format) => named(format),
-        FormatWord::Other => usage(),
-    }
+    let mut size = [0u8; 16];
+    let mut clip = [0u8; 16];
+    let sizes = os::arg(1, &mut size);
+    let clips = os::arg(2, &mut clip);
+    account::tell(of_words(os::arg_count(), &size[..sizes], &clip[..clips]));
 }

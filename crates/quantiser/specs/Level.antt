@@ -1,7 +1,7 @@
 -- From the 64 bytes of a block in transmission order to its coefficients ("From levels to samples"). Assumes nothing.
 use mathlib.Core.Bool.{Bool}
 use mathlib.Core.List.{List, [], _∷_}
-use Prim.Native.Nat.{ℕ, zero, suc, _+_, _*_, _-_, _%_}
+use Prim.Native.Nat.{ℕ, zero, suc, _+_, _*_, _-_, _%_, _≤_}
 use lib.Dec.{eqb, ltb}
 use lib.IntN.{ℤ, pos, negsuc, negℤ}
 use lib.ListN.{getD}
@@ -12,6 +12,12 @@ use Rattle.quantiser.specs.Cut.{cut}
 -- The byte at each position of the block that starts at `at`.
 abbrev pub bytesFrom : List ℕ → ℕ → ℕ → ℕ
 bytesFrom levels at position = getD levels (at + position) 0
+
+-- so many levels from `at` on, of a slice of this length, under a quantiser
+pub record Coded (count at quantiser size : ℕ) : Type 0 where
+  pub room : at + count ≤ size
+  pub least : 1 ≤ quantiser
+  pub most : quantiser ≤ 31
 
 -- A level is a byte in two's complement, as an escape codes it.
 unfoldable pub levelOf : ℕ → ℤ

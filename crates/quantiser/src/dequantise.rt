@@ -2,14 +2,14 @@
 use crate::cut::cut16;
 ghost use mathlib.Core.Path.{_≡_};
 ghost use mathlib.Core.List.{[], _∷_};
-ghost use Prim.Native.Nat.{_+_, _<_, _≤_};
+ghost use Prim.Native.Nat.{_≤_};
 ghost use lib.IntN.{pos};
 ghost use lib.ListN.{getD, length};
 ghost use Rattle.laws.specs.Integer.{Low};
 ghost use Rattle.laws.specs.Rows.{Starts};
 ghost use Rattle.laws.specs.Block.{Is};
 ghost use Rattle.quantiser.specs.Lines.{SmallRow, Line, EightPlaces, entry};
-ghost use Rattle.quantiser.specs.Level.{bytesFrom, levelOf, magnitude, signed, coefficient, direct, valueAt, positionAt, coefficientAt};
+ghost use Rattle.quantiser.specs.Level.{bytesFrom, Coded, levelOf, magnitude, signed, coefficient, direct, valueAt, positionAt, coefficientAt};
 
 // A level is a byte in two's complement.
 fn level(byte: u8) -> i16
@@ -65,7 +65,7 @@ fn direct(code: u8) -> i32
 
 // The coefficients of a block, in transmission order.
 fn coefficients(levels: &[u8], at: usize, quantiser: u8) -> [i16; 64]
-    requires { ⌜ (at + 64 ≤ length (now levels)) × (1 ≤ quantiser) × (quantiser ≤ 31) ⌝ }
+    requires { ⌜ Coded 64 at quantiser (length (now levels)) ⌝ }
     ensures { λ r. ⌜ Starts (pos 0) 64 64 (λ k. coefficient quantiser (levelOf (bytesFrom (now (levels .entry)) at k))) r ⌝ }
 {
     let mut numbers = [0i16; 64];
@@ -120,7 +120,7 @@ fn placed(n: &[i16; 64]) -> [[i32; 8]; 8]
 }
 
 pub fn dequantise(levels: &[u8], at: usize, intra: bool, quantiser: u8) -> [[i32; 8]; 8]
-    requires { ⌜ (at + 64 ≤ length (now levels)) × (1 ≤ quantiser) × (quantiser ≤ 31) ⌝ }
+    requires { ⌜ Coded 64 at quantiser (length (now levels)) ⌝ }
     ensures { λ r. ⌜ Is (pos 0) (coefficientAt (bytesFrom (now (levels .entry)) at) intra quantiser) r ⌝ }
 {
     let numbers = coefficients(levels, at, quantiser);

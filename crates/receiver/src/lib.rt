@@ -9,12 +9,12 @@ use standing::Standing;
 use vault::Checked;
 use vault::Header;
 ghost use mathlib.Core.Path.{_≡_};
-ghost use Rattle.coding.specs.Coding.{accepted};
+ghost use Rattle.refusals.specs.Told.{accepted};
 ghost use Rattle.layout.specs.Flat.{flat};
 ghost use Rattle.coding.specs.Kind.{codingOf};
-ghost use Rattle.vault.specs.Parts.{placed};
+ghost use Rattle.vault.specs.Parts.{placedPayload};
 ghost use Rattle.standing.specs.Stores.{stores};
-ghost use Rattle.standing.specs.Receive.{lineOf, countOf, ended, tookOf, byLine, buffers, outcome, cameTo};
+ghost use Rattle.standing.specs.Receive.{lineOf, countOf, endedPicture, tookOf, byLine, buffers, outcome, cameTo};
 ghost use Rattle.receiver.specs.Receiving.{ReceiveDoes, Fitting, Ready, Readable, Settleable, Settles};
 
 // ---- a last part
@@ -30,7 +30,7 @@ fn settle(
     second: &mut [u8],
 ) -> Received
     requires { ⌜ Settleable (receiver .kind) header (flat (now head) (now macroblocks) (now levels)) (now first) (now second) ⌝ }
-    ensures { λ r. ⌜ Settles codingOf receiver (stores (now (first .entry)) (now (second .entry))) (ended codingOf receiver header (accepted (flat (now (head .entry)) (now (macroblocks .entry)) (now (levels .entry))))) r (stores (now (first .exit)) (now (second .exit))) ⌝ }
+    ensures { λ r. ⌜ Settles codingOf receiver (stores (now (first .entry)) (now (second .entry))) (endedPicture codingOf receiver header (accepted (flat (now (head .entry)) (now (macroblocks .entry)) (now (levels .entry))))) r (stores (now (first .exit)) (now (second .exit))) ⌝ }
 {
     let kind = receiver.kind;
     let progress = receiver.progress;
@@ -64,7 +64,7 @@ fn finish_in(
     second: &mut [u8],
 ) -> Received
     requires { ⌜ Readable (receiver .kind) header (now head) (now macroblocks) (now levels) (now first) (now second) ⌝ }
-    ensures { λ r. ⌜ Settles codingOf receiver (stores (now (first .entry)) (now (second .entry))) (ended codingOf receiver header (codingOf (receiver .kind) .read (now (collection .entry)) (countOf header))) r (stores (now (first .exit)) (now (second .exit))) ⌝ }
+    ensures { λ r. ⌜ Settles codingOf receiver (stores (now (first .entry)) (now (second .entry))) (endedPicture codingOf receiver header (codingOf (receiver .kind) .read (now (collection .entry)) (countOf header))) r (stores (now (first .exit)) (now (second .exit))) ⌝ }
 {
     let kind = receiver.kind;
     let count = 4000 * (header.part as usize) + (header.used as usize);
@@ -83,7 +83,7 @@ fn finish(
     second: &mut [u8],
 ) -> Received
     requires { ⌜ Fitting (receiver .kind) header (now first) (now second) ⌝ }
-    ensures { λ r. ⌜ Settles codingOf receiver (stores (now (first .entry)) (now (second .entry))) (ended codingOf receiver header (codingOf (receiver .kind) .read (now (collection .entry)) (countOf header))) r (stores (now (first .exit)) (now (second .exit))) ⌝ }
+    ensures { λ r. ⌜ Settles codingOf receiver (stores (now (first .entry)) (now (second .entry))) (endedPicture codingOf receiver header (codingOf (receiver .kind) .read (now (collection .entry)) (countOf header))) r (stores (now (first .exit)) (now (second .exit))) ⌝ }
 {
     let kind = receiver.kind;
     let mut head = [0u8; 15];
@@ -117,7 +117,7 @@ fn collect(
     second: &mut [u8],
 ) -> Received
     requires { ⌜ Ready (receiver .kind) header (now block) (now collection) (now first) (now second) ⌝ }
-    ensures { λ r. ⌜ outcome r (now (collection .exit)) (now (first .exit)) (now (second .exit)) ≡ cameTo codingOf receiver (now (block .entry)) (buffers (now (collection .entry)) (now (first .entry)) (now (second .entry))) (tookOf codingOf receiver header standing (placed (now (block .entry)) (header .part) (now (collection .entry)))) ⌝ }
+    ensures { λ r. ⌜ outcome r (buffers (now (collection .exit)) (now (first .exit)) (now (second .exit))) ≡ cameTo codingOf receiver (now (block .entry)) (buffers (now (collection .entry)) (now (first .entry)) (now (second .entry))) (tookOf codingOf receiver header standing (placedPayload (now (block .entry)) (header .part) (now (collection .entry)))) ⌝ }
 {
     let part = header.part;
     vault::place(block, part, collection);
@@ -137,7 +137,7 @@ fn act(
     second: &mut [u8],
 ) -> Received
     requires { ⌜ Ready (receiver .kind) header (now block) (now collection) (now first) (now second) ⌝ }
-    ensures { λ r. ⌜ outcome r (now (collection .exit)) (now (first .exit)) (now (second .exit)) ≡ cameTo codingOf receiver (now (block .entry)) (buffers (now (collection .entry)) (now (first .entry)) (now (second .entry))) (byLine codingOf (lineOf (receiver .progress) header) receiver header (now (block .entry)) (now (collection .entry))) ⌝ }
+    ensures { λ r. ⌜ outcome r (buffers (now (collection .exit)) (now (first .exit)) (now (second .exit))) ≡ cameTo codingOf receiver (now (block .entry)) (buffers (now (collection .entry)) (now (first .entry)) (now (second .entry))) (byLine codingOf (lineOf (receiver .progress) header) receiver header (now (block .entry)) (now (collection .entry))) ⌝ }
 {
     let progress = receiver.progress;
     let line = standing::first_line(progress, header);
@@ -168,7 +168,7 @@ pub fn receive(
     first: &mut [u8],
     second: &mut [u8],
 ) -> Received
-    ensures { λ r. ⌜ ReceiveDoes receiver (now (block .entry)) (buffers (now (collection .entry)) (now (first .entry)) (now (second .entry))) (outcome r (now (collection .exit)) (now (first .exit)) (now (second .exit))) ⌝ }
+    ensures { λ r. ⌜ ReceiveDoes receiver (now (block .entry)) (buffers (now (collection .entry)) (now (first .entry)) (now (second .entry))) r (buffers (now (collection .exit)) (now (first .exit)) (now (second .exit))) ⌝ }
 {
     let kind = receiver.kind;
     let clip = receiver.clip;

@@ -1,6 +1,6 @@
 -- Blocks that are written one after another make a macroblock. Assumes nothing.
 use mathlib.Core.Path.{_≡_, refl, sym, ap, subst, _∙_}
-use mathlib.Core.Logic.{⊎-elim}
+use mathlib.Core.Logic.{_⊎_, inl, inr}
 use mathlib.Core.List.{List}
 use Prim.Native.Nat.{ℕ, zero, suc, _+_, _*_, _/_, _%_, _≤_, _<_}
 use native.Mathlib.Nat.{eq-or-lt-of-le}
@@ -49,7 +49,7 @@ part-as a h = record { size = h .size; inside = λ p y x o m n l i j k q. h .ins
 pub part-more : {f : Size} {r c b p y x : ℕ} {g : Values} {s t u : List ℕ} → Placed f r c b p y x → Part f r c b g s t → Wrote f p y x (g p y x) t u → Part f r c (b + 1) g s u
 part-more {f} {r} {c} {b} {p} {y} {x} {g} {s} {t} {u} a h w = record {
   size = w .size ∙ h .size;
-  inside = λ q z v o d e l i j m n. ⊎-elim (λ k. now q z v i j m n (block-same q z v p y x (k ∙ sym (a .number)) (d ∙ sym (a .row)) (e ∙ sym (a .column)))) (λ k. w .outside q z v o (λ e1 e2 e3. before q z v k e1 e2 e3) i j m n ∙ h .inside q z v o d e k i j m n) (eq-or-lt-of-le (at-most l));
+  inside = λ q z v o d e l. within q z v o d e (eq-or-lt-of-le (at-most l));
   outside = λ q z v o d i j m n. w .outside q z v o (λ e1 e2 e3. d ((λ k. own (e1 k) (e2 k)) ∙ a .row) ((λ k. own (e1 k) (e3 k)) ∙ a .column)) i j m n ∙ h .outside q z v o d i j m n;
 }
   where
@@ -65,6 +65,10 @@ part-more {f} {r} {c} {b} {p} {y} {x} {g} {s} {t} {u} a h w = record {
     now : (q z v i j : ℕ) → i < 8 → j < 8 → Same q z v p y x → cellOf f u q z v i j ≡ g q z v i j
     now q z v i j m n e =
         (λ k. cellOf f u (e .plane k) (e .row k) (e .col k) i j) ∙ w .inside i j m n ∙ sym (λ k. g (e .plane k) (e .row k) (e .col k) i j)
+
+    within : (q z v : ℕ) → On f q z v → own q z ≡ r → own q v ≡ c → (blockOf q z v ≡ b) ⊎ (blockOf q z v < b) → (i j : ℕ) → i < 8 → j < 8 → cellOf f u q z v i j ≡ g q z v i j
+    within q z v o d e (inl k) i j m n = now q z v i j m n (block-same q z v p y x (k ∙ sym (a .number)) (d ∙ sym (a .row)) (e ∙ sym (a .column)))
+    within q z v o d e (inr k) i j m n = w .outside q z v o (before q z v k) i j m n ∙ h .inside q z v o d e k i j m n
 
 pub part-end : {f : Size} {r c b k : ℕ} {g : Values} {s t : List ℕ} → Part f r c b g s t → b ≤ k → k ≤ b → Part f r c k g s t
 part-end {f} {r} {c} {b} {k} {g} {s} {t} h l m = subst (λ (n : ℕ). Part f r c n g s t) (same l m) h

@@ -1,7 +1,7 @@
 -- What drawing wants of its caller: room in the lent slices, and numbers in their ranges. Assumes nothing.
 use mathlib.Core.Path.{_≡_}
 use mathlib.Core.List.{List}
-use Prim.Native.Nat.{ℕ, _+_, _≤_, _<_}
+use Prim.Native.Nat.{ℕ, _≤_, _<_}
 use lib.IntN.{ℤ}
 use Rattle.laws.specs.Rows.{Room}
 use Rattle.size.specs.declared.Size.{Size}
@@ -31,12 +31,6 @@ pub record Copies (n from read to written stride : ℕ) : Type 0 where
 pub record Addends (prediction difference : List (List ℤ)) : Type 0 where
   pub samples : Samples prediction
   pub small : Small 256 difference
-
--- so many levels from `at` on, of a slice of this length, under a quantiser
-pub record Coded (count at quantiser size : ℕ) : Type 0 where
-  pub room : at + count ≤ size
-  pub least : 1 ≤ quantiser
-  pub most : quantiser ≤ 31
 
 -- a reference and a store of these lengths, and a row and a column of macroblocks
 pub record Ready (f : Size) (r c n m : ℕ) : Type 0 where

@@ -6,10 +6,9 @@ ghost use lib.IntN.{pos};
 ghost use lib.ListN.{length};
 ghost use Rattle.laws.specs.Block.{Is};
 ghost use Rattle.laws.specs.Table.{allB};
-ghost use Rattle.quantiser.specs.Level.{bytesFrom};
+ghost use Rattle.quantiser.specs.Level.{bytesFrom, Coded};
 ghost use Rattle.quantiser.specs.Lines.{Small};
 ghost use Rattle.samples.specs.Content.{differenceOf};
-ghost use Rattle.samples.specs.Ready.{Coded};
 
 // The bits of several levels together: none where all of them are 0. The compiler takes several at once.
 fn united(levels: &[u8], from: usize, count: usize) -> u8

@@ -6,9 +6,8 @@ use Rattle.coding.specs.declared.Kind.{Kind}
 use Rattle.coding.specs.Coding.{Coding}
 use Rattle.standing.specs.Stores.{Stores}
 use Rattle.sender.specs.declared.Sender.{Sender}
-use Rattle.sender.specs.declared.Answer.{Answer}
+use Rattle.refusals.specs.Told.{Told, accepted, refused}
 use Rattle.sender.specs.Send.{Outcome, step}
-use Rattle.sender.specs.declared.Answer.the-variants as A
 
 -- a call: a description, and what the lent output holds before it
 pub record Call (D : Type 0) : Type 0 where
@@ -26,23 +25,23 @@ cut zero out = []
 cut (suc n) out = take 512 out ∷ cut n (drop 512 out)
 
 -- the blocks that a call wrote: a refused one adds none
-abbrev pub added : Answer → List ℕ → List (List ℕ)
-added (A.Blocks n) out = cut n out
-added (A.Refused why) out = []
+abbrev pub blocksAdded : Told ℕ → List ℕ → List (List ℕ)
+blocksAdded (accepted n) out = cut n out
+blocksAdded (refused n place) out = []
 
 module _ {D : Type 0} (coding : Kind → Coding D) where
-  unfoldable pub called : World → Call D → Outcome
-  called w call = step coding (w .sender) (call .description) (record { out = call .out; both = w .both })
+  unfoldable pub callOutcome : World → Call D → Outcome
+  callOutcome w call = step coding (w .sender) (call .description) (record { out = call .out; both = w .both })
 
-  unfoldable pub after : World → Call D → World
-  after w call = record { sender = called w call .gave .next; both = called w call .left .both }
+  unfoldable pub worldAfter : World → Call D → World
+  worldAfter w call = record { sender = callOutcome w call .gave .next; both = callOutcome w call .left .both }
 
   -- after all of them
   unfoldable pub run : World → List (Call D) → World
   run w [] = w
-  run w (call ∷ calls) = run (after w call) calls
+  run w (call ∷ calls) = run (worldAfter w call) calls
 
   -- the clip's blocks, in the order in which they were written
   unfoldable pub clipOf : World → List (Call D) → List (List ℕ)
   clipOf w [] = []
-  clipOf w (call ∷ calls) = added (called w call .gave .answer) (called w call .left .out) ++ clipOf (after w call) calls
+  clipOf w (call ∷ calls) = blocksAdded (callOutcome w call .gave .answer) (callOutcome w call .left .out) ++ clipOf (worldAfter w call) calls

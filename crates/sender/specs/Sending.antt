@@ -6,7 +6,7 @@ use mathlib.Core.List.{List}
 use lib.Dec.{eqb}
 use lib.ListN.{length}
 use Rattle.laws.specs.Choice.{both, either, opposite}
-use Rattle.size.specs.Size.{storeLength, outputLength}
+use Rattle.size.specs.Size.{storeLength}
 use Rattle.coding.specs.declared.Kind.{Kind}
 use Rattle.coding.specs.Coding.{Coding}
 use Rattle.layout.specs.Flat.{Flat}
@@ -15,16 +15,17 @@ use Rattle.coding.specs.Described.{bytesIn}
 use Rattle.vault.specs.Block.{pictures}
 use Rattle.vault.specs.Parts.{partCount}
 use Rattle.sender.specs.declared.Sender.{Sender}
-use Rattle.sender.specs.Send.{Buffers, lengths, Outcome, step}
+use Rattle.sender.specs.declared.Sent.{Sent}
+use Rattle.sender.specs.Send.{Buffers, lentLengths, outcome, step}
 
 -- what `send` promises of a call: what it gives back and leaves in the buffers
-abbrev pub SendDoes : Sender → Flat → Buffers → Outcome → Type 0
-SendDoes s d b x = x ≡ step codingOf s d b
+abbrev pub SendDoes : Sender → Flat → Buffers → Sent → Buffers → Type 0
+SendDoes s d b gave left = outcome gave left ≡ step codingOf s d b
 
 module _ {D : Type 0} (coding : Kind → Coding D) where
   -- judged by 1, 34, 31 and 33: only 32 is left
   pub record Passed (s : Sender) (refreshed : Bool) (d : D) (b : Buffers) : Type 0 where
-    pub named-is : both (coding (s .kind) .named d) (lengths (kindSize (s .kind)) b) ≡ true
+    pub named-is : both (coding (s .kind) .named d) (lentLengths (kindSize (s .kind)) b) ≡ true
     pub counted : s .picture < pictures
     pub valid-is : coding (s .kind) .valid d ≡ true
     pub refresh-is : refreshed ≡ coding (s .kind) .refresh d

@@ -5,16 +5,17 @@ use mathlib.Core.List.{List, [], _∷_}
 use native.Mathlib.Omega.{arith}
 use Rattle.laws.specs.Floor.{floorDivided}
 use Rattle.laws.specs.Sum.{sumZ}
+use Rattle.refusals.specs.Number.{number}
 use Rattle.bits.specs.Bits.{bitsIn}
 use Rattle.bits.specs.Read.{fieldFrom}
 use Rattle.bits.specs.Code.{longer, lookup, word}
 use Rattle.bits.specs.Write.{bytesOf, byteFrom}
 use Rattle.h261_words.specs.Tables.{table1, table3}
 use Rattle.h261_groups.specs.declared.Format.the-variants.{Qcif}
-use Rattle.h261_description.specs.Value.{laid}
+use Rattle.h261_description.specs.Value.{laidPicture}
 use Rattle.layout.specs.Flat.{putGroups, putMacroblocks}
 use Rattle.h261_description.specs.Fields.{nothingSent}
-use Rattle.h261_description.specs.Moved.{moved}
+use Rattle.h261_description.specs.Moved.{movedPlace}
 use Rattle.quantiser.specs.Cut.{cut, atLeast, atMost}
 use Rattle.quantiser.specs.Level.{magnitude, coefficient}
 use Rattle.inverse.specs.Inverse.{A, S, cosine, output, inverseAt}
@@ -28,19 +29,19 @@ use Rattle.sheet.specs.Sheet.{Example, P9, P12, picture1, P8, P4, P1, P5
 
 -- reading and writing, computed
 picture-1 : says P1
-unfolding pictureOf groupsOf groupOf macroblocksOf bytesOf byteFrom bitsIn fieldFrom longer lookup word table1 sparesFrom spares mba macroblocksFrom groupHead group groupsRead header picture reading laid putGroups putMacroblocks nothingSent
-picture-1 = (refl, refl, refl, λ reference e. nothing-same Qcif (laid Qcif picture1) reference tt e)
+unfolding pictureOf groupsOf groupOf macroblocksOf bytesOf byteFrom bitsIn fieldFrom longer lookup word table1 sparesFrom spares mba macroblocksFrom groupHead group groupsRead header picture reading laidPicture putGroups putMacroblocks nothingSent
+picture-1 = (refl, refl, refl, λ reference e. nothing-same Qcif (laidPicture Qcif picture1) reference tt e)
 
 picture-2 : says P2
-unfolding pictureOf groupsOf groupOf macroblocksOf bytesOf byteFrom bitsIn fieldFrom longer lookup word table1 sparesFrom spares mba macroblocksFrom groupHead group groupsRead header picture reading
+unfolding pictureOf groupsOf groupOf macroblocksOf bytesOf byteFrom bitsIn fieldFrom longer lookup word table1 sparesFrom spares mba macroblocksFrom groupHead group groupsRead header picture reading number
 picture-2 = refl
 
 vector-12 : says P12
-unfolding componentRead longer lookup word table3
+unfolding componentRead longer lookup word table3 number
 vector-12 = λ place. refl
 
 chroma-11 : says P11
-unfolding moved
+unfolding movedPlace
 chroma-11 place =
     let one : place + 0 - 1 ≡ place - 1 = omega arith in
     (one, one)

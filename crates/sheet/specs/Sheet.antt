@@ -9,16 +9,17 @@ use lib.ListN.{length, replicate, take}
 use Rattle.laws.specs.Choice.{both}
 use Rattle.laws.specs.Table.{allB, eqZ}
 use Rattle.laws.specs.Block.{put}
-use Rattle.refusals.specs.declared.Reason.the-variants.{BitsEnd, VectorOut}
+use Rattle.refusals.specs.Told.{refused}
 use Rattle.bits.specs.Bits.{Bit, bitsOf}
-use Rattle.bits.specs.Read.{got, bad}
-use Rattle.bits.specs.Write.{started, bytesOf}
+use Rattle.bits.specs.Read.{got}
+use Rattle.bits.specs.Write.{startedBytes, bytesOf}
+use Rattle.fields.specs.Answer.{found}
 use Rattle.h261_groups.specs.declared.Format.the-variants.{Qcif}
 use Rattle.h261_groups.specs.Format.{sizeOf}
 use Rattle.size.specs.Size.{storeLength}
 use Rattle.layout.specs.Value.{Group}
-use Rattle.h261_description.specs.Value.{Picture, laid}
-use Rattle.h261_description.specs.Moved.{moved}
+use Rattle.h261_description.specs.Value.{Picture, laidPicture}
+use Rattle.h261_description.specs.Moved.{movedPlace}
 use Rattle.quantiser.specs.Level.{coefficient}
 use Rattle.inverse.specs.Inverse.{inverseAt}
 use Rattle.h261_filter.specs.Filter.{filterAt}
@@ -55,7 +56,7 @@ abbrev bits1 : List Bit
 bits1 = pictureOf Qcif picture1
 
 abbrev pub bytes1 : List ℕ
-bytes1 = bytesOf (started (length bits1)) bits1
+bytes1 = bytesOf (startedBytes (length bits1)) bits1
 
 -- a block that is 0 but for one number
 abbrev lone : ℕ → ℕ → ℤ → List (List ℤ)
@@ -77,9 +78,9 @@ abbrev pub says : Example → Type 0
 -- "has 110 bits, begins 00 01 00 86 (hex), and copies the reference"
 says P1 =
     (length bits1 ≡ 110) × (take 4 bytes1 ≡ 0x00 ∷ 0x01 ∷ 0x00 ∷ 0x86 ∷ []) × (reading Qcif bytes1 110 ≡ got picture1 [] 110)
-    × ((reference : List ℕ) → length reference ≡ storeLength (sizeOf Qcif) → rendered Qcif (laid Qcif picture1) reference ≡ reference)
+    × ((reference : List ℕ) → length reference ≡ storeLength (sizeOf Qcif) → rendered Qcif (laidPicture Qcif picture1) reference ≡ reference)
 -- "cut to 109 bits: 3 at 109"
-says P2 = reading Qcif bytes1 109 ≡ bad BitsEnd 109
+says P2 = found (reading Qcif bytes1 109) ≡ refused 3 109
 -- "Q 8, L 1: 23"; "Q 7, L -2: -35"; "Q 31, L 127: 2047"
 says P3 = coefficient 8 (pos 1) ≡ pos 23
 says P4 = coefficient 7 (negsuc 1) ≡ negsuc 34
@@ -104,9 +105,9 @@ says P10 =
     (filtered (lone 0 0 (pos 16)) 0 0 (pos 16) ∷
     filtered (lone 0 0 (pos 16)) 1 0 (pos 4) ∷ filtered (lone 0 0 (pos 16)) 1 1 (pos 1) ∷ []))
 -- "chroma of -3 is -1": in both planes, from any place
-says P11 = (place : ℕ) → (moved 1 place (negsuc 2) ≡ place - 1) × (moved 2 place (negsuc 2) ≡ place - 1)
+says P11 = (place : ℕ) → (movedPlace 1 place (negsuc 2) ≡ place - 1) × (movedPlace 2 place (negsuc 2) ≡ place - 1)
 -- "preceding 0 with pair -16 & 16: refusal 12": the pair's codeword, at any place
-says P12 = (place : ℕ) → componentRead (pos 0) (bitsOf 11 0b00000011001) place ≡ bad VectorOut place
+says P12 = (place : ℕ) → found (componentRead (pos 0) (bitsOf 11 0b00000011001) place) ≡ refused 12 place
 
 -- ---- the single claim
 abbrev pub Each : (Example → Type 0) → List Example → Type 0

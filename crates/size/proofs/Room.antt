@@ -7,7 +7,7 @@ use lib.ListN.{length, take}
 use lib.Seq.{length-take-le}
 use Rattle.size.specs.declared.Size.{Size}
 use Rattle.size.specs.declared.Size.the-variants.{SubQcif, Qcif, Cif}
-use Rattle.size.specs.Size.{storeLength}
+use Rattle.size.specs.Size.{storeLength, outputLength, blocksLength}
 
 pub part-long : {n : ℕ} (array : List ℕ) → n ≤ length array → n ≡ length (take n array)
 part-long {n} array l = sym (length-take-le n array l)
@@ -16,3 +16,13 @@ pub store-most : (f : Size) → storeLength f ≤ 152064
 store-most SubQcif = omega arith
 store-most Qcif = omega arith
 store-most Cif = omega arith
+
+pub output-most : (f : Size) → outputLength f ≤ 32768
+output-most SubQcif = omega arith
+output-most Qcif = omega arith
+output-most Cif = omega arith
+
+pub blocks-most : (f : Size) → blocksLength f ≤ 33792
+blocks-most SubQcif = omega arith
+blocks-most Qcif = omega arith
+blocks-most Cif = omega arith

@@ -5,36 +5,29 @@ use mathlib.Core.List.{List}
 use lib.Dec.{eqb, ltb}
 use lib.ListN.{length}
 use Rattle.laws.specs.Choice.{pick, both, either, opposite, alike}
-use Rattle.refusals.specs.declared.Reason.the-variants.{UntrueMark, BlockField}
-use Rattle.refusals.specs.declared.Refusal.{Refusal}
-use Rattle.refusals.specs.Number.{refusal}
+use Rattle.refusals.specs.Told.{Told, accepted, refused}
 use Rattle.size.specs.declared.Size.{Size}
 use Rattle.size.specs.Size.{collectionLength}
 use Rattle.coding.specs.declared.Kind.{Kind}
-use Rattle.coding.specs.Coding.{Found, accepted, refused, Coding}
+use Rattle.coding.specs.Coding.{Coding}
 use Rattle.coding.specs.Kind.{kindSize}
 use Rattle.vault.specs.declared.Header.{Header}
-use Rattle.vault.specs.declared.Checked.{Checked}
-use Rattle.vault.specs.Block.{refusedBy, judgeOf}
-use Rattle.vault.specs.Parts.{placed}
+use Rattle.vault.specs.Block.{judgeOf}
+use Rattle.vault.specs.Parts.{placedPayload}
 use Rattle.standing.specs.declared.Holder.{Holder}
 use Rattle.standing.specs.declared.Holder.the-variants.{Neither}
-use Rattle.standing.specs.Stores.{Stores, stores, sized, goesInto, reference, kept}
+use Rattle.standing.specs.Stores.{Stores, stores, storesSized, goesInto, reference, storesWith}
 use Rattle.standing.specs.declared.Place.{Place}
 use Rattle.standing.specs.declared.Standing.{Standing}
 use Rattle.standing.specs.declared.Progress.{Progress}
 use Rattle.standing.specs.declared.Last.{Last}
 use Rattle.standing.specs.declared.Receiver.{Receiver}
-use Rattle.standing.specs.declared.Opened.{Opened}
 use Rattle.standing.specs.declared.Line.{Line}
 use Rattle.standing.specs.declared.Line.the-variants.{Earlier, Next, Anew, Otherwise}
-use Rattle.standing.specs.declared.Answer.{Answer}
 use Rattle.standing.specs.declared.Received.{Received}
-use Rattle.refusals.specs.declared.Reason.the-variants as R
-use Rattle.vault.specs.declared.Checked.the-variants as C
+use Rattle.standing.specs.Answered.{Said, Reply, reply, toldReceived}
 use Rattle.standing.specs.declared.Standing.the-variants as S
-use Rattle.standing.specs.declared.Opened.the-variants as O
-use Rattle.standing.specs.declared.Answer.the-variants as A
+use Rattle.standing.specs.Answered as A
 
 abbrev pub place : ℕ → ℕ → Place
 place picture part = record { picture = picture; part = part }
@@ -47,19 +40,19 @@ abbrev pub lastIn : Holder → Last
 lastIn holder = record { holder = holder }
 
 -- ---- opening: "It wants a place (picture, part), at first (0, 0), and starts lost." Refusal 22: "opening with clip 0"
-abbrev pub fresh : ℕ → Kind → Receiver
-fresh clip kind = record { clip = clip; kind = kind; progress = progress (place 0 0) S.Lost false; last = lastIn Neither }
+abbrev pub freshReceiver : ℕ → Kind → Receiver
+freshReceiver clip kind = record { clip = clip; kind = kind; progress = progress (place 0 0) S.Lost false; last = lastIn Neither }
 
-abbrev pub opened : ℕ → Kind → Opened
-opened clip kind = pick (eqb clip 0) (O.Refused (refusal BlockField 0)) (O.Open (fresh clip kind))
+abbrev pub openedReceiver : ℕ → Kind → Told Receiver
+openedReceiver clip kind = pick (eqb clip 0) (refused 22 0) (accepted (freshReceiver clip kind))
 
 -- ---- the four lines
 -- "Places compare by picture, then part."
-abbrev pub earlier : Place → Place → Bool
-earlier a b = either (ltb (a .picture) (b .picture)) (both (eqb (a .picture) (b .picture)) (ltb (a .part) (b .part)))
+abbrev pub earlierPlace : Place → Place → Bool
+earlierPlace a b = either (ltb (a .picture) (b .picture)) (both (eqb (a .picture) (b .picture)) (ltb (a .part) (b .part)))
 
-abbrev pub same : Place → Place → Bool
-same a b = both (eqb (a .picture) (b .picture)) (eqb (a .part) (b .part))
+abbrev pub samePlace : Place → Place → Bool
+samePlace a b = both (eqb (a .picture) (b .picture)) (eqb (a .part) (b .part))
 
 abbrev pub isLost : Standing → Bool
 isLost S.Lost = true
@@ -73,19 +66,19 @@ placeOf header = place (header .picture) (header .part)
 unfoldable pub lineOf : Progress → Header → Line
 lineOf p header =
     -- "1. Earlier than wanted"
-    pick (earlier (placeOf header) (p .wanted)) Earlier
+    pick (earlierPlace (placeOf header) (p .wanted)) Earlier
     -- "2. Equal, and not lost"
-    (pick (both (same (placeOf header) (p .wanted)) (opposite (isLost (p .standing)))) Next
+    (pick (both (samePlace (placeOf header) (p .wanted)) (opposite (isLost (p .standing)))) Next
     -- "3. Part 0 with refresh"; "4. Otherwise"
     (pick (both (eqb (header .part) 0) (header .refresh)) Anew Otherwise))
 
--- ---- what a block comes to. A finished picture is its header, which has its number and N (`countOf`), and its description
+-- ---- what a block comes to. A refusal is its number and its place; a finished picture is its header, which has its number and N (`countOf`), and its description
 pub data Event (D : Type 0) : Type 0 where
-  refusing : Refusal → Event D
+  refusing : ℕ → ℕ → Event D
   old : Header → Event D
   taken : Header → Standing → Event D
   lost : Event D
-  failed : Header → Refusal → Event D
+  failed : Header → ℕ → ℕ → Event D
   finished : Header → D → Event D
 
 -- N, by the last part: all parts before it have 4000 bits
@@ -105,124 +98,122 @@ abbrev pub buffers : List ℕ → List ℕ → List ℕ → Buffers
 buffers collection first second = record { collection = collection; both = stores first second }
 
 -- refusal 1: "a lent buffer hasn't its named length"
-abbrev pub named : Size → ℕ → ℕ → ℕ → Bool
-named size collection first second = both (eqb collection (collectionLength size)) (sized size first second)
+abbrev pub namedLengths : Size → ℕ → ℕ → ℕ → Bool
+namedLengths size collection first second = both (eqb collection (collectionLength size)) (storesSized size first second)
 
-abbrev pub lengths : Size → Buffers → Bool
-lengths size b = named size (length (b .collection)) (length (b .both .first)) (length (b .both .second))
+abbrev pub lentLengths : Size → Buffers → Bool
+lentLengths size b = namedLengths size (length (b .collection)) (length (b .both .first)) (length (b .both .second))
 
 -- "Blocks: 1, 21, 22, 23."
-unfoldable pub judged : Receiver → List ℕ → Buffers → Checked
-judged r block b = pick (lengths (kindSize (r .kind)) b) (judgeOf (kindSize (r .kind)) (r .clip) block) (refusedBy R.Length)
+unfoldable pub judgedBlock : Receiver → List ℕ → Buffers → Told Header
+judgedBlock r block b = pick (lentLengths (kindSize (r .kind)) b) (judgeOf (kindSize (r .kind)) (r .clip) block) (refused 1 0)
 
 module _ {D : Type 0} (coding : Kind → Coding D) where
   -- "A last part is read at once". Refusal 24: "accepted picture, untrue refresh mark"
-  unfoldable pub ended : Receiver → Header → Found D → Event D
-  ended r header (accepted d) = pick (alike (coding (r .kind) .refresh d) (markOf (r .progress) header)) (finished header d) (failed header (refusal UntrueMark 0))
-  ended r header (refused why) = failed header why
+  unfoldable pub endedPicture : Receiver → Header → Told D → Event D
+  endedPicture r header (accepted d) = pick (alike (coding (r .kind) .refresh d) (markOf (r .progress) header)) (finished header d) (failed header 24 0)
+  endedPicture r header (refused n place) = failed header n place
 
   -- a block that is taken, into this collection, while the receiver stands so
   unfoldable pub tookOf : Receiver → Header → Standing → List ℕ → Event D
   tookOf r header standing collection =
-      pick (header .last) (ended r header (coding (r .kind) .read collection (countOf header))) (taken header standing)
+      pick (header .last) (endedPicture r header (coding (r .kind) .read collection (countOf header))) (taken header standing)
 
   unfoldable pub byLine : Line → Receiver → Header → List ℕ → List ℕ → Event D
   byLine Earlier r header block collection = old header
-  byLine Next r header block collection = tookOf r header (r .progress .standing) (placed block (header .part) collection)
+  byLine Next r header block collection = tookOf r header (r .progress .standing) (placedPayload block (header .part) collection)
   -- "The receiver is catching until it finishes."
-  byLine Anew r header block collection = tookOf r header S.Catching (placed block (header .part) collection)
+  byLine Anew r header block collection = tookOf r header S.Catching (placedPayload block (header .part) collection)
   byLine Otherwise r header block collection = lost
 
-  unfoldable pub byJudgement : Checked → Receiver → List ℕ → List ℕ → Event D
-  byJudgement (C.Good header) r block collection = byLine (lineOf (r .progress) header) r header block collection
-  byJudgement (C.Refused why) r block collection = refusing why
+  unfoldable pub byJudgement : Told Header → Receiver → List ℕ → List ℕ → Event D
+  byJudgement (accepted header) r block collection = byLine (lineOf (r .progress) header) r header block collection
+  byJudgement (refused n place) r block collection = refusing n place
 
   unfoldable pub decide : Receiver → List ℕ → Buffers → Event D
-  decide r block b = byJudgement (judged r block b) r block (b .collection)
+  decide r block b = byJudgement (judgedBlock r block b) r block (b .collection)
 
 -- ---- the next state
 -- "wanted place kept"
-abbrev pub losing : Progress → Progress
-losing p = progress (p .wanted) S.Lost (p .mark)
+abbrev pub lostProgress : Progress → Progress
+lostProgress p = progress (p .wanted) S.Lost (p .mark)
 
 -- "wants the next part"
-abbrev pub taking : Progress → Header → Standing → Progress
-taking p header standing = progress (place (header .picture) (header .part + 1)) standing (markOf p header)
+abbrev pub takenProgress : Progress → Header → Standing → Progress
+takenProgress p header standing = progress (place (header .picture) (header .part + 1)) standing (markOf p header)
 
 -- "both then want part 0 of the next"
-abbrev pub ending : Progress → Header → Standing → Progress
-ending p header standing = progress (place (header .picture + 1) 0) standing (markOf p header)
+abbrev pub endedProgress : Progress → Header → Standing → Progress
+endedProgress p header standing = progress (place (header .picture + 1) 0) standing (markOf p header)
 
 -- no finished picture: only what a block changes is another
 abbrev pub withProgress : Receiver → Progress → Receiver
 withProgress r p = record { clip = r .clip; kind = r .kind; progress = p; last = r .last }
 
 -- "refused means lost"
-abbrev pub failing : Receiver → Header → Receiver
-failing r header = withProgress r (ending (r .progress) header S.Lost)
+abbrev pub failedReceiver : Receiver → Header → Receiver
+failedReceiver r header = withProgress r (endedProgress (r .progress) header S.Lost)
 
 -- "accepted means in step at that picture"
-abbrev pub finishing : Receiver → Header → Receiver
-finishing r header = record {
+abbrev pub finishedReceiver : Receiver → Header → Receiver
+finishedReceiver r header = record {
   clip = r .clip;
   kind = r .kind;
-  progress = ending (r .progress) header (S.InStep (header .picture));
+  progress = endedProgress (r .progress) header (S.InStep (header .picture));
   last = lastIn (goesInto (r .last .holder));
 }
 
 module _ {D : Type 0} where
   abbrev pub advance : Receiver → Event D → Receiver
-  advance r (refusing why) = r
+  advance r (refusing n place) = r
   advance r (old header) = r
-  advance r (taken header standing) = withProgress r (taking (r .progress) header standing)
-  advance r lost = withProgress r (losing (r .progress))
-  advance r (failed header why) = failing r header
-  advance r (finished header d) = finishing r header
+  advance r (taken header standing) = withProgress r (takenProgress (r .progress) header standing)
+  advance r lost = withProgress r (lostProgress (r .progress))
+  advance r (failed header n place) = failedReceiver r header
+  advance r (finished header d) = finishedReceiver r header
 
   -- ---- the answer
-  abbrev pub answerOf : Event D → Answer
-  answerOf (refusing why) = A.Refused why
-  answerOf (old header) = A.Old (header .picture) (header .part)
-  answerOf (taken header standing) = A.Taken (header .picture) (header .part)
-  answerOf lost = A.Lost
-  answerOf (failed header why) = A.Refused why
-  answerOf (finished header d) = A.Picture (header .picture)
+  abbrev pub answerOf : Event D → Said
+  answerOf (refusing n place) = A.refused n place
+  answerOf (old header) = A.old (header .picture) (header .part)
+  answerOf (taken header standing) = A.taken (header .picture) (header .part)
+  answerOf lost = A.lost
+  answerOf (failed header n place) = A.refused n place
+  answerOf (finished header d) = A.picture (header .picture)
 
   -- ---- the lent buffers
   -- "Taken copies 500 payload bytes to 500 times part in the collection buffer"; "a dropped collection's bytes stay as they lie"
-  abbrev pub collected : List ℕ → List ℕ → Event D → List ℕ
-  collected block collection (refusing why) = collection
-  collected block collection (old header) = collection
-  collected block collection (taken header standing) = placed block (header .part) collection
-  collected block collection lost = collection
-  collected block collection (failed header why) = placed block (header .part) collection
-  collected block collection (finished header d) = placed block (header .part) collection
+  abbrev pub collectionAfter : List ℕ → List ℕ → Event D → List ℕ
+  collectionAfter block collection (refusing n place) = collection
+  collectionAfter block collection (old header) = collection
+  collectionAfter block collection (taken header standing) = placedPayload block (header .part) collection
+  collectionAfter block collection lost = collection
+  collectionAfter block collection (failed header n place) = placedPayload block (header .part) collection
+  collectionAfter block collection (finished header d) = placedPayload block (header .part) collection
 
   -- "Old, taken and lost change no store"
   abbrev pub storedBy : (Kind → Coding D) → Receiver → Stores → Event D → Stores
-  storedBy coding r s (refusing why) = s
+  storedBy coding r s (refusing n place) = s
   storedBy coding r s (old header) = s
   storedBy coding r s (taken header standing) = s
   storedBy coding r s lost = s
-  storedBy coding r s (failed header why) = s
-  storedBy coding r s (finished header d) = kept (r .last .holder) (coding (r .kind) .render d (reference (r .last .holder) s)) s
-
-abbrev pub received : Answer → Receiver → Received
-received answer next = record { answer = answer; next = next }
+  storedBy coding r s (failed header n place) = s
+  storedBy coding r s (finished header d) = storesWith (r .last .holder) (coding (r .kind) .render d (reference (r .last .holder) s)) s
 
 -- ---- a call: what it gives back and leaves in the buffers
 pub record Outcome : Type 0 where
-  pub gave : Received
+  pub gave : Reply
   pub left : Buffers
 
-abbrev pub outcome : Received → List ℕ → List ℕ → List ℕ → Outcome
-outcome gave collection first second = record { gave = gave; left = buffers collection first second }
+-- of what the code gives back and leaves
+abbrev pub outcome : Received → Buffers → Outcome
+outcome gave left = record { gave = toldReceived gave; left = left }
 
 module _ {D : Type 0} (coding : Kind → Coding D) where
   unfoldable pub cameTo : Receiver → List ℕ → Buffers → Event D → Outcome
   cameTo r block b e = record {
-    gave = received (answerOf e) (advance r e);
-    left = record { collection = collected block (b .collection) e; both = storedBy coding r (b .both) e };
+    gave = reply (answerOf e) (advance r e);
+    left = record { collection = collectionAfter block (b .collection) e; both = storedBy coding r (b .both) e };
   }
 
   unfoldable pub step : Receiver → List ℕ → Buffers → Outcome

@@ -5,7 +5,7 @@ ghost use mathlib.Core.Path.{_≡_};
 ghost use Rattle.layout.specs.Flat.{flat};
 ghost use Rattle.coding.specs.Kind.{codingOf};
 ghost use Rattle.coding.specs.Described.{Drawable};
-ghost use Rattle.standing.specs.Stores.{stores, reference, kept};
+ghost use Rattle.standing.specs.Stores.{stores, reference, storesWith};
 
 // The picture of a valid description goes into the store that doesn't hold the last finished one, over the other.
 pub fn keep(
@@ -18,7 +18,7 @@ pub fn keep(
     second: &mut [u8],
 )
     requires { ⌜ Drawable kind (flat (now head) (now macroblocks) (now levels)) (now first) (now second) ⌝ }
-    ensures { λ _. ⌜ stores (now (first .exit)) (now (second .exit)) ≡ kept holder (codingOf kind .render (flat (now (head .entry)) (now (macroblocks .entry)) (now (levels .entry))) (reference holder (stores (now (first .entry)) (now (second .entry))))) (stores (now (first .entry)) (now (second .entry))) ⌝ }
+    ensures { λ _. ⌜ stores (now (first .exit)) (now (second .exit)) ≡ storesWith holder (codingOf kind .render (flat (now (head .entry)) (now (macroblocks .entry)) (now (levels .entry))) (reference holder (stores (now (first .entry)) (now (second .entry))))) (stores (now (first .entry)) (now (second .entry))) ⌝ }
 {
     match holder {
         Holder::Neither => coding::render(kind, head, macroblocks, levels, second, first),

@@ -13,10 +13,10 @@ use Rattle.laws.specs.Choice.{pick}
 use Rattle.laws.proofs.Rows.{lt-or-ge}
 use Rattle.bits.specs.Bits.{Bit, bitsOf, bitsIn, bitsFrom, source}
 use Rattle.bits.proofs.Source.{source-left}
-use Rattle.bits.specs.Write.{written}
+use Rattle.bits.specs.Write.{bytesWith}
 use Rattle.bits.proofs.Write.{length-written, written-bits}
 use Rattle.stream.specs.declared.Stream.{Stream}
-use Rattle.stream.specs.Stream.{bitNumber, oneMore, fresh, windowAfter, startsAt, offsetOf, begunBy, longerBy, after, beginning, extended, keptAfter}
+use Rattle.stream.specs.Stream.{bitNumber, oneMore, freshStream, windowAfter, startsAt, offsetOf, begunBy, longerBy, streamAfter, beginning, extended, keptAfter}
 use Rattle.stream.proofs.StreamLaws.{more-below}
 use Rattle.stream.specs.Last.{startCode, Last, none, found, lastPicture, Ends, Says, lastOne, beforeLast, longer}
 use Rattle.stream.proofs.Last.{last-says, ends-here, goes-on, length-snoc, last-one, last-zero, before-one, before-zero, code-length, code-last, code-before, begins-length, before-code, almost, next-is, picture-is}
@@ -97,8 +97,8 @@ next seen b = go (startsAt (stateOf seen) b) refl
     go false e = going e (goes-on seen b (λ earlier same. eqb-false (windowAfter (number (lastTwenty seen)) b) 16 e (window-more seen b ∙ with-end (seen ++ (b ∷ [])) earlier same)))
 
 module _ (seen : List Bool) (b : Bool) (small : length seen < 18446744073709551615) where
-  step : after (stateOf seen) b ≡ stateOf (seen ++ (b ∷ []))
-  unfolding after
+  step : streamAfter (stateOf seen) b ≡ stateOf (seen ++ (b ∷ []))
+  unfolding streamAfter
   step = go (next seen b)
     where
       go : Next seen b → pick (startsAt (stateOf seen) b) (begunBy (stateOf seen) b) (longerBy (stateOf seen) b) ≡ stateOf (seen ++ (b ∷ []))
@@ -118,13 +118,13 @@ steps seen (b ∷ bits) l =
     let rest : length (seen ++ (b ∷ [])) + length bits < 18446744073709551616 = omega (arith, l, length-snoc seen b) in
     ap (λ (s : Stream). ranFrom s bits) (step seen b one) ∙ steps (seen ++ (b ∷ [])) bits rest ∙ ap stateOf (append-snoc seen b bits)
 
-told-fresh : fresh ≡ stateOf []
+told-fresh : freshStream ≡ stateOf []
 unfolding lastPicture number
 told-fresh = refl
 
 -- ---- the window, however many bits have gone by
-window-after : (s : Stream) (b : Bool) → after s b .window ≡ windowAfter (s .window) b
-unfolding after
+window-after : (s : Stream) (b : Bool) → streamAfter s b .window ≡ windowAfter (s .window) b
+unfolding streamAfter
 window-after s b = go (startsAt s b)
   where
     go : (t : Bool) → pick t (begunBy s b) (longerBy s b) .window ≡ windowAfter (s .window) b
@@ -134,7 +134,7 @@ window-after s b = go (startsAt s b)
 windows : (s : Stream) (seen bits : List Bool) → s .window ≡ number (lastTwenty seen) → ranFrom s bits .window ≡ number (lastTwenty (seen ++ bits))
 windows s seen [] e = e ∙ ap (λ (l : List Bool). number (lastTwenty l)) (sym (append-nil seen))
 windows s seen (b ∷ bits) e =
-    windows (after s b) (seen ++ (b ∷ [])) bits (window-after s b ∙ ap (λ (w : ℕ). windowAfter w b) e ∙ window-more seen b)
+    windows (streamAfter s b) (seen ++ (b ∷ [])) bits (window-after s b ∙ ap (λ (w : ℕ). windowAfter w b) e ∙ window-more seen b)
     ∙ ap (λ (l : List Bool). number (lastTwenty l)) (append-snoc seen b bits)
 
 -- ---- the buffer
@@ -163,7 +163,7 @@ bits-none bytes = refl
 holds-code : (n : ℕ) (bytes : List ℕ) → length bytes ≡ n → 20 ≤ 8 * n → Holds n (beginning bytes) startCode
 holds-code n bytes l room =
     let fits : 20 ≤ 8 * length bytes = omega (arith, l, room) in
-    let is : beginning bytes ≡ written bytes 0 (bitsOf 20 16) = ap (λ (t : Bool). pick t (written bytes 0 (bitsOf 20 16)) bytes) (le-leb 20 (8 * length bytes) fits) in
+    let is : beginning bytes ≡ bytesWith bytes 0 (bitsOf 20 16) = ap (λ (t : Bool). pick t (bytesWith bytes 0 (bitsOf 20 16)) bytes) (le-leb 20 (8 * length bytes) fits) in
     let count : min (length startCode) (8 * n) ≡ 20 = omega (arith, code-length, room) in
     let whole : length (map asBit startCode) ≤ 8 * n = omega (arith, length-map startCode asBit, code-length, room) in
     record {
@@ -183,7 +183,7 @@ holds-more n bytes own b h = go (ltb (length own) (8 * length bytes)) refl
     more : map asBit (own ++ (b ∷ [])) ≡ map asBit own ++ (asBit b ∷ [])
     more = map-append asBit own (b ∷ [])
 
-    go : (t : Bool) → ltb (length own) (8 * length bytes) ≡ t → Holds n (pick t (written bytes (length own) (bitsOf 1 (bitNumber b))) bytes) (own ++ (b ∷ []))
+    go : (t : Bool) → ltb (length own) (8 * length bytes) ≡ t → Holds n (pick t (bytesWith bytes (length own) (bitsOf 1 (bitNumber b))) bytes) (own ++ (b ∷ []))
     go true e =
         let l : length own + length (bitsOf 1 (bitNumber b)) ≤ 8 * length bytes = omega (arith, ltb-true (length own) (8 * length bytes) e) in
         let before : min (length own) (8 * n) ≡ length own = omega (arith, l, h .size) in
@@ -194,7 +194,7 @@ holds-more n bytes own b h = go (ltb (length own) (8 * length bytes)) refl
         record {
           size = length-written bytes (length own) (bitsOf 1 (bitNumber b)) l ∙ h .size;
           first =
-              ap (bitsFrom (written bytes (length own) (bitsOf 1 (bitNumber b))) 0) count ∙ written-bits bytes (length own) (bitsOf 1 (bitNumber b)) l
+              ap (bitsFrom (bytesWith bytes (length own) (bitsOf 1 (bitNumber b))) 0) count ∙ written-bits bytes (length own) (bitsOf 1 (bitNumber b)) l
               ∙ ap (λ (s : List Bit). s ++ bitsOf 1 (bitNumber b)) was ∙ ap (λ (s : List Bit). map asBit own ++ s) (one-bit b) ∙ sym more
               ∙ sym (take-all (8 * n) (map asBit (own ++ (b ∷ []))) fits);
         }
@@ -255,7 +255,7 @@ held-whole s room picture whole more e h =
 -- ---- the theorems
 -- the window is the last 20 bits
 pub window : (seen : List Bool) → ran seen .window ≡ number (lastTwenty seen)
-window seen = windows fresh [] seen (ap (λ (s : Stream). s .window) told-fresh)
+window seen = windows freshStream [] seen (ap (λ (s : Stream). s .window) told-fresh)
 
 -- and a picture starts with the next bit exactly where that ends a start code
 pub starts : (seen : List Bool) (b : Bool) → (startsAt (ran seen) b ≡ true) ↔ ((earlier : List Bool) × (seen ++ (b ∷ []) ≡ earlier ++ startCode))
@@ -274,7 +274,7 @@ pub picture-kept : PictureKept
 unfolding lastPicture
 picture-kept seen bytes earlier picture l room e =
     let n = length bytes in
-    let held : Holds n (keptFrom fresh seen bytes) (current seen) =
+    let held : Holds n (keptFrom freshStream seen bytes) (current seen) =
     rw told-fresh (holds-steps n room [] seen bytes (omega (arith, l)) (holds-none bytes)) in
     let h : Holds n (keptBytes seen bytes) picture = rw e at held in
     let k = min (length picture) (8 * n) in

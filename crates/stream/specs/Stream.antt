@@ -6,7 +6,7 @@ use lib.Dec.{eqb, ltb, leb}
 use lib.ListN.{length}
 use Rattle.laws.specs.Choice.{pick}
 use Rattle.bits.specs.Bits.{bitsOf}
-use Rattle.bits.specs.Write.{written}
+use Rattle.bits.specs.Write.{bytesWith}
 use Rattle.stream.specs.declared.Stream.{Stream}
 
 abbrev pub bitNumber : Bool → ℕ
@@ -18,8 +18,8 @@ abbrev pub oneMore : ℕ → ℕ
 oneMore n = pick (ltb n 18446744073709551615) (n + 1) n
 
 -- before the first bit: no zero has been seen
-abbrev pub fresh : Stream
-fresh = record { place = 0; window = 1048575; begun = false; offset = 0; count = 0; last = 0; «before» = 0 }
+abbrev pub freshStream : Stream
+freshStream = record { place = 0; window = 1048575; begun = false; offset = 0; count = 0; last = 0; «before» = 0 }
 
 -- the last 20 bits, with one more
 abbrev pub windowAfter : ℕ → Bool → ℕ
@@ -57,15 +57,15 @@ longerBy s bit = record {
   «before» = pick bit (s .last) (s .«before»);
 }
 
-unfoldable pub after : Stream → Bool → Stream
-after s bit = pick (startsAt s bit) (begunBy s bit) (longerBy s bit)
+unfoldable pub streamAfter : Stream → Bool → Stream
+streamAfter s bit = pick (startsAt s bit) (begunBy s bit) (longerBy s bit)
 
 -- the picture's bits, from the start of the buffer on, as far as it reaches
 abbrev pub beginning : List ℕ → List ℕ
-beginning bytes = pick (leb 20 (8 * length bytes)) (written bytes 0 (bitsOf 20 16)) bytes
+beginning bytes = pick (leb 20 (8 * length bytes)) (bytesWith bytes 0 (bitsOf 20 16)) bytes
 
 abbrev pub extended : ℕ → Bool → List ℕ → List ℕ
-extended count bit bytes = pick (ltb count (8 * length bytes)) (written bytes count (bitsOf 1 (bitNumber bit))) bytes
+extended count bit bytes = pick (ltb count (8 * length bytes)) (bytesWith bytes count (bitsOf 1 (bitNumber bit))) bytes
 
 unfoldable pub keptAfter : Stream → Bool → List ℕ → List ℕ
 keptAfter s bit bytes = pick (startsAt s bit) (beginning bytes) (extended (s .count) bit bytes)

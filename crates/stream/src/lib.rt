@@ -3,13 +3,12 @@ use h261_groups::Format;
 use refusals::Refusal;
 use refusals::Verdict;
 ghost use mathlib.Core.Path.{_≡_};
-ghost use mathlib.Core.Bool.{Bool};
 ghost use Prim.Native.Nat.{min, max};
 ghost use Rattle.layout.specs.Flat.{flat};
-ghost use Rattle.h261_reader.specs.Described.{verdictOf};
-ghost use Rattle.h261_reader.specs.ReadOf.{flatAfter};
-ghost use Rattle.stream.specs.Stream.{bitNumber, oneMore, fresh, windowAfter, startsAt, offsetOf, begunBy, longerBy, after, beginning, extended, keptAfter};
-ghost use Rattle.stream.specs.Filled.{amongZeros, unfilled, filled};
+ghost use Rattle.refusals.specs.Number.{number};
+ghost use Rattle.refusals.specs.Told.{toldVerdict, verdictOn, foundOr};
+ghost use Rattle.stream.specs.Stream.{bitNumber, oneMore, freshStream, windowAfter, startsAt, offsetOf, begunBy, longerBy, streamAfter, beginning, extended, keptAfter};
+ghost use Rattle.stream.specs.Filled.{amongZeros, unfilled, filledRead};
 
 // What has gone by of a stream.
 pub struct Stream {
@@ -29,7 +28,7 @@ pub struct Stream {
 // ---- a bit
 
 pub fn open() -> Stream
-    ensures { λ r. ⌜ r ≡ fresh ⌝ }
+    ensures { λ r. ⌜ r ≡ freshStream ⌝ }
 {
     Stream {
         place: 0,
@@ -149,7 +148,7 @@ fn extend(count: usize, bit: bool, picture: &mut [u8])
 
 // One more bit: what has gone by then, and the picture's bits in the lent buffer, as far as it reaches.
 pub fn push(stream: Stream, bit: bool, picture: &mut [u8]) -> Stream
-    ensures { λ r. ⌜ r ≡ after stream bit ⌝ }
+    ensures { λ r. ⌜ r ≡ streamAfter stream bit ⌝ }
     ensures { λ _. ⌜ now (picture .exit) ≡ keptAfter stream bit (now (picture .entry)) ⌝ }
 {
     if starts(stream, bit) {
@@ -181,7 +180,7 @@ fn larger(a: usize, b: usize) -> usize
 }
 
 fn among_zeros(why: Refusal, ones: usize) -> bool
-    ensures { λ r. ⌜ r ≡ amongZeros why ones ⌝ }
+    ensures { λ r. ⌜ r ≡ amongZeros (number (why .reason)) (why .place) ones ⌝ }
 {
     let reason = why.reason;
     let number = refusals::number_of(reason);
@@ -204,8 +203,8 @@ fn read_unfilled(
     macroblocks: &mut [u8],
     levels: &mut [u8],
 ) -> Verdict
-    ensures verdict { λ r. ⌜ r ≡ verdictOf (unfilled format (now (bytes .entry)) ones (flat (now (head .entry)) (now (macroblocks .entry)) (now (levels .entry))) why) ⌝ }
-    ensures buffers { λ _. ⌜ flat (now (head .exit)) (now (macroblocks .exit)) (now (levels .exit)) ≡ flatAfter (flat (now (head .entry)) (now (macroblocks .entry)) (now (levels .entry))) (unfilled format (now (bytes .entry)) ones (flat (now (head .entry)) (now (macroblocks .entry)) (now (levels .entry))) why) ⌝ }
+    ensures verdict { λ r. ⌜ toldVerdict r ≡ verdictOn (unfilled format (now (bytes .entry)) ones (flat (now (head .entry)) (now (macroblocks .entry)) (now (levels .entry))) (number (why .reason)) (why .place)) ⌝ }
+    ensures buffers { λ _. ⌜ flat (now (head .exit)) (now (macroblocks .exit)) (now (levels .exit)) ≡ foundOr (flat (now (head .entry)) (now (macroblocks .entry)) (now (levels .entry))) (unfilled format (now (bytes .entry)) ones (flat (now (head .entry)) (now (macroblocks .entry)) (now (levels .entry))) (number (why .reason)) (why .place)) ⌝ }
 {
     if !among_zeros(why, ones) {
         return Verdict::Refused(why);
@@ -227,8 +226,8 @@ pub fn read(
     macroblocks: &mut [u8],
     levels: &mut [u8],
 ) -> Verdict
-    ensures verdict { λ r. ⌜ r ≡ verdictOf (filled format (now (bytes .entry)) count ones (flat (now (head .entry)) (now (macroblocks .entry)) (now (levels .entry)))) ⌝ }
-    ensures buffers { λ _. ⌜ flat (now (head .exit)) (now (macroblocks .exit)) (now (levels .exit)) ≡ flatAfter (flat (now (head .entry)) (now (macroblocks .entry)) (now (levels .entry))) (filled format (now (bytes .entry)) count ones (flat (now (head .entry)) (now (macroblocks .entry)) (now (levels .entry)))) ⌝ }
+    ensures verdict { λ r. ⌜ toldVerdict r ≡ verdictOn (filledRead format (now (bytes .entry)) count ones (flat (now (head .entry)) (now (macroblocks .entry)) (now (levels .entry)))) ⌝ }
+    ensures buffers { λ _. ⌜ flat (now (head .exit)) (now (macroblocks .exit)) (now (levels .exit)) ≡ foundOr (flat (now (head .entry)) (now (macroblocks .entry)) (now (levels .entry))) (filledRead format (now (bytes .entry)) count ones (flat (now (head .entry)) (now (macroblocks .entry)) (now (levels .entry)))) ⌝ }
 {
     let most = larger(h261_groups::limit(format), ones);
     let first = smaller(count, most);

@@ -11,6 +11,7 @@ use h261_groups::Format;
 use libc::STDERR_FILENO;
 use refusals::Refusal;
 use sender::Sender;
+use size::Size;
 use standing::Receiver;
 
 mod deliver;
@@ -34,26 +35,26 @@ enum Called {
     Ended,
 }
 
-// ---- buffers: the sender's output or the receiver's collection buffer, and two stores, with room for either format
+// ---- buffers: the sender's output or the receiver's collection buffer, and two stores, with room for any size
 
-fn format_of(party: Party) -> Format {
+fn size_of(party: Party) -> Size {
     match party {
         Party::Sending(sender) => {
             let kind = sender.kind;
-            coding::format_of(kind)
+            coding::size_of(kind)
         }
         Party::Receiving(receiver) => {
             let kind = receiver.kind;
-            coding::format_of(kind)
+            coding::size_of(kind)
         }
     }
 }
 
 fn buffer_length(party: Party) -> usize {
-    let format = format_of(party);
+    let size = size_of(party);
     match party {
-        Party::Sending(_) => h261_groups::blocks_length(format),
-        Party::Receiving(_) => h261_groups::collection_length(format),
+        Party::Sending(_) => size::blocks_length(size),
+        Party::Receiving(_) => size::collection_length(size),
     }
 }
 
@@ -66,7 +67,7 @@ fn before(party: Party) -> u8 {
 
 // " BUFFER FIRST SECOND"
 fn say_checks(party: Party, buffer: &[u8], first: &[u8], second: &[u8]) {
-    let samples = h261_groups::store_length(format_of(party));
+    let samples = size::store_length(size_of(party));
     let most = part(buffer_length(party), buffer);
     let firsts = part(samples, first);
     let seconds = part(samples, second);
@@ -97,7 +98,7 @@ fn lend(
     first: &mut [u8],
     second: &mut [u8],
 ) -> Called {
-    let samples = h261_groups::store_length(format_of(party));
+    let samples = size::store_length(size_of(party));
     let short = short_of(party, start);
     let most = part(lent(buffer_length(party), short == 1), buffer);
     let firsts = part(lent(samples, short == 2), first);

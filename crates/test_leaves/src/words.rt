@@ -4,7 +4,6 @@
 // bits. Bytes 2-3 are N and 4-5 the place, high byte first; byte 6 is the slice's length, at most 24, and the slice stands from byte 8 on.
 // Lines: "got MEANING NEXT", "got RUN LEVEL NEXT", "eob NEXT", "refused NUMBER PLACE"; "refused 2 0" where the record asks for no such read.
 use bits::FieldRead;
-use bits::WordRead;
 use checks::say;
 use checks::say_number;
 use checks::two;
@@ -46,13 +45,6 @@ fn say_field(r: FieldRead) {
     }
 }
 
-fn say_word(r: WordRead) {
-    match r {
-        WordRead::Got(m, p) => say_got(m as u64, p),
-        WordRead::Refused(x) => say_refused(x),
-    }
-}
-
 // A level in eight bits, with its sign.
 fn say_level(code: u8) {
     if code < 128 {
@@ -85,10 +77,10 @@ fn ask_word(tables: &[u16; 1521], kind: u8, bytes: &[u8], count: usize, at: usiz
     requires { ⌜ (Tables (now tables)) × (Within (now bytes) count at) ⌝ }
 {
     match kind {
-        1 => say_word(h261_words::mba(tables, bytes, count, at)),
-        2 => say_word(h261_words::mtype(tables, bytes, count, at)),
-        3 => say_word(h261_words::mvd(tables, bytes, count, at)),
-        4 => say_word(h261_words::cbp(tables, bytes, count, at)),
+        1 => say_field(h261_words::mba(tables, bytes, count, at)),
+        2 => say_field(h261_words::mtype(tables, bytes, count, at)),
+        3 => say_field(h261_words::mvd(tables, bytes, count, at)),
+        4 => say_field(h261_words::cbp(tables, bytes, count, at)),
         5 => say_coefficient(h261_words::coefficient(tables, bytes, count, at, false)),
         6 => say_coefficient(h261_words::coefficient(tables, bytes, count, at, true)),
         _ => say_none(),

@@ -89,8 +89,9 @@ fn with_buffers(format: Format, bytes: &[u8], count: usize, pattern: &[u8; 15206
     let heads = part(h261_groups::head_length(format), &head);
     let fields = part(h261_groups::macroblocks_length(format), &macroblocks);
     let coefficients = part(h261_groups::levels_length(format), &levels);
-    let shown = part(h261_groups::store_length(format), reference);
-    let samples = part(h261_groups::store_length(format), &store);
+    let length = size::store_length(h261_groups::size_of(format));
+    let shown = part(length, reference);
+    let samples = part(length, &store);
     say(
         format,
         bytes,

@@ -14,7 +14,7 @@ fn say(
     reference: &[u8],
     store: &mut [u8],
 ) {
-    let samples = h261_groups::store_length(format);
+    let samples = size::store_length(h261_groups::size_of(format));
     if reference.len() != samples {
         return;
     }
@@ -36,10 +36,11 @@ pub fn one(format: Format) -> bool {
     let mut macroblocks = [0u8; 1584];
     let mut levels = [0u8; 152064];
     let mut reference = [0u8; 152064];
+    let length = size::store_length(h261_groups::size_of(format));
     if !fills_part(h261_groups::head_length(format), &mut head)
         || !fills_part(h261_groups::macroblocks_length(format), &mut macroblocks)
         || !fills_part(h261_groups::levels_length(format), &mut levels)
-        || !fills_part(h261_groups::store_length(format), &mut reference)
+        || !fills_part(length, &mut reference)
     {
         return false;
     }
@@ -47,8 +48,8 @@ pub fn one(format: Format) -> bool {
     let heads = part(h261_groups::head_length(format), &head);
     let fields = part(h261_groups::macroblocks_length(format), &macroblocks);
     let coefficients = part(h261_groups::levels_length(format), &levels);
-    let before = part(h261_groups::store_length(format), &reference);
-    let after = part(h261_groups::store_length(format), &store);
+    let before = part(length, &reference);
+    let after = part(length, &store);
     say(
         format,
         &head[..heads],

@@ -5,22 +5,6 @@ use Rattle.refusals.specs.declared.Refusal.{Refusal}
 use Rattle.refusals.specs.Number.{number}
 use Rattle.text.specs.Text.{decimal, refusalText}
 
--- "blocks "
-abbrev pub blocksWord : List ℕ
-blocksWord = 98 ∷ 108 ∷ 111 ∷ 99 ∷ 107 ∷ 115 ∷ 32 ∷ []
-
--- " to "
-abbrev pub toWord : List ℕ
-toWord = 32 ∷ 116 ∷ 111 ∷ 32 ∷ []
-
--- " not in step", and a line's end
-abbrev pub outOfStep : List ℕ
-outOfStep = 32 ∷ 110 ∷ 111 ∷ 116 ∷ 32 ∷ 105 ∷ 110 ∷ 32 ∷ 115 ∷ 116 ∷ 101 ∷ 112 ∷ 10 ∷ []
-
--- a stretch that was not in step: "blocks 3 to 7 not in step"
-unfoldable pub stretchText : ℕ → ℕ → List ℕ
-stretchText from to = blocksWord ++ decimal from ++ toWord ++ decimal to ++ outOfStep
-
 -- " pictures", and a line's end
 abbrev pub picturesWord : List ℕ
 picturesWord = 32 ∷ 112 ∷ 105 ∷ 99 ∷ 116 ∷ 117 ∷ 114 ∷ 101 ∷ 115 ∷ 10 ∷ []

@@ -7,20 +7,7 @@ ghost use mathlib.Core.Path.{_≡_};
 ghost use lib.ListN.{length};
 ghost use Rattle.io.specs.Counts.{Counts};
 ghost use Rattle.text.specs.Text.{over};
-ghost use Rattle.text.specs.Remarks.{stretchText, countText, refusedText, progressText};
-
-// Blocks that were not in step.
-pub fn stretch(from: u64, to: u64, out: &mut [u8; 128]) -> usize
-    ensures { λ r. ⌜ Counts r (now (out .exit)) ⌝ }
-    ensures { λ r. ⌜ r ≡ length (stretchText from to) ⌝ }
-    ensures { λ r. ⌜ now (out .exit) ≡ over (stretchText from to) (now (out .entry)) ⌝ }
-{
-    let named = put(b"blocks ", 0, out);
-    let begun = put_number(from, named, out);
-    let joined = put(b" to ", begun, out);
-    let ended = put_number(to, joined, out);
-    put(b" not in step\n", ended, out)
-}
+ghost use Rattle.text.specs.Remarks.{countText, refusedText, progressText};
 
 // How many pictures there were.
 pub fn pictures(count: u64, out: &mut [u8; 128]) -> usize

@@ -1,12 +1,31 @@
 -- Document 01: "The tick of a picture is its number. Its due time in seconds is 1001 times the tick, over 30000, in f64: one division, rounded
 -- once, of two exactly converted whole numbers." Assumes nothing.
 use mathlib.Core.Path.{_≡_}
-use Prim.Native.Nat.{ℕ, _*_}
+use mathlib.Core.Bool.{false}
+use Prim.Native.Nat.{ℕ, _*_, _^_, _<_}
 use lib.IntN.{pos}
-use lib.Ieee.{Float, binary64, div, ofInt, ofBits}
+use lib.Ieee.{Float, binary64, div, round, ofInt, ofBits}
+use lib.Ieee.Exact.{HasValue}
+
+-- a whole number `as f64`
+unfoldable pub converted : ℕ → Float
+converted n = ofInt binary64 (pos n)
 
 unfoldable pub dueOf : ℕ → Float
-dueOf tick = div binary64 (ofInt binary64 (pos (1001 * tick))) (ofInt binary64 (pos 30000))
+unfolding converted
+dueOf tick = div binary64 (converted (1001 * tick)) (converted 30000)
+
+-- "exactly converted": the f64 is finite, not negative, and n over 1 in size
+abbrev pub Exactly : ℕ → Type 0
+Exactly n = HasValue (converted n) false n 1
+
+-- "two exactly converted whole numbers", whichever u32 the tick is
+abbrev pub ConvertedExactly : Type 0
+ConvertedExactly = ((tick : ℕ) → tick < 2 ^ 32 → Exactly (1001 * tick)) × Exactly 30000
+
+-- "one division, rounded once": the f64 that is nearest to 1001 times the tick over 30000
+abbrev pub RoundedOnce : Type 0
+RoundedOnce = (tick : ℕ) → tick < 2 ^ 32 → dueOf tick ≡ round binary64 false (1001 * tick) 30000
 
 -- "Tick 3750 gives exactly 125.125.", whose bits are 405f480000000000 (hex)
 abbrev pub Due3750 : Type 0

@@ -2,7 +2,7 @@
 ghost use mathlib.Core.Path.{_≡_};
 ghost use Rattle.ticks.specs.Due.{dueOf};
 
-// 1001 times any tick is below 2^53, so both numbers convert exactly.
+// Both numbers convert exactly (`converted-exactly`), whichever the tick is, so that the quotient alone is rounded (`rounded-once`).
 pub fn due(tick: u32) -> f64
     ensures { λ r. ⌜ r ≡ dueOf tick ⌝ }
     ensures exact { λ r. do ⌜ (tick ≡ 3750 → r ≡ (← ⟦125.125f64⟧ .entry)) ⌝ }

@@ -16,9 +16,9 @@ use Rattle.laws.proofs.Row.{getD-row, row-append}
 use Rattle.size.specs.declared.Size.{Size}
 use Rattle.size.specs.declared.Size.the-variants.{SubQcif, Qcif, Cif}
 use Rattle.size.specs.Size.{limit}
-use Rattle.vault.specs.declared.Checked.the-variants.{Good}
-use Rattle.vault.specs.Block.{unused, clear, pictures, greatestPart, ruled, payloadOf, checkOf, judgeOf}
-use Rattle.vault.specs.Parts.{partCount, usedAt, keptByte, payloadAt, headerAt, blockAt, firstBlocks, placed}
+use Rattle.refusals.specs.Told.{accepted}
+use Rattle.vault.specs.Block.{unused, unusedClear, pictures, greatestPart, headerRuled, payloadOf, checkOf, judgeOf}
+use Rattle.vault.specs.Parts.{partCount, usedAt, keptByte, payloadAt, headerAt, blockAt, firstBlocks, placedPayload}
 use Rattle.vault.proofs.Clear.{clear-all}
 use Rattle.vault.proofs.KeptLaws.{kept-zero, kept-clear, payload-length, payload-byte}
 use Rattle.vault.proofs.Cut.{at-length, first-length}
@@ -46,8 +46,8 @@ started count part l = omega arith
 module _ (clip picture : ℕ) (refresh : Bool) (bytes : List ℕ) (count : ℕ) where
   -- ---- each block is good
   module _ (size : Size) {part : ℕ} (p : Part size clip picture count part) where
-    header-ruled : ruled size (headerAt clip picture refresh count part) ≡ true
-    unfolding ruled
+    header-ruled : headerRuled size (headerAt clip picture refresh count part) ≡ true
+    unfolding headerRuled
     header-ruled =
         both-true (le-leb 1 clip (p .clip-is))
         (both-true (lt-ltb picture pictures (p .picture-is))
@@ -65,7 +65,7 @@ module _ (clip picture : ℕ) (refresh : Bool) (bytes : List ℕ) (count : ℕ) 
         full : eqb (part + 1) (partCount count) ≡ false → usedAt count part ≡ 4000
         full e = omega (arith, eqb-false (part + 1) (partCount count) e, p .part-is)
 
-    payload-clear : clear (usedAt count part) (payloadAt bytes count part) 500 ≡ true
+    payload-clear : unusedClear (usedAt count part) (payloadAt bytes count part) 500 ≡ true
     payload-clear =
         clear-all (usedAt count part) (payloadAt bytes count part) 500
         (λ j l. (λ i. payload-byte bytes count part j l i % 2 ^ same j l i) ∙ kept-zero bytes count (500 * part + j))
@@ -74,13 +74,13 @@ module _ (clip picture : ℕ) (refresh : Bool) (bytes : List ℕ) (count : ℕ) 
         same j l = omega (arith, started count part (p .part-is))
 
     -- judged good, with its own header
-    at-good : checkOf size (blockAt clip picture refresh bytes count part) ≡ Good (headerAt clip picture refresh count part)
+    at-good : checkOf size (blockAt clip picture refresh bytes count part) ≡ accepted (headerAt clip picture refresh count part)
     unfolding blockAt
     at-good =
         made-good size (headerAt clip picture refresh count part) (payloadAt bytes count part) (payload-length bytes count part) header-ruled
         payload-clear
 
-    judged-good-at : judgeOf size clip (blockAt clip picture refresh bytes count part) ≡ Good (headerAt clip picture refresh count part)
+    judged-good-at : judgeOf size clip (blockAt clip picture refresh bytes count part) ≡ accepted (headerAt clip picture refresh count part)
     judged-good-at =
         good-judged size (blockAt clip picture refresh bytes count part) (headerAt clip picture refresh count part) at-good
 
@@ -116,8 +116,8 @@ pub at-judged : BlocksJudged
 at-judged clip picture refresh bytes count size part p = judged-good-at clip picture refresh bytes count size p
 
 pub placed-length : (block : List ℕ) (part : ℕ) (collection : List ℕ) → length block ≡ 512 → 500 * part + 500 ≤ length collection
-    → length (placed block part collection) ≡ length collection
-unfolding placed
+    → length (placedPayload block part collection) ≡ length collection
+unfolding placedPayload
 placed-length block part collection e l =
     omega (
       arith,
@@ -136,8 +136,8 @@ module _ (bytes : List ℕ) (count : ℕ) where
 
   -- part n is taken
   pub collected-more : (block : List ℕ) (n : ℕ) (collection : List ℕ) → payloadOf block ≡ payloadAt bytes count n → 500 * n + 500 ≤ length collection
-      → Collected bytes count n collection → Collected bytes count (n + 1) (placed block n collection)
-  unfolding placed payloadAt
+      → Collected bytes count n collection → Collected bytes count (n + 1) (placedPayload block n collection)
+  unfolding placedPayload payloadAt
   collected-more block n collection e l h = record {
     first =
         take-at (take (500 * n) collection ++ payloadOf block) (drop (500 * n + 500) collection) (500 * (n + 1)) long

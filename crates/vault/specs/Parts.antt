@@ -69,5 +69,5 @@ pub record BlocksRoom (picture : ℕ) (bytes : List ℕ) (count : ℕ) (out : Li
   pub room : 512 * partCount count ≤ length out
 
 -- "Taken copies 500 payload bytes to 500 times part in the collection buffer"
-unfoldable pub placed : List ℕ → ℕ → List ℕ → List ℕ
-placed block part collection = take (500 * part) collection ++ payloadOf block ++ drop (500 * part + 500) collection
+unfoldable pub placedPayload : List ℕ → ℕ → List ℕ → List ℕ
+placedPayload block part collection = take (500 * part) collection ++ payloadOf block ++ drop (500 * part + 500) collection

@@ -9,8 +9,9 @@ ghost use lib.Dec.{eqb};
 ghost use lib.ListN.{length, drop};
 ghost use lib.Seq.{sets, paste};
 ghost use Rattle.laws.specs.Choice.{both};
-ghost use Rattle.vault.specs.Block.{pairAt, pictureOf, headerOf, pictures, greatestPart, refreshRule, usedRule, ruled as ruledOf, unused, clear, payloadOf, follows as followsOf, sumOf, refusedBy, checkOf, judgeOf, marksFor, headBytes, twoBytes, blockFor};
-ghost use Rattle.vault.specs.Parts.{partCount, usedAt, keptByte, payloadAt, headerAt, blocksOf, PartIn, PayloadRoom, BlocksRoom, placed};
+ghost use Rattle.refusals.specs.Number.{refusal};
+ghost use Rattle.vault.specs.Block.{pairAt, pictureOf, headerOf, pictures, greatestPart, refreshRule, usedRule, headerRuled as ruledOf, unused, unusedClear, payloadOf, fieldsFollow as followsOf, sumOf, toldChecked, checkOf, judgeOf, marksFor, headBytes, twoBytes, blockFor};
+ghost use Rattle.vault.specs.Parts.{partCount, usedAt, keptByte, payloadAt, headerAt, blocksOf, PartIn, PayloadRoom, BlocksRoom, placedPayload};
 
 // What a block says before its payload.
 pub struct Header {
@@ -149,7 +150,7 @@ fn unused_weight(used: usize, i: usize) -> u32
 // The bytes before the one that bit `used` stands in have no unused bits.
 fn unused_zero(block: &[u8], used: usize) -> bool
     requires { ⌜ length (now block) ≡ 512 ⌝ }
-    ensures { λ r. ⌜ r ≡ clear used (payloadOf (now (block .entry))) 500 ⌝ }
+    ensures { λ r. ⌜ r ≡ unusedClear used (payloadOf (now (block .entry))) 500 ⌝ }
 {
     let mut i = used / 8;
     while i < 500 {
@@ -181,14 +182,14 @@ fn follows(size: Size, header: Header, block: &[u8]) -> bool
 // ---- judging a block
 
 fn refused(reason: Reason) -> Checked
-    ensures { λ r. ⌜ r ≡ refusedBy reason ⌝ }
+    ensures { λ r. ⌜ r ≡ Checked.Refused (refusal reason 0) ⌝ }
 {
     Checked::Refused(Refusal { reason, place: 0 })
 }
 
 // 1, 21, 22, or the block's header.
 pub fn check(size: Size, block: &[u8]) -> Checked
-    ensures { λ r. ⌜ r ≡ checkOf size (now (block .entry)) ⌝ }
+    ensures { λ r. ⌜ toldChecked r ≡ checkOf size (now (block .entry)) ⌝ }
 {
     if block.len() != 512 {
         return refused(Reason::Length);
@@ -207,7 +208,7 @@ pub fn check(size: Size, block: &[u8]) -> Checked
 
 // 1, 21, 22, 23, or the header of a block of this clip.
 pub fn judge(size: Size, clip: u16, block: &[u8]) -> Checked
-    ensures { λ r. ⌜ r ≡ judgeOf size clip (now (block .entry)) ⌝ }
+    ensures { λ r. ⌜ toldChecked r ≡ judgeOf size clip (now (block .entry)) ⌝ }
 {
     match check(size, block) {
         Checked::Good(header) => {
@@ -394,7 +395,7 @@ pub fn blocks(
 // The payload goes to 500 times the part.
 pub fn place(block: &[u8], part: u8, collection: &mut [u8])
     requires { ⌜ (length (now block) ≡ 512) × (500 * part + 500 ≤ length (now collection)) ⌝ }
-    ensures { λ _. ⌜ now (collection .exit) ≡ placed (now (block .entry)) part (now (collection .entry)) ⌝ }
+    ensures { λ _. ⌜ now (collection .exit) ≡ placedPayload (now (block .entry)) part (now (collection .entry)) ⌝ }
 {
     let at = 500 * (part as usize);
     let end = at + 500;

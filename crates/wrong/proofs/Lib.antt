@@ -1,6 +1,5 @@
 pub mod WrongPrograms
-pub mod Whole
-pub mod Example
-pub mod Renumbering
-pub mod Single
+pub mod MadeUp
+pub mod Sampled
 pub mod WrongReceivers
+pub mod DrawingFirst

@@ -1,14 +1,13 @@
 -- The wrong readers and writers that document 01 names don't meet demand 2. Assumes nothing.
-use Prim.Native.Nat.{ℕ, _*_, _≤_}
+use Prim.Native.Nat.{ℕ, _≤_}
 use mathlib.Core.Path.{_≡_, refl, sym, ap, _∙_}
 use mathlib.Core.List.{List, []}
 use native.Mathlib.Omega.{arith}
-use borrow.Author.Tests.{le-ltb}
-use lib.Dec.{T, lit<, lit≤}
-use lib.Seq.{take-take}
-use lib.ListN.{length, take, replicate, getD, length-replicate, getD-replicate}
-use Rattle.laws.proofs.Zeros.{zeros, length-zeros}
+use lib.Dec.{T, lit<}
+use lib.ListN.{length, replicate, getD, length-replicate, getD-replicate}
 use Rattle.refusals.specs.declared.Reason.the-variants.{BitsEnd}
+use Rattle.refusals.specs.Told.{accepted}
+use Rattle.refusals.proofs.Told.{told-apart}
 use Rattle.bits.specs.Bits.{Bit, bitsIn}
 use Rattle.bits.specs.Code.{longer, lookup, word}
 use Rattle.bits.specs.Write.{bytesOf, byteFrom}
@@ -18,22 +17,19 @@ use Rattle.h261_groups.specs.declared.Format.the-variants.{Qcif}
 use Rattle.h261_groups.specs.Format.{sizeOf}
 use Rattle.size.specs.Size.{limit, storeLength, outputLength}
 use Rattle.coding.specs.declared.Kind.the-variants.{H261Qcif}
-use Rattle.h261_description.specs.Value.{Picture, laid}
+use Rattle.h261_description.specs.Value.{Picture, laidPicture}
 use Rattle.layout.specs.Flat.{Flat, putGroups, putMacroblocks}
 use Rattle.h261_description.specs.Valid.{valid}
 use Rattle.fields.specs.Rules.{sparesFrom, spares}
 use Rattle.h261_layers.specs.Grammar.{mba, macroblocksFrom, groupHead, group, groupsRead, header, picture, reading}
 use Rattle.h261_reader.proofs.Verdicts.{accepted-valid, accepted-described}
-use Rattle.h261_reader.specs.Described.{described}
-use Rattle.h261_writer.specs.declared.Written.the-variants.{Bits}
 use Rattle.h261_writer.specs.Write.{macroblocksOf, groupOf, groupsOf, pictureOf}
-use Rattle.h261_writer.specs.Output.{written, writeOf, outputOf}
-use Rattle.bits.specs.Write.{Holds}
-use Rattle.demand2.proofs.WrittenBack.{writes, written-held, written-back}
+use Rattle.h261_writer.specs.Output.{pictureBits, writeOf}
+use Rattle.demand2.proofs.WrittenBack.{writes, written-back}
 use Rattle.sheet.specs.Sheet.{picture1, bytes1, P1}
 use Rattle.sheet.proofs.Sheet.{shown}
-use Rattle.demand2.proofs.Demand2.{refused-accepted}
-use Rattle.wrong.specs.WrongPrograms.{first, short, RefusingWrong, FixedWrong, FixedSamplesWrong, FirstForAllWrong, RefusingAllWrong, OneShortWrong}
+use Rattle.instances.proofs.Sending.{blank-long}
+use Rattle.wrong.specs.WrongPrograms.{first, blankOutput, RefusingWrong, FixedWrong, FixedSamplesWrong, FirstForAllWrong, RefusingAllWrong}
 use Rattle.demand2.specs.Demand2.{Follows}
 
 -- the P1 picture follows the rules
@@ -53,9 +49,9 @@ unfolding grey
 grey-first k = getD-replicate (storeLength (sizeOf Qcif)) 0 k 0 (lit< tt)
 
 pub refusing-wrong : RefusingWrong
-refusing-wrong why h =
+refusing-wrong number place h =
     let a = h .then H261Qcif bytes1 110 (grey 0) (grey-long 0) first-follows in
-    refused-accepted (why H261Qcif bytes1 110) (a .store) (a .is)
+    told-apart (sym (a .is))
 
 nothing-refused : reading Qcif [] 0 ≡ bad BitsEnd 0
 unfolding reading picture header fieldFrom bitsIn
@@ -90,36 +86,33 @@ second-read = refl
 pub first-valid : T (valid Qcif first)
 first-valid = accepted-valid Qcif bytes1 110 picture1 [] 110 (shown P1 .2)
 
-second-valid : T (valid Qcif (laid Qcif picture2))
+second-valid : T (valid Qcif (laidPicture Qcif picture2))
 second-valid = accepted-valid Qcif bytes2 110 picture2 [] 110 second-read
 
 -- P1's bits
-first-bits : written Qcif first ≡ pictureOf Qcif picture1
-unfolding written
+first-bits : pictureBits Qcif first ≡ pictureOf Qcif picture1
+unfolding pictureBits
 first-bits = ap (pictureOf Qcif) (accepted-described Qcif bytes1 110 picture1 [] 110 (shown P1 .2))
 
-pub first-long : length (written Qcif first) ≡ 110
+pub first-long : length (pictureBits Qcif first) ≡ 110
 first-long = ap length first-bits ∙ shown P1 .0
 
-pub first-below : length (written Qcif first) ≤ limit (sizeOf Qcif)
-first-below = let e : length (written Qcif first) ≡ 110 = first-long in omega arith
+pub first-below : length (pictureBits Qcif first) ≤ limit (sizeOf Qcif)
+first-below = let e : length (pictureBits Qcif first) ≡ 110 = first-long in omega arith
 
-first-written : (out : List ℕ) → length out ≡ outputLength (sizeOf Qcif) → writeOf Qcif first (length out) ≡ Bits 110
-first-written out e = writes Qcif first out first-valid first-below e ∙ ap Bits first-long
+first-written : (out : List ℕ) → length out ≡ outputLength (sizeOf Qcif) → writeOf Qcif first (length out) ≡ accepted 110
+first-written out e = writes Qcif first out first-valid first-below e ∙ ap accepted first-long
 
 -- an output of its length
-abbrev outputBefore : List ℕ
-outputBefore = zeros (outputLength (sizeOf Qcif))
-
-output-long : length outputBefore ≡ outputLength (sizeOf Qcif)
-output-long = length-zeros (outputLength (sizeOf Qcif))
+output-long : length (blankOutput Qcif) ≡ outputLength (sizeOf Qcif)
+output-long = blank-long (outputLength (sizeOf Qcif))
 
 pub first-for-all-wrong : FirstForAllWrong
-unfolding laid putGroups putMacroblocks
+unfolding laidPicture putGroups putMacroblocks
 first-for-all-wrong h =
-    let as-second = h .back Qcif (laid Qcif picture2) outputBefore 110 second-valid output-long (first-written outputBefore output-long) in
-    let as-first = written-back Qcif first outputBefore 110 (first-written outputBefore output-long) .read in
-    let same : laid Qcif picture1 ≡ laid Qcif picture2 = got-same (laid Qcif picture1) (laid Qcif picture2) (sym as-first ∙ as-second) in
+    let as-second = h .back Qcif (laidPicture Qcif picture2) (blankOutput Qcif) 110 second-valid output-long (first-written (blankOutput Qcif) output-long) in
+    let as-first = written-back Qcif first (blankOutput Qcif) 110 (first-written (blankOutput Qcif) output-long) .read in
+    let same : laidPicture Qcif picture1 ≡ laidPicture Qcif picture2 = got-same (laidPicture Qcif picture1) (laidPicture Qcif picture2) (sym as-first ∙ as-second) in
     let z : _≡_ {A = ℕ} 1 2 = ap (λ (x : Flat). getD (x .head) 0 0) same in
     omega arith
   where
@@ -127,28 +120,4 @@ first-for-all-wrong h =
     got-same a b e = cc
 
 pub refusing-all-wrong : RefusingAllWrong
-refusing-all-wrong why h = h .else Qcif first outputBefore (why Qcif first) first-valid first-below output-long refl
-
--- P2, out of any bytes that hold P1's bits first
-short-bits : picture Qcif (take 109 (pictureOf Qcif picture1)) 0 ≡ bad BitsEnd 109
-unfolding pictureOf groupsOf groupOf macroblocksOf fieldFrom longer lookup word table1 sparesFrom spares mba macroblocksFrom groupHead group groupsRead header picture
-short-bits = refl
-
-cut-short : (s : List ℕ) → Holds s (written Qcif first) → described Qcif s 109 ≡ bad BitsEnd 109
-unfolding described reading
-cut-short s held =
-    let l : length (written Qcif first) ≡ 110 = first-long in
-    let room : 109 ≤ 8 * length s = omega (arith, held .room, l) in
-    let whole : take 110 (bitsIn s) ≡ pictureOf Qcif picture1 = ap (λ (k : ℕ). take k (bitsIn s)) (sym l) ∙ held .bits ∙ first-bits in
-    let part : take 109 (bitsIn s) ≡ take 109 (pictureOf Qcif picture1) = sym (take-take 109 110 (bitsIn s) (lit≤ tt)) ∙ ap (take 109) whole in
-    rw (le-ltb (8 * length s) 109 room, part, short-bits) refl
-
-pub one-short-wrong : OneShortWrong
-one-short-wrong h =
-    let e : writeOf Qcif first (length outputBefore) ≡ Bits 110 = first-written outputBefore output-long in
-    let again = h .back Qcif first outputBefore 109 first-valid output-long (ap short e) in
-    let held = written-held Qcif first outputBefore 110 e in
-    never (sym (cut-short (outputOf Qcif first outputBefore) held) ∙ again)
-  where
-    never : bad BitsEnd 109 ≡ got first [] 109 → ⊥
-    never q = let z : _≡_ {A = ℕ} 0 1 = cc in omega arith
+refusing-all-wrong number place h = h .else Qcif first (blankOutput Qcif) (number Qcif first) (place Qcif first) first-valid first-below output-long refl

@@ -1,3 +1,3 @@
 pub mod WrongPrograms
-pub mod Renumbering
 pub mod WrongReceivers
+pub mod DrawingFirst

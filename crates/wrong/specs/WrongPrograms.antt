@@ -1,27 +1,29 @@
 -- The wrong readers and writers that document 01 names, "What the promises decide", don't meet demand 2. Assumes nothing.
-use Prim.Native.Nat.{ℕ, _-_}
+use Prim.Native.Nat.{ℕ, _≤_}
 use mathlib.Core.Path.{_≡_}
 use mathlib.Core.List.{List}
+use lib.Dec.{T}
 use lib.ListN.{length}
-use Rattle.refusals.specs.declared.Refusal.{Refusal}
+use Rattle.refusals.specs.Told.{accepted, refused}
 use Rattle.h261_groups.specs.declared.Format.{Format}
 use Rattle.h261_groups.specs.declared.Format.the-variants.{Qcif}
+use Rattle.h261_groups.specs.Format.{sizeOf}
+use Rattle.size.specs.Size.{limit, outputLength}
 use Rattle.layout.specs.Flat.{Flat}
-use Rattle.h261_description.specs.Value.{laid}
+use Rattle.h261_description.specs.Value.{laidPicture}
+use Rattle.h261_description.specs.Valid.{valid}
 use Rattle.coding.specs.declared.Kind.{Kind}
-use Rattle.coding.specs.Coding.{accepted, refused}
-use Rattle.h261_writer.specs.declared.Written.{Written}
-use Rattle.h261_writer.specs.declared.Written.the-variants.{Bits, Refused}
-use Rattle.h261_writer.specs.Output.{writeOf, outputOf}
+use Rattle.h261_writer.specs.Output.{pictureBits, outputOf}
 use Rattle.sheet.specs.Sheet.{picture1}
+use Rattle.instances.specs.Example.{blank}
 use Rattle.demand2.specs.Demand2.{RefusedExactly, EverySample, AcceptedExactly, Writer, Follows, write, Decoder, ReadsBack}
 
 -- ---- wrong: "a reader that refuses everything"
-abbrev pub refusing : (Kind → List ℕ → ℕ → Refusal) → Decoder
-refusing why k bytes n reference = refused (why k bytes n)
+abbrev pub refusing : (Kind → List ℕ → ℕ → ℕ) → (Kind → List ℕ → ℕ → ℕ) → Decoder
+refusing number place k bytes n reference = refused (number k bytes n) (place k bytes n)
 
 abbrev pub RefusingWrong : Type 0
-RefusingWrong = (why : Kind → List ℕ → ℕ → Refusal) → AcceptedExactly (refusing why) → ⊥
+RefusingWrong = (number place : Kind → List ℕ → ℕ → ℕ) → AcceptedExactly (refusing number place) → ⊥
 
 -- ---- wrong: one that "returns one fixed picture": whatever it is asked, or for all that it rightly accepts
 abbrev pub fixed : List ℕ → Decoder
@@ -37,7 +39,7 @@ FixedSamplesWrong = (d : Decoder) (store : List ℕ) → ((k : Kind) (bytes : Li
 
 -- ---- the P1 picture's description, and another with TR 2
 abbrev pub first : Flat
-first = laid Qcif picture1
+first = laidPicture Qcif picture1
 
 -- ---- wrong: "a writer that writes the P1 picture for all"
 abbrev pub firstForAll : Writer
@@ -47,19 +49,17 @@ abbrev pub FirstForAllWrong : Type 0
 FirstForAllWrong = ReadsBack firstForAll → ⊥
 
 -- ---- wrong: one that "refuses all"
-abbrev pub refusingAll : (Format → Flat → Refusal) → Writer
-refusingAll why f d out = record { answer = Refused (why f d); output = out }
+abbrev pub refusingAll : (Format → Flat → ℕ) → (Format → Flat → ℕ) → Writer
+refusingAll number place f d out = record { answer = refused (number f d) (place f d); output = out }
 
 abbrev pub RefusingAllWrong : Type 0
-RefusingAllWrong = (why : Format → Flat → Refusal) → RefusedExactly (refusingAll why) → ⊥
+RefusingAllWrong = (number place : Format → Flat → ℕ) → RefusedExactly (refusingAll number place) → ⊥
 
--- ---- wrong: "a made-up N": one bit short of what was written
-abbrev pub short : Written → Written
-short (Bits n) = Bits (n - 1)
-short (Refused why) = Refused why
+-- ---- wrong: "a made-up N", whichever, shorter or longer: one that, for one valid description within the limit, leaves the right bytes in an output that was all 0 and answers another
+-- number of bits
+abbrev pub blankOutput : Format → List ℕ
+blankOutput f = blank (outputLength (sizeOf f))
 
-abbrev pub oneShort : Writer
-oneShort f d out = record { answer = short (writeOf f d (length out)); output = outputOf f d out }
-
-abbrev pub OneShortWrong : Type 0
-OneShortWrong = ReadsBack oneShort → ⊥
+abbrev pub MadeUpWrong : Type 0
+MadeUpWrong = (w : Writer) (f : Format) (d : Flat) (n : ℕ) → T (valid f d) → length (pictureBits f d) ≤ limit (sizeOf f)
+    → w f d (blankOutput f) .output ≡ outputOf f d (blankOutput f) → w f d (blankOutput f) .answer ≡ accepted n → (n ≡ length (pictureBits f d) → ⊥) → ReadsBack w → ⊥

@@ -1,21 +1,20 @@
--- Receivers that demand 3 rules out, of those that document 01 names under "What the promises decide". Assumes nothing.
+-- Receivers that demand 3 rules out, of those that document 01 names under "What the promises decide": each of any `receive` and `show` that are so. Assumes nothing.
 use mathlib.Core.Path.{_≡_}
-use mathlib.Core.List.{List}
+use mathlib.Core.Bool.{Bool, true, false}
+use mathlib.Core.List.{List, List·Memᴰ}
+use mathlib.Core.Option.{some}
 use Prim.Native.Nat.{ℕ}
-use Rattle.laws.specs.Choice.{pick}
-use Rattle.coding.specs.declared.Kind.{Kind}
-use Rattle.coding.specs.Coding.{Coding}
+use lib.ListN.{getElem?}
+use Rattle.laws.specs.Choice.{both, opposite}
+use Rattle.layout.specs.Flat.{Flat}
 use Rattle.coding.specs.Kind.{codingOf}
 use Rattle.standing.specs.declared.Receiver.{Receiver}
-use Rattle.standing.specs.declared.Answer.{Answer}
-use Rattle.standing.specs.Receive.{Buffers, losing, withProgress, received, Outcome, step}
-use Rattle.standing.specs.Shown.{shownBy}
-use Rattle.demand3.specs.Clip.{Receive, Show}
-use Rattle.demand3.specs.Demand3.{InStep, CatchesUp}
-use Rattle.wrong.specs.Renumbering.{renumbering}
+use Rattle.standing.specs.Receive.{place, samePlace, isLost, Buffers, Outcome, step}
+use Rattle.demand3.specs.Clip.{Picture, Clip, blocksIn, picturesIn, Fresh, begin, Each, Receive, Show, upon}
+use Rattle.demand3.specs.Demand3.{CatchesUp}
 use Rattle.standing.specs.declared.Standing.the-variants as T
-use Rattle.standing.specs.declared.Answer.the-variants as A
 
+-- ---- wrong: "a receiver that does nothing or is lost for ever"
 -- one whose state no call changes
 abbrev pub IdleWrong : Type 0
 IdleWrong = (receive : Receive) (show : Show) → ((r : Receiver) (block : List ℕ) (b : Buffers) → receive r block b .gave .next ≡ r) → CatchesUp codingOf receive show → ⊥
@@ -30,21 +29,42 @@ abbrev pub NeverInStepWrong : Type 0
 NeverInStepWrong = (receive : Receive) (show : Show) → ((r : Receiver) (block : List ℕ) (b : Buffers) (k : ℕ) → receive r block b .gave .next .progress .standing ≡ T.InStep k → ⊥)
     → CatchesUp codingOf receive show → ⊥
 
--- but two of them differ in a sample
-abbrev pub RenumberingWrong : Type 0
-RenumberingWrong = InStep codingOf (renumbering codingOf) shownBy → ⊥
+-- one that is ours until it is lost after its first picture began, and then is lost for ever, whatever else it does
+abbrev pub wasLost : Receiver → Bool
+wasLost r = both (isLost (r .progress .standing)) (opposite (samePlace (r .progress .wanted) (place 0 0)))
 
--- ---- wrong: one that "finishes only refresh pictures"
--- ours, but where a picture is finished whose mark isn't set, it is lost instead
-abbrev pub marked : Answer → Receiver → Buffers → Outcome → Outcome
-marked (A.Picture k) r b x = pick (x .gave .next .progress .mark) x (record { gave = received A.Lost (withProgress r (losing (r .progress))); left = b })
-marked (A.Old n part) r b x = x
-marked (A.Taken n part) r b x = x
-marked A.Lost r b x = x
-marked (A.Refused why) r b x = x
+abbrev pub LostForEverWrong : Type 0
+LostForEverWrong = (receive : Receive) (show : Show)
+    → ((r : Receiver) (block : List ℕ) (b : Buffers) → wasLost r ≡ false → receive r block b ≡ step codingOf r block b)
+    → ((r : Receiver) (block : List ℕ) (b : Buffers) → wasLost r ≡ true → wasLost (receive r block b .gave .next) ≡ true)
+    → CatchesUp codingOf receive show → ⊥
 
-abbrev pub onlyRefresh : {D : Type 0} → (Kind → Coding D) → Receive
-onlyRefresh coding r block b = marked (step coding r block b .gave .answer) r b (step coding r block b)
+-- ---- what a fresh receiver comes to with any blocks of any clip
+pub record Delivery : Type 0 where
+  pub clip : Clip Flat
+  pub receiver : Fresh (clip .number) (clip .kind)
+  pub before : List (List ℕ)
+  pub block : List ℕ
+  pub each : Each (blocksIn codingOf clip) before
+  pub one : List·Memᴰ block (blocksIn codingOf clip)
 
+abbrev pub comesTo : Receive → Delivery → Outcome
+comesTo receive d = upon receive (begin (d .receiver)) (d .before) (d .block)
+
+abbrev pub StandsAt : Receive → Delivery → ℕ → Type 0
+StandsAt receive d k = comesTo receive d .gave .next .progress .standing ≡ T.InStep k
+
+abbrev pub Sent : Delivery → ℕ → Picture Flat → Type 0
+Sent d k x = getElem? (picturesIn codingOf (d .clip)) k ≡ some x
+
+-- ---- wrong: one that "finishes only refresh pictures": where it is in step, the picture is a refresh
 abbrev pub OnlyRefreshWrong : Type 0
-OnlyRefreshWrong = (show : Show) → CatchesUp codingOf (onlyRefresh codingOf) show → ⊥
+OnlyRefreshWrong = (receive : Receive) (show : Show)
+    → ((d : Delivery) (k : ℕ) (x : Picture Flat) → StandsAt receive d k → Sent d k x → codingOf (d .clip .kind) .refresh (x .description) ≡ true)
+    → CatchesUp codingOf receive show → ⊥
+
+-- ---- wrong: "one that decodes picture 0 and then only renumbers it": whatever picture it is in step at, it shows the bytes of picture 0, or others that it makes of picture 0
+abbrev pub RenumberingWrong : Type 0
+RenumberingWrong = (receive : Receive) (show : Show) (made : Picture Flat → List ℕ)
+    → ((d : Delivery) (k : ℕ) (x : Picture Flat) → StandsAt receive d k → Sent d 0 x → show (comesTo receive d .gave) (comesTo receive d .left .both) ≡ made x)
+    → CatchesUp codingOf receive show → ⊥

@@ -10,7 +10,7 @@ use reference::stream::pictures;
 
 use super::Slices;
 
-/// The blocks of a packed stream, and a line for each refused picture.
+/// The blocks of a packed stream, and the lines on standard error: what stands before the first picture, each refused picture, how many were recorded.
 pub struct Packed {
     pub blocks: Vec<u8>,
     pub errors: String,
@@ -26,18 +26,33 @@ pub fn pack(format: Format, clip: u16, raw: &[u8]) -> Result<Packed, String> {
         blocks: Vec::new(),
         errors: String::new(),
     };
-    for picture in pictures(raw, format) {
+    let found = pictures(raw, format);
+    match found.first() {
+        None => packed.errors = format!("no picture in {} bytes\n", raw.len()),
+        Some(first) if first.place >= 8 => {
+            packed.errors = format!("{} bytes before the first picture\n", first.place / 8);
+        }
+        Some(_) => {}
+    }
+    let (any, mut recorded) = (!found.is_empty(), 0);
+    for picture in found {
         let answer = picture.answer.and_then(|description| {
             let slices = Slices::of(&description);
             sender.send(slices.lent(), &mut first, &mut second, &mut out)
         });
         match answer {
-            Ok(sent) => packed.blocks.extend(&out[..BLOCK_LENGTH * sent.blocks]),
+            Ok(sent) => {
+                packed.blocks.extend(&out[..BLOCK_LENGTH * sent.blocks]);
+                recorded += 1;
+            }
             Err(refusal) => {
                 let line = format!("byte {}: {refusal}\n", picture.place / 8);
                 packed.errors.push_str(&line);
             }
         }
+    }
+    if any {
+        packed.errors.push_str(&format!("{recorded} pictures\n"));
     }
     Ok(packed)
 }

@@ -47,7 +47,7 @@ use Rattle.bits.specs.Answer.{asField}
 use Rattle.bits.specs.declared.FieldRead.{FieldRead}
 use Rattle.bits.proofs.FieldRead as S
 use Rattle.bits.proofs.FieldRead.Laws as S′
-use Rattle.bit_reader.specs.Reader.{left, Inside}
+use Rattle.bit_reader.specs.Reader.{readerBits, Inside}
 use Rattle.bit_reader.specs.declared.BitReader.{BitReader}
 use Rattle.bit_reader.proofs.BitReader.Laws as T′
 use Rattle.bit_reader.proofs.Held.{B, D, L, lone, parts, Own, Opened, opened}
@@ -73,7 +73,7 @@ module _ {M : Type 1} (𝓤 : URA M) (H : Heap 𝓤) (A : Atoms 𝓤) (W : Given
   v = sliceVal (d .bytes .ptr) (length (d .bytes .now))
 
   abbrev Found : FieldRead → Type 0
-  Found r = asField (now (d .bytes)) (d .count) r ≡ fieldRead n (left d) (d .place)
+  Found r = asField (now (d .bytes)) (d .count) r ≡ fieldRead n (readerBits d) (d .place)
 
   abbrev vals : Vals f.signature (κ, tt)
   vals = (mach ∷ [], (vint w64 n ∷ [], tt))

@@ -4,7 +4,7 @@ use mathlib.Core.List.{List}
 use Prim.Native.Nat.{ℕ, _+_, _-_, _/_, _^_, _≤_}
 use native.Mathlib.Omega.{arith}
 use Rattle.bits.specs.Bits.{value, bitsLeft}
-use Rattle.bits.specs.Read.{Read, got, field}
+use Rattle.bits.specs.Read.{got, field}
 use Rattle.bits.proofs.Value.{value-first}
 use Rattle.bits.proofs.Fields.{field-at, field-short}
 use borrow.Author.Needs.{needs}

@@ -1,6 +1,6 @@
 -- `bits::walk` meets its contract: by turns, each a step down the tree by the next bit.
-use mathlib.Core.Path.{_≡_}
 use Prim.Native.Nat.{ℕ, _-_, _≤_, _<_}
+use native.Mathlib.Omega.{arith}
 use lib.ListN.{List·getD-eq-default}
 use borrow.Author.Needs.{needs}
 use Rattle.bits.proofs.Turns.{Here, here-first, window-bit, walk-end, walk-none, walk-leaf, walk-down, walk-deep}
@@ -36,6 +36,13 @@ returns-3 c =
     let b = window-bit (a .bytes .now) (a .at) (c .before .before .before .before .before .before .window .result) (l .taken) (c .before .before .before .before .before .before .window .ensures) (search needs) in
     walk-none (a .tree .now) (a .bytes .now) (a .count) (a .root) (a .at) (l .node) (l .taken) (l .inv .2) (c .before .before .before .before .loop-test .taken) _ (c .before .before .before .if1 .left) b (c .if3 .taken)
 
+-- a meaning is a number of the tree's
+narrow : (x : ℕ) → x < 65536 → x - 256 < 4294967296
+narrow x l = omega arith
+
+cast-t28 : tie.Need-cast-t28 Inv-loop μ-loop
+cast-t28 c = record { fits = narrow _ (c .before .before .shared-slice-known3 .given _ .fits) }
+
 returns-4 : tie.Need-returns-4 Inv-loop μ-loop
 returns-4 c =
     let a = c .before .before .before .before .before .before .before .before .before .before .args in
@@ -61,4 +68,4 @@ walk-spec =
     tie.close
     (tie.spec Inv-loop μ-loop (λ c κs. search needs) (λ c. search needs) loop-holds returns (λ c. search needs) (λ c. search needs)
     (λ c. search needs) (λ c. search needs) (λ c. search needs) (λ c. search needs) returns-2 (λ c. search needs) (λ c. search needs)
-    returns-3 (λ c. search needs) (λ c. search needs) returns-4 (λ c. search needs) (λ c. search needs) loop-again returns-5)
+    returns-3 (λ c. search needs) cast-t28 (λ c. search needs) returns-4 (λ c. search needs) (λ c. search needs) loop-again returns-5)

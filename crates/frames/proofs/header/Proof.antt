@@ -2,7 +2,6 @@
 use borrow.Author.Needs.{needs}
 use mathlib.Core.Path.{ap}
 use Rattle.text.specs.Text.{decimal}
-use Rattle.text.specs.Puts.{Puts}
 use Rattle.text.proofs.Puts.{puts-then, puts-as, told}
 use Rattle.frames.specs.Header.{headerText}
 use Rattle.frames.proofs.header.Statement.{statement}

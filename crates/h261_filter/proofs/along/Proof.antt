@@ -16,11 +16,12 @@ use Rattle.h261_filter.proofs.along.Tie as tie
 inside-requires : tie.Need-inside-requires
 inside-requires c κs =
     let s = c .before .before .before in
-    let k = s .args .k in (
-      rw (back w32 tt (s .pre .0 (k - 1))) (s .pre .0 (k - 1)),
-      rw (back w32 tt (s .pre .0 k)) (s .pre .0 k),
-      rw (back w32 tt (s .pre .0 (k + 1))) (s .pre .0 (k + 1)),
-    )
+    let k = s .args .k in
+    record {
+      before = rw (back w32 tt (s .pre .0 (k - 1))) (s .pre .0 (k - 1));
+      here = rw (back w32 tt (s .pre .0 k)) (s .pre .0 k);
+      after = rw (back w32 tt (s .pre .0 (k + 1))) (s .pre .0 (k + 1));
+    }
 
 -- the sum is that of the weights
 module _ (c : tie.After-inside) where
@@ -46,7 +47,7 @@ returns : tie.Need-returns
 returns c =
     let d = c .before in
     back32 (c .rounded .result) (c .rounded .ok) ∙ c .rounded .ensures
-    ∙ ap roundedSixteenth (inside-is d ∙ sym (weighted-inside (g d) (k d) (s d .pre .1) (s d .pre .2)))
+    ∙ ap roundedSixteenth (inside-is d ∙ sym (weighted-inside (g d) (k d) (s d .pre .1 .least) (s d .pre .1 .most)))
 
 pub along-spec : {M : Type 1} → statement M
 along-spec =

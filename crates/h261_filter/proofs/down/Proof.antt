@@ -12,18 +12,21 @@ use Rattle.h261_filter.proofs.down.Tie as tie
 inside-requires : tie.Need-inside-requires
 inside-requires c κs =
     let s = c .before .before .before in
-    let k = s .args .k in (
-      rw (back w32 tt (s .pre .0 k)) (low-up 1020 (s .pre .0 k) (lit≤ tt)),
-      rw (back w32 tt (s .pre .1 k)) (low-up 1020 (s .pre .1 k) (lit≤ tt)),
-      rw (back w32 tt (s .pre .2 k)) (low-up 1020 (s .pre .2 k) (lit≤ tt)),
-    )
+    let k = s .args .k in
+    let rows = s .pre .0 in
+    record {
+      before = rw (back w32 tt (rows .above k)) (low-up 1020 (rows .above k) (lit≤ tt));
+      here = rw (back w32 tt (rows .here k)) (low-up 1020 (rows .here k) (lit≤ tt));
+      after = rw (back w32 tt (rows .below k)) (low-up 1020 (rows .below k) (lit≤ tt));
+    }
 
 returns : tie.Need-returns
 returns c =
     let s = c .before .before .before .before in
     let k = s .args .k in
+    let rows = s .pre .0 in
     back32 (c .inside .result) (c .inside .ok) ∙ c .inside .ensures
-    ∙ (λ i. back w32 tt (s .pre .0 k) i +ℤ pos 2 *ℤ back w32 tt (s .pre .1 k) i +ℤ back w32 tt (s .pre .2 k) i)
+    ∙ (λ i. back w32 tt (rows .above k) i +ℤ pos 2 *ℤ back w32 tt (rows .here k) i +ℤ back w32 tt (rows .below k) i)
 
 pub down-spec : {M : Type 1} → statement M
 down-spec =

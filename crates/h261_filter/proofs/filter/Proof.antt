@@ -32,7 +32,7 @@ between-requires : tie.Need-between-requires Inv-loop μ-loop
 between-requires c κs =
     let p = c .before .before .before .before .before .before .before .before .pre in
     let k = c .before .before .before .before .loop .row in
-    (λ x. sample-low (p (k - 1) x), λ x. sample-low (p k x), λ x. sample-low (p (k + 1) x))
+    record { above = λ x. sample-low (p (k - 1) x); here = λ x. sample-low (p k x); below = λ x. sample-low (p (k + 1) x) }
 
 across-requires-2 : tie.Need-across-requires-2 Inv-loop μ-loop
 across-requires-2 c κs =

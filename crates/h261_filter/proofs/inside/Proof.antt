@@ -11,16 +11,16 @@ use Rattle.h261_filter.proofs.inside.Tie as tie
 
 module _ (c : tie.Start) where
   low-twice : Low 2040 (pos 2 *ℤ c .args .b)
-  low-twice = low-mul {a = pos 2} {m = 2} (record { low = lit≤ tt }) (c .pre .1)
+  low-twice = low-mul {a = pos 2} {m = 2} (record { low = lit≤ tt }) (c .pre .here)
 
   fits-twice : SFits w32 (pos 2 *ℤ c .args .b)
   fits-twice = low-fits tt low-twice
 
   fits-two : SFits w32 (c .args .a +ℤ pos 2 *ℤ c .args .b)
-  fits-two = low-fits tt (low-add (c .pre .0) low-twice)
+  fits-two = low-fits tt (low-add (c .pre .before) low-twice)
 
   fits-three : SFits w32 (c .args .a +ℤ pos 2 *ℤ c .args .b +ℤ c .args .c)
-  fits-three = low-fits tt (low-add (low-add (c .pre .0) low-twice) (c .pre .2))
+  fits-three = low-fits tt (low-add (low-add (c .pre .before) low-twice) (c .pre .after))
 
 mul-result : tie.Need-mul-result
 mul-result c = simp (toZ-ofZ (c .fits .b)) (fits-twice c)

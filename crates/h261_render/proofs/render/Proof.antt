@@ -24,16 +24,14 @@ abbrev μ-loop : tie.MeasureT-loop
 μ-loop format head macroblocks levels reference store₀ count quantiser₀ n₀ store quantiser n = count - n
 
 loop-holds : tie.Need-loop-holds Inv-loop μ-loop
-loop-holds c = (search needs, λ e. absurd (e refl), drawn-none (c .before .before .before .before .before .before .pre .2))
+loop-holds c = (search needs, λ e. absurd (e refl), drawn-none (c .before .before .before .before .before .before .pre .store))
 
 turn-requires : tie.Need-turn-requires Inv-loop μ-loop
 turn-requires c κs =
     let at-loop = c .before .before in
     let start = at-loop .before .before .before .before .before .before .before in
     record {
-      fine = start .pre .0;
-      reference = start .pre .1;
-      store = at-loop .loop .inv .2 .size;
+      picture = record { fine = start .pre .fine; reference = start .pre .reference; store = at-loop .loop .inv .2 .size };
       number = omega (arith, at-loop .before .macroblock-count .ensures);
       before = at-loop .loop .inv .1;
     }
@@ -53,7 +51,7 @@ loop-again c =
     )
 
 same-length : tie.Need-same-length Inv-loop μ-loop
-same-length c = c .before .loop .inv .2 .size ∙ sym (c .before .before .before .before .before .before .before .before .pre .2)
+same-length c = c .before .loop .inv .2 .size ∙ sym (c .before .before .before .before .before .before .before .before .pre .store)
 
 returns : tie.Need-returns Inv-loop μ-loop
 unfolding rendered

@@ -22,13 +22,13 @@ module _ (c : tie.After-column) where
   began = c .before .before .before .before .before .before .before
 
   here : Places (description began) (began .args .n)
-  here = places (began .args .format) (description began) (began .pre .fine) (began .args .n) (began .pre .number)
+  here = places (began .args .format) (description began) (began .pre .picture .fine) (began .args .n) (began .pre .number)
 
   ready : Ready (sizeOf (began .args .format)) (c .before .row .result) (c .column .result)
       (length (began .args .reference .now)) (length (began .args .store .now))
   ready = record {
-    reference = began .pre .reference;
-    store = began .pre .store;
+    reference = began .pre .picture .reference;
+    store = began .pre .picture .store;
     row = row-in (began .args .format) (began .args .n) (c .before .row .ensures) (began .pre .number);
     column = column-in (began .args .format) (began .args .n) (c .column .ensures);
   }
@@ -79,7 +79,7 @@ returns c =
 
 prediction-of-requires : tie.Need-prediction-of-requires
 prediction-of-requires c κs =
-    let s = began (at-column (c .before)) in omega (arith, fine-at (s .args .format) (description s) (s .pre .fine) (s .args .n) (s .pre .number) .kind)
+    let s = began (at-column (c .before)) in omega (arith, fine-at (s .args .format) (description s) (s .pre .picture .fine) (s .args .n) (s .pre .number) .kind)
 
 add-sent : tie.Need-add-sent
 add-sent c = omega (arith, here (at-column (c .before .before .before)))
@@ -101,11 +101,11 @@ sent-requires c κs =
     let at-stands = c .before .before .before .before .before in
     let at = at-column at-stands in
     let s = began at in
-    let fine = quantiser-fine (s .args .format) (description s) (s .pre .fine) (s .args .n) (s .pre .number) (stands-right at-stands) in
+    let fine = quantiser-fine (s .args .format) (description s) (s .pre .picture .fine) (s .args .n) (s .pre .number) (stands-right at-stands) in
     record {
       ready = ready at;
       points = points-at (s .args .n) (at .before .row .ensures) (at .column .ensures)
-          (sent-points (s .args .format) (description s) (s .pre .fine) (s .args .n) (s .pre .number));
+          (sent-points (s .args .format) (description s) (s .pre .picture .fine) (s .args .n) (s .pre .number));
       coded = record { room = omega (arith, here at); least = fine .0; most = fine .1 };
     }
 
@@ -118,7 +118,7 @@ returns-2 c =
     let d = description s in (
       stands-right at-stands,
       sent-all (s .args .format) (s .args .n) d (s .args .reference .now) (at .before .row .ensures) (at .column .ensures) (at-prediction-of .before .if1 .left)
-          (at-prediction-of .prediction-of .ensures) (sym (vector-at (s .args .format) d (s .pre .fine) (s .args .n) (s .pre .number))) (stands-right at-stands)
+          (at-prediction-of .prediction-of .ensures) (sym (vector-at (s .args .format) d (s .pre .picture .fine) (s .args .n) (s .pre .number))) (stands-right at-stands)
           (c .before .before .sent .ensures),
     )
 

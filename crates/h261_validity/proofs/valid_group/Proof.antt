@@ -21,14 +21,13 @@ valid-macroblock-requires : tie.Need-valid-macroblock-requires Inv-loop μ-loop
 valid-macroblock-requires c κs =
     let at-loop-test = c .before .before in
     let at-loop = at-loop-test .before in
-    let start = at-loop .before .before .before in (
-      start .pre .0,
-      start .pre .1,
-      omega arith,
-      omega arith,
-      piece-length (start .args .fields .now) (at-loop .loop .k * 4) 4 (omega (arith, start .pre, at-loop-test .loop-test .taken)),
-      piece-length (start .args .levels .now) (at-loop .loop .k * 384) 384 (omega (arith, start .pre, at-loop-test .loop-test .taken)),
-    )
+    let start = at-loop .before .before .before in
+    let k = at-loop .loop .k in
+    record {
+      addressed = record { first-group = start .pre .first-group; last-group = start .pre .last-group; first-address = omega arith; last-address = omega arith };
+      fields-long = piece-length (start .args .fields .now) (k * 4) 4 (omega (arith, start .pre .fields-room, at-loop-test .loop-test .taken));
+      levels-long = piece-length (start .args .levels .now) (k * 384) 384 (omega (arith, start .pre .levels-room, at-loop-test .loop-test .taken));
+    }
 
 returns : tie.Need-returns Inv-loop μ-loop
 returns c =

@@ -83,12 +83,13 @@ valid-group-requires c κs =
     let start = at-loop .before .before .before .before in
     let g = at-loop .loop .g in
     let within = number-within (start .args .format) g (omega (arith, at-loop .loop .inv .0, at-loop-test .loop-test .taken)) in
-    let fit = fits start (at-loop .loop .inv .0) (at-loop-test .loop-test .taken) in (
-      omega (arith, at-group-number .group-number .ensures, within .0),
-      omega (arith, at-group-number .group-number .ensures, within .1),
-      part-length (start .args .fields .now) (g * 132) 132 (fit .fields-fit),
-      part-length (start .args .levels .now) (g * 12672) 12672 (fit .levels-fit),
-    )
+    let fit = fits start (at-loop .loop .inv .0) (at-loop-test .loop-test .taken) in
+    record {
+      first-group = omega (arith, at-group-number .group-number .ensures, within .0);
+      last-group = omega (arith, at-group-number .group-number .ensures, within .1);
+      fields-room = part-length (start .args .fields .now) (g * 132) 132 (fit .fields-fit);
+      levels-room = part-length (start .args .levels .now) (g * 12672) 12672 (fit .levels-fit);
+    }
 
 returns : tie.Need-returns Inv-loop μ-loop
 returns c =

@@ -1,4 +1,4 @@
--- `words::tables` meets its contract: antt computes each test over the array.
+-- `h261_words::tables` meets its contract: antt computes each test over the array.
 use Rattle.bits.specs.Code.{wordOf, has}
 use Rattle.h261_words.specs.Tables.{table1, table2, table3, table4, pairs, firstTable5, laterTable5}
 use Rattle.h261_words.specs.Lookup.{agrees, looks, spells, spelt}

@@ -6,14 +6,13 @@ use Rattle.h261_writer.proofs.one_format.Tie as tie
 
 returns : tie.Need-returns
 returns c =
-    let start = c .before .before .before .before .before in
-    one-first (start .args .head .now) (start .args .macroblocks .now) (start .args .levels .now) _ (c .before .lengths .ensures) (c .if1 .taken)
+    let a = c .before .before .before .before .before .args in
+    one-first (a .head .now) (a .macroblocks .now) (a .levels .now) _ (c .before .lengths .ensures) (c .if1 .taken)
 
 returns-2 : tie.Need-returns-2
 returns-2 c =
-    let start = c .before .before .before .before .before .before in
-    one-second (start .args .head .now) (start .args .macroblocks .now) (start .args .levels .now) _ (c .before .before .lengths .ensures) (c .before .if1 .left) _
-    (c .lengths2 .ensures)
+    let a = c .before .before .before .before .before .before .args in
+    one-second (a .head .now) (a .macroblocks .now) (a .levels .now) _ (c .before .before .lengths .ensures) (c .before .if1 .left) _ (c .lengths2 .ensures)
 
 pub one-format-spec : {M : Type 1} → statement M
 one-format-spec = tie.close (tie.spec (λ c κs. search needs) returns (λ c κs. search needs) returns-2)

@@ -7,82 +7,56 @@ use Rattle.laws.proofs.Choice.{true-T}
 use Rattle.h261_writer.proofs.write.Statement.{statement}
 use Rattle.h261_writer.proofs.write.Tie as tie
 
+-- where each judgement was made
+abbrev start : tie.After-one-format → tie.Start
+start c = c .before .before .before .before .before
+
+abbrev at-format : tie.After-output-length → tie.After-one-format
+at-format c = c .before .before
+
+abbrev at-length : tie.After-valid → tie.After-output-length
+at-length c = c .before .before
+
+abbrev at-valid : tie.After-write-valid → tie.After-valid
+at-valid c = c .before .before .before
+
+abbrev at-written : tie.After-limit → tie.After-write-valid
+at-written c = c .before .before .before
+
 returns : tie.Need-returns
 returns c =
-    let start = c .before .before .before .before .before .before .before in
-    let head = start .args .head .now in
-    let macroblocks = start .args .macroblocks .now in
-    let levels = start .args .levels .now in
-    let out = start .args .out .now in
-    let format = start .args .format in
-    refuses format head macroblocks levels out _ _ (c .refused .ensures)
-    (short format head macroblocks levels out _ (c .before .before .one-format .ensures) (not-true _ (c .before .if1 .taken)))
+    let o = c .before .before in let a = start o .args in
+    refuses (a .format) (a .head .now) (a .macroblocks .now) (a .levels .now) (a .out .now) _ _ (c .refused .ensures)
+    (short (a .format) (a .head .now) (a .macroblocks .now) (a .levels .now) (a .out .now) _ (o .one-format .ensures) (not-true _ (c .before .if1 .taken)))
 
 returns-2 : tie.Need-returns-2
 returns-2 c =
-    let at-if1 = c .before .before .before in
-    let start = at-if1 .before .before .before .before .before .before in
-    let head = start .args .head .now in
-    let macroblocks = start .args .macroblocks .now in
-    let levels = start .args .levels .now in
-    let out = start .args .out .now in
-    let format = start .args .format in
-    refuses format head macroblocks levels out _ _ (c .refused2 .ensures)
-    (unfit format head macroblocks levels out _ (at-if1 .before .one-format .ensures) (not-false _ (at-if1 .if1 .left)) _
-    (c .before .before .output-length .ensures) (c .before .if2 .taken))
+    let n = c .before .before in let o = at-format n in let a = start o .args in
+    refuses (a .format) (a .head .now) (a .macroblocks .now) (a .levels .now) (a .out .now) _ _ (c .refused2 .ensures)
+    (unfit (a .format) (a .head .now) (a .macroblocks .now) (a .levels .now) (a .out .now) _ (o .one-format .ensures) (not-false _ (n .before .if1 .left)) _ (n .output-length .ensures) (c .before .if2 .taken))
 
 returns-3 : tie.Need-returns-3
 returns-3 c =
-    let at-if2 = c .before .before .before in
-    let at-one-format = at-if2 .before .before .before in
-    let start = at-one-format .before .before .before .before .before in
-    let head = start .args .head .now in
-    let macroblocks = start .args .macroblocks .now in
-    let levels = start .args .levels .now in
-    let out = start .args .out .now in
-    let format = start .args .format in
-    refuses format head macroblocks levels out _ _ (c .refused3 .ensures)
-    (invalid format head macroblocks levels out _ (at-one-format .one-format .ensures) (not-false _ (at-if2 .before .before .if1 .left)) _
-    (at-if2 .before .output-length .ensures) (at-if2 .if2 .left) _ (c .before .before .valid .ensures) (not-true _ (c .before .if3 .taken)))
+    let v = c .before .before in let n = at-length v in let o = at-format n in let a = start o .args in
+    refuses (a .format) (a .head .now) (a .macroblocks .now) (a .levels .now) (a .out .now) _ _ (c .refused3 .ensures)
+    (invalid (a .format) (a .head .now) (a .macroblocks .now) (a .levels .now) (a .out .now) _ (o .one-format .ensures) (not-false _ (n .before .if1 .left)) _ (n .output-length .ensures) (v .before .if2 .left) _ (v .valid .ensures) (not-true _ (c .before .if3 .taken)))
 
 write-valid-requires : tie.Need-write-valid-requires
 write-valid-requires c κs =
-    let at-if3 = c .before in
-    let at-valid = at-if3 .before in
-    let at-if2 = at-valid .before in
-    let at-output-length = at-if2 .before in
-    (true-T _ (sym (at-valid .valid .ensures) ∙ not-false _ (at-if3 .if3 .left)), at-if2 .if2 .left ∙ at-output-length .output-length .ensures)
+    let e = c .before in let v = e .before in
+    (true-T _ (sym (v .valid .ensures) ∙ not-false _ (e .if3 .left)), v .before .if2 .left ∙ at-length v .output-length .ensures)
 
 returns-4 : tie.Need-returns-4
 returns-4 c =
-    let at-if4 = c .before in
-    let at-limit = at-if4 .before in
-    let at-write-valid = at-limit .before .before .before in
-    let at-if3 = at-write-valid .before .before in
-    let at-valid = at-if3 .before in
-    let at-if2 = at-valid .before in
-    let at-output-length = at-if2 .before in
-    let at-if1 = at-output-length .before in
-    let at-one-format = at-if1 .before in
-    let start = at-one-format .before .before .before .before .before in
-    above (start .args .format) (start .args .head .now) (start .args .macroblocks .now) (start .args .levels .now) (start .args .out .now) _ (at-one-format .one-format .ensures)
-    (not-false _ (at-if1 .if1 .left)) _ (at-output-length .output-length .ensures) (at-if2 .if2 .left) _ (at-valid .valid .ensures) (not-false _ (at-if3 .if3 .left)) _ (at-write-valid .write-valid .ensures .0) _
-    (at-limit .limit .ensures) (at-if4 .if4 .taken) _ _ (c .refused4 .ensures) (at-write-valid .write-valid .ensures .1)
+    let m = c .before .before in let w = at-written m in let v = at-valid w in let n = at-length v in let o = at-format n in let a = start o .args in
+    above (a .format) (a .head .now) (a .macroblocks .now) (a .levels .now) (a .out .now) _ (o .one-format .ensures) (not-false _ (n .before .if1 .left)) _ (n .output-length .ensures) (v .before .if2 .left) _ (v .valid .ensures) (not-false _ (w .before .before .if3 .left)) _ (w .write-valid .ensures .0) _ (m .limit .ensures)
+    (c .before .if4 .taken) _ _ (c .refused4 .ensures) (w .write-valid .ensures .1)
 
 returns-5 : tie.Need-returns-5
 returns-5 c =
-    let at-limit = c .before in
-    let at-write-valid = at-limit .before .before .before in
-    let at-if3 = at-write-valid .before .before in
-    let at-valid = at-if3 .before in
-    let at-if2 = at-valid .before in
-    let at-output-length = at-if2 .before in
-    let at-if1 = at-output-length .before in
-    let at-one-format = at-if1 .before in
-    let start = at-one-format .before .before .before .before .before in
-    below (start .args .format) (start .args .head .now) (start .args .macroblocks .now) (start .args .levels .now) (start .args .out .now) _ (at-one-format .one-format .ensures)
-    (not-false _ (at-if1 .if1 .left)) _ (at-output-length .output-length .ensures) (at-if2 .if2 .left) _ (at-valid .valid .ensures) (not-false _ (at-if3 .if3 .left)) _ (at-write-valid .write-valid .ensures .0) _
-    (at-limit .limit .ensures) (c .if4 .left) _ (at-write-valid .write-valid .ensures .1)
+    let m = c .before in let w = at-written m in let v = at-valid w in let n = at-length v in let o = at-format n in let a = start o .args in
+    below (a .format) (a .head .now) (a .macroblocks .now) (a .levels .now) (a .out .now) _ (o .one-format .ensures) (not-false _ (n .before .if1 .left)) _ (n .output-length .ensures) (v .before .if2 .left) _ (v .valid .ensures) (not-false _ (w .before .before .if3 .left)) _ (w .write-valid .ensures .0) _ (m .limit .ensures)
+    (c .if4 .left) _ (w .write-valid .ensures .1)
 
 pub write-spec : {M : Type 1} → statement M
 write-spec =

@@ -1,72 +1,59 @@
--- `h261_writer::write_valid` meets its contract: the scratch has room for the longest picture, and what isn't above the limit is copied. Assumes nothing.
+-- `h261_writer::write_valid` meets its contract: the scratch has room for what isn't above the limit, and that is copied. Assumes nothing.
 use Prim.Native.Nat.{ℕ}
-use mathlib.Core.Path.{refl, sym, _∙_}
+use mathlib.Core.Path.{sym}
 use native.Mathlib.Omega.{arith}
 use borrow.Author.Needs.{needs}
 use lib.ListN.{length-replicate}
-use Rattle.layout.specs.Flat.{flat}
-use Rattle.h261_writer.proofs.WriteSteps.{blank-room, count-low, copy-from, copy-to, counted, left-alone, filled-in}
+use lib.Seq.{length-take-le}
+use Rattle.layout.specs.Flat.{Flat, flat}
+use Rattle.h261_writer.proofs.WriteSteps.{limit-most, copy-within, copy-fits, counted, left-alone, filled-in}
 use Rattle.h261_writer.proofs.write_valid.Statement.{statement}
 use Rattle.h261_writer.proofs.write_valid.Tie as tie
 
+abbrev start : tie.After-picture → tie.Start
+start c = c .before .before .before .before .before .before .before .before
+
+-- the description
+abbrev description : tie.Start → Flat
+description s = flat (s .args .head .now) (s .args .macroblocks .now) (s .args .levels .now)
+
 slice-aggregate-picture : tie.Need-slice-aggregate-picture
-slice-aggregate-picture c = sym (length-replicate {A = ℕ} 480000 0)
+slice-aggregate-picture c = sym (length-replicate {A = ℕ} 32768 0)
 
 picture-requires : tie.Need-picture-requires
-picture-requires c κs =
-    let at-tables = c .before .before in
-    let start = at-tables .before .before .before .before .before in
-    record { tables = at-tables .tables .ensures; valid = start .pre .0; room = blank-room 480000 refl }
+picture-requires c κs = (c .before .before .tables .ensures, c .before .before .before .before .before .before .before .pre .0)
 
 returns : tie.Need-returns
 returns c =
-    let at-limit = c .before in
-    let at-picture = at-limit .before .before in
-    let start = at-picture .before .before .before .before .before .before .before .before in
-    let d = flat (start .args .head .now) (start .args .macroblocks .now) (start .args .levels .now) in (
-      counted (start .args .format) d (start .args .out .now) (at-picture .picture .ensures) (at-limit .limit .ensures),
-      left-alone (start .args .format) d (start .args .out .now) (at-picture .picture .ensures) (at-limit .limit .ensures) (c .if1 .taken),
-    )
+    let m = c .before in let p = m .before .before in let s = start p in
+    (counted (s .args .format) (description s) (s .args .out .now) (p .picture .ensures) (m .limit .ensures), left-alone (s .args .format) (description s) (s .args .out .now) (p .picture .ensures) (m .limit .ensures) (c .if1 .taken))
+
+add-started : tie.Need-add-started
+add-started c = omega (arith, c .if1 .left, c .before .limit .ensures, limit-most (start (c .before .before .before) .args .format))
+
+array-share-prefix-scratch : tie.Need-array-share-prefix-scratch
+array-share-prefix-scratch c =
+    let m = c .before in let p = m .before .before in let s = start p in
+    copy-within (s .args .format) (description s) (s .args .out .now) (p .picture .ensures) (m .limit .ensures) (c .if1 .left) (length-replicate {A = ℕ} 32768 0)
 
 slice-aggregate-copy : tie.Need-slice-aggregate-copy
-slice-aggregate-copy c =
-    let at-picture = c .before .before .before .before in
-    sym (at-picture .picture .kept .1 .1 .1 .1 .1 .0 ∙ length-replicate {A = ℕ} 480000 0)
-
-add-copy : tie.Need-add-copy
-add-copy c =
-    let at-picture = c .before .before .before .before in
-    omega (arith, count-low (at-picture .picture .ensures))
+slice-aggregate-copy c = sym (length-take-le _ _ (array-share-prefix-scratch (c .before)))
 
 copy-requires : tie.Need-copy-requires
 copy-requires c κs =
-    let at-if1 = c .before .before in
-    let at-limit = at-if1 .before in
-    let at-picture = at-limit .before .before in
-    let start = at-picture .before .before .before .before .before .before .before .before in (
-      copy-from (at-picture .picture .ensures) (at-picture .picture .kept .1 .1 .1 .1 .1 .0) (length-replicate {A = ℕ} 480000 0),
-      copy-to (start .args .format) _ _ _ (at-limit .limit .ensures) (at-if1 .if1 .left) (start .pre .1),
-    )
+    let e = c .before .before in let m = e .before in let p = m .before .before in let s = start p in
+    copy-fits (s .args .format) (description s) (s .args .out .now) (p .picture .ensures) (m .limit .ensures) (e .if1 .left) (length-replicate {A = ℕ} 32768 0) (s .pre .1)
 
 same-length : tie.Need-same-length
-same-length c =
-    let at-copy = c .before .before in
-    at-copy .copy .kept .1 .1 .0
+same-length c = c .before .before .copy .kept .1 .0
 
 returns-2 : tie.Need-returns-2
 returns-2 c =
-    let at-copy = c .before .before in
-    let at-if1 = at-copy .before .before .before in
-    let at-limit = at-if1 .before in
-    let at-picture = at-limit .before .before in
-    let start = at-picture .before .before .before .before .before .before .before .before in
-    let d = flat (start .args .head .now) (start .args .macroblocks .now) (start .args .levels .now) in (
-      counted (start .args .format) d (start .args .out .now) (at-picture .picture .ensures) (at-limit .limit .ensures),
-      filled-in (start .args .format) d (start .args .out .now) (at-picture .picture .ensures) (at-limit .limit .ensures) (at-if1 .if1 .left) _ (at-copy .copy .ensures),
-    )
+    let k = c .before .before in let e = k .before .before .before in let m = e .before in let p = m .before .before in let s = start p in
+    (counted (s .args .format) (description s) (s .args .out .now) (p .picture .ensures) (m .limit .ensures), filled-in (s .args .format) (description s) (s .args .out .now) (p .picture .ensures) (m .limit .ensures) (e .if1 .left) (length-replicate {A = ℕ} 32768 0) (k .copy .ensures .1))
 
 pub write-valid-spec : {M : Type 1} → statement M
 write-valid-spec =
     tie.close
-    (tie.spec (λ c κs. search needs) slice-aggregate-picture picture-requires (λ c κs. search needs) returns slice-aggregate-copy add-copy
-    copy-requires same-length returns-2)
+    (tie.spec (λ c κs. search needs) slice-aggregate-picture picture-requires (λ c κs. search needs) returns add-started
+    array-share-prefix-scratch slice-aggregate-copy copy-requires same-length returns-2)

@@ -2,7 +2,6 @@
 use borrow.Author.Needs.{needs}
 use mathlib.Core.Path.{ap}
 use Rattle.text.specs.Text.{decimal}
-use Rattle.text.specs.Puts.{Puts}
 use Rattle.text.proofs.Puts.{puts-then, puts-as}
 use Rattle.listing.specs.Lines.{pictureText}
 use Rattle.listing.proofs.put_picture.Statement.{statement}
@@ -10,7 +9,17 @@ use Rattle.listing.proofs.put_picture.Tie as tie
 
 returns : tie.Need-returns
 unfolding pictureText
-returns c = (search needs, puts-then (puts-then (puts-then (c .before .before .before .before .before .before .before .before .before .before .before .before .before .before .before .before .put .ensures .1) (c .before .before .before .before .before .before .before .before .before .before .before .before .put-number .ensures .1) (search needs)) (c .before .before .before .before .before .before .before .put2 .ensures .1) (search needs)) (puts-as (ap decimal (c .before .before .before .before .tick-of .ensures)) (c .before .before .put-number2 .ensures .1)) (search needs))
+returns c =
+    let at-put-number2 = c .before .before in
+    let at-tick-of = at-put-number2 .before .before in
+    let at-put2 = at-tick-of .before .before .before in
+    let at-put-number = at-put2 .before .before .before .before .before in
+    let at-put = at-put-number .before .before .before .before in (
+      search needs,
+      puts-then
+          (puts-then (puts-then (at-put .put .ensures .1) (at-put-number .put-number .ensures .1) (search needs)) (at-put2 .put2 .ensures .1) (search needs))
+          (puts-as (ap decimal (at-tick-of .tick-of .ensures)) (at-put-number2 .put-number2 .ensures .1)) (search needs),
+    )
 
 pub put-picture-spec : {M : Type 1} → statement M
 put-picture-spec =

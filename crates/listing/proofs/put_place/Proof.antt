@@ -1,6 +1,5 @@
 -- `listing::put_place` meets its contract: its words one after another. Assumes nothing.
 use borrow.Author.Needs.{needs}
-use Rattle.text.specs.Puts.{Puts}
 use Rattle.text.proofs.Puts.{puts-then}
 use Rattle.listing.specs.Lines.{placeText}
 use Rattle.listing.proofs.put_place.Statement.{statement}
@@ -8,7 +7,12 @@ use Rattle.listing.proofs.put_place.Tie as tie
 
 returns : tie.Need-returns
 unfolding placeText
-returns c = (search needs, puts-then (puts-then (puts-then (c .before .before .before .before .before .before .before .before .before .before .before .before .before .before .before .put .ensures .1) (c .before .before .before .before .before .before .before .before .before .before .before .put-number .ensures .1) (search needs)) (c .before .before .before .before .before .before .put2 .ensures .1) (search needs)) (c .before .before .put-number2 .ensures .1) (search needs))
+returns c =
+    let at-put2 = c .before .before .before .before .before .before in
+    let at-put-number = at-put2 .before .before .before .before .before in
+    let named = puts-then (at-put-number .before .before .before .before .put .ensures .1) (at-put-number .put-number .ensures .1) (search needs) in
+    let dotted = puts-then named (at-put2 .put2 .ensures .1) (search needs) in
+    (search needs, puts-then dotted (c .before .before .put-number2 .ensures .1) (search needs))
 
 pub put-place-spec : {M : Type 1} → statement M
 put-place-spec =

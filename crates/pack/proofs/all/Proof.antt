@@ -1,18 +1,17 @@
 -- `pack::all` ends: its turns are counted, and no buffer changes its length. Assumes nothing.
+use borrow.Author.Needs.{needs}
 use mathlib.Core.Path.{_≡_}
 use Prim.Native.Nat.{_-_, _≤_}
 use lib.ListN.{length}
-use borrow.Author.Needs.{needs}
 use Rattle.pack.proofs.all.Statement.{statement}
 use Rattle.pack.proofs.all.Tie as tie
 
 abbrev Inv-loop : tie.InvT-loop
-Inv-loop picture₀ first₀ second₀ pack₀ more₀ n₀ picture first second pack more n = (n ≤ 18446744073709551615) × (length picture ≡ length picture₀) × (length first ≡ length first₀) × (length second ≡ length second₀)
+Inv-loop picture₀ first₀ second₀ pack₀ more₀ reads₀ n₀ picture first second pack more reads n =
+    (n ≤ 18446744073709551615) × (length picture ≡ length picture₀) × (length first ≡ length first₀) × (length second ≡ length second₀)
 
 abbrev μ-loop : tie.MeasureT-loop
-μ-loop picture₀ first₀ second₀ pack₀ more₀ n₀ picture first second pack more n = 18446744073709551615 - n
+μ-loop picture₀ first₀ second₀ pack₀ more₀ reads₀ n₀ picture first second pack more reads n = 18446744073709551615 - n
 
 pub all-spec : {M : Type 1} → statement M
-all-spec =
-    tie.close
-    (tie.spec Inv-loop μ-loop (λ c. search needs) (λ c κs. search needs) (λ c. search needs) (λ c. search needs) (λ c. search needs) (λ c κs. search needs) (λ c. search needs) (λ c. search needs) (λ c. search needs) (λ c. search needs) (λ c. search needs) (λ c. search needs) (λ c. search needs) (λ c. search needs))
+all-spec = tie.close (tie.spec Inv-loop μ-loop (λ c. search needs) (λ c κs. search needs) (λ c. search needs) (λ c. search needs) (λ c. search needs) (λ c κs. search needs) (λ c. search needs) (λ c. search needs) (λ c. search needs) (λ c. search needs))

@@ -1,18 +1,19 @@
 -- `receiver::collect` meets its contract: by whether the part is the last. Assumes nothing.
 use borrow.Author.Needs.{needs}
-use mathlib.Core.Path.{_≡_, refl, sym, ap, _∙_}
-use mathlib.Core.Bool.{Bool, true, false}
+use mathlib.Core.Path.{_≡_, sym, ap, _∙_}
+use mathlib.Core.Bool.{true, false}
 use mathlib.Core.List.{List}
 use Prim.Native.Nat.{ℕ}
 use Rattle.coding.specs.Kind.{codingOf}
-use Rattle.vault.specs.Parts.{placed}
+use Rattle.vault.specs.Parts.{placedPayload}
 use Rattle.vault.specs.declared.Header.{Header}
-use Rattle.standing.specs.Stores.{Stores, stores}
+use Rattle.standing.specs.Stores.{stores}
 use Rattle.standing.specs.declared.Receiver.{Receiver}
 use Rattle.standing.specs.declared.Received.{Received}
 use Rattle.standing.specs.declared.Standing.{Standing}
-use Rattle.standing.specs.declared.Answer.the-variants as A
-use Rattle.standing.specs.Receive.{Buffers, buffers, taken, countOf, ended, tookOf, taking, withProgress, received, outcome, cameTo}
+use Rattle.standing.specs.Answered.{Reply, reply}
+use Rattle.standing.specs.Answered as A
+use Rattle.standing.specs.Receive.{Buffers, buffers, taken, countOf, endedPicture, tookOf, takenProgress, withProgress, outcome, cameTo}
 use Rattle.receiver.specs.Receiving.{Settles}
 use Rattle.receiver.proofs.Laws.{ended-collects}
 use Rattle.receiver.proofs.collect.Statement.{statement}
@@ -23,16 +24,16 @@ module _ (r : Receiver) (header : Header) (standing : Standing) (block collectio
   lent = buffers collection first second
 
   abbrev whole : List ℕ
-  whole = placed block (header .part) collection
+  whole = placedPayload block (header .part) collection
 
   last-comes : {after : List ℕ} → header .last ≡ true → after ≡ whole
-      → ended codingOf r header (codingOf (r .kind) .read after (countOf header)) ≡ tookOf codingOf r header standing whole
+      → endedPicture codingOf r header (codingOf (r .kind) .read after (countOf header)) ≡ tookOf codingOf r header standing whole
   unfolding tookOf
-  last-comes l e = ap (λ (c : List ℕ). ended codingOf r header (codingOf (r .kind) .read c (countOf header))) e ∙ sym (rw l)
+  last-comes l e = ap (λ (c : List ℕ). endedPicture codingOf r header (codingOf (r .kind) .read c (countOf header))) e ∙ sym (rw l)
 
   last-part : {x : Received} {after first₁ second₁ : List ℕ} → header .last ≡ true → after ≡ whole
-      → Settles codingOf r (stores first second) (ended codingOf r header (codingOf (r .kind) .read after (countOf header))) x (stores first₁ second₁)
-      → outcome x after first₁ second₁ ≡ cameTo codingOf r block lent (tookOf codingOf r header standing whole)
+      → Settles codingOf r (stores first second) (endedPicture codingOf r header (codingOf (r .kind) .read after (countOf header))) x (stores first₁ second₁)
+      → outcome x (buffers after first₁ second₁) ≡ cameTo codingOf r block lent (tookOf codingOf r header standing whole)
   unfolding cameTo
   last-part {x} {after} l e s =
       (λ i. record {
@@ -48,11 +49,11 @@ module _ (r : Receiver) (header : Header) (standing : Standing) (block collectio
   unfolding tookOf
   more-comes l = sym (rw l)
 
-  more-parts : {x : Received} {after : List ℕ} → header .last ≡ false → after ≡ whole
-      → x ≡ received (A.Taken (header .picture) (header .part)) (withProgress r (taking (r .progress) header standing))
-      → outcome x after first second ≡ cameTo codingOf r block lent (tookOf codingOf r header standing whole)
+  more-parts : {x : Reply} {after : List ℕ} → header .last ≡ false → after ≡ whole
+      → x ≡ reply (A.taken (header .picture) (header .part)) (withProgress r (takenProgress (r .progress) header standing))
+      → record { gave = x; left = buffers after first second } ≡ cameTo codingOf r block lent (tookOf codingOf r header standing whole)
   unfolding cameTo
-  more-parts l e h = (λ i. outcome (h i) (e i) first second) ∙ ap (cameTo codingOf r block lent) (more-comes l)
+  more-parts l e h = (λ i. record { gave = h i; left = buffers (e i) first second }) ∙ ap (cameTo codingOf r block lent) (more-comes l)
 
 returns : tie.Need-returns
 returns c =

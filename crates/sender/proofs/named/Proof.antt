@@ -13,30 +13,30 @@ use Rattle.size.specs.Size.{blocksLength}
 use Rattle.coding.specs.declared.Kind.{Kind}
 use Rattle.layout.specs.Flat.{Flat, flat}
 use Rattle.coding.specs.Kind.{kindSize, codingOf}
-use Rattle.standing.specs.Stores.{sized}
-use Rattle.sender.specs.Send.{buffers, lengths}
+use Rattle.standing.specs.Stores.{storesSized}
+use Rattle.sender.specs.Send.{buffers, lentLengths}
 use Rattle.sender.proofs.named.Statement.{statement}
 use Rattle.sender.proofs.named.Tie as tie
 
 module _ {one : Bool} (k : Kind) (d : Flat) (out first second : List ℕ) (is : one ≡ codingOf k .named d) where
   abbrev goal : Bool
-  goal = both (codingOf k .named d) (lengths (kindSize k) (buffers out first second))
+  goal = both (codingOf k .named d) (lentLengths (kindSize k) (buffers out first second))
 
-  by-description : (b : Bool) → one ≡ b → both b (lengths (kindSize k) (buffers out first second)) ≡ goal
-  by-description b e = ap (λ (t : Bool). both t (lengths (kindSize k) (buffers out first second))) (sym e ∙ is)
+  by-description : (b : Bool) → one ≡ b → both b (lentLengths (kindSize k) (buffers out first second)) ≡ goal
+  by-description b e = ap (λ (t : Bool). both t (lentLengths (kindSize k) (buffers out first second))) (sym e ∙ is)
 
   not-one : one ≡ false → false ≡ goal
   not-one e = by-description false e
 
   module _ (t : one ≡ true) {size : Size} (sz : size ≡ kindSize k) {length₀ : ℕ} (n : length₀ ≡ blocksLength size) where
-    by-output : (b : Bool) → eqb (length out) (blocksLength size) ≡ b → both b (sized size (length first) (length second)) ≡ goal
+    by-output : (b : Bool) → eqb (length out) (blocksLength size) ≡ b → both b (storesSized size (length first) (length second)) ≡ goal
     by-output b e =
-        ap (λ (t : Bool). both t (sized size (length first) (length second))) (sym e) ∙ ap (λ (z : Size). lengths z (buffers out first second)) sz ∙ by-description true t
+        ap (λ (t : Bool). both t (storesSized size (length first) (length second))) (sym e) ∙ ap (λ (z : Size). lentLengths z (buffers out first second)) sz ∙ by-description true t
 
     unfit : (length out ≡ length₀ → ⊥) → false ≡ goal
     unfit h = by-output false (ne-eqb (length out) (blocksLength size) (λ e. h (e ∙ sym n)))
 
-    fit : {right : Bool} → length out ≡ length₀ → right ≡ sized size (length first) (length second) → right ≡ goal
+    fit : {right : Bool} → length out ≡ length₀ → right ≡ storesSized size (length first) (length second) → right ≡ goal
     fit e h = h ∙ by-output true (eq-eqb (length out) (blocksLength size) (e ∙ n))
 
 returns : tie.Need-returns

@@ -8,21 +8,21 @@ use Rattle.vault.specs.declared.Header.{Header}
 use Rattle.standing.specs.declared.Place.{Place}
 use Rattle.standing.specs.declared.Progress.{Progress}
 use Rattle.standing.specs.declared.Line.the-variants.{Earlier, Next, Anew, Otherwise}
-use Rattle.standing.specs.Receive.{earlier, same, isLost, placeOf, lineOf}
+use Rattle.standing.specs.Receive.{earlierPlace, samePlace, isLost, placeOf, lineOf}
 use Rattle.standing.proofs.first_line.Statement.{statement}
 use Rattle.standing.proofs.first_line.Tie as tie
 
-module _ {here : Place} {old : Bool} (p : Progress) (header : Header) (at : here ≡ placeOf header) (is : old ≡ earlier here (p .wanted)) where
-  one : (b : Bool) → old ≡ b → earlier (placeOf header) (p .wanted) ≡ b
-  one b e = sym (is ∙ ap (λ (q : Place). earlier q (p .wanted)) at) ∙ e
+module _ {here : Place} {old : Bool} (p : Progress) (header : Header) (at : here ≡ placeOf header) (is : old ≡ earlierPlace here (p .wanted)) where
+  one : (b : Bool) → old ≡ b → earlierPlace (placeOf header) (p .wanted) ≡ b
+  one b e = sym (is ∙ ap (λ (q : Place). earlierPlace q (p .wanted)) at) ∙ e
 
   line-1 : old ≡ true → Earlier ≡ lineOf p header
   unfolding lineOf
   line-1 e = sym (rw (one true e))
 
-  module _ {next : Bool} (not-old : old ≡ false) (is-next : next ≡ both (same here (p .wanted)) (opposite (isLost (p .standing)))) where
-    two : (b : Bool) → next ≡ b → both (same (placeOf header) (p .wanted)) (opposite (isLost (p .standing))) ≡ b
-    two b e = sym (is-next ∙ ap (λ (q : Place). both (same q (p .wanted)) (opposite (isLost (p .standing)))) at) ∙ e
+  module _ {next : Bool} (not-old : old ≡ false) (is-next : next ≡ both (samePlace here (p .wanted)) (opposite (isLost (p .standing)))) where
+    two : (b : Bool) → next ≡ b → both (samePlace (placeOf header) (p .wanted)) (opposite (isLost (p .standing))) ≡ b
+    two b e = sym (is-next ∙ ap (λ (q : Place). both (samePlace q (p .wanted)) (opposite (isLost (p .standing)))) at) ∙ e
 
     line-2 : next ≡ true → Next ≡ lineOf p header
     unfolding lineOf

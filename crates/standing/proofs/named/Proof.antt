@@ -6,16 +6,16 @@ use mathlib.Core.Bool.{Bool, false}
 use Prim.Native.Nat.{ℕ}
 use Rattle.size.specs.declared.Size.{Size}
 use Rattle.size.specs.Size.{collectionLength}
-use Rattle.standing.specs.Stores.{sized}
-use Rattle.standing.specs.Receive.{named}
+use Rattle.standing.specs.Stores.{storesSized}
+use Rattle.standing.specs.Receive.{namedLengths}
 use Rattle.standing.proofs.named.Statement.{statement}
 use Rattle.standing.proofs.named.Tie as tie
 
 module _ {length : ℕ} (size : Size) (collection first second : ℕ) (is : length ≡ collectionLength size) where
-  by-stores : {right : Bool} → collection ≡ length → right ≡ sized size first second → right ≡ named size collection first second
+  by-stores : {right : Bool} → collection ≡ length → right ≡ storesSized size first second → right ≡ namedLengths size collection first second
   by-stores e h = h ∙ sym (rw (eq-eqb collection (collectionLength size) (e ∙ is)))
 
-  other : (collection ≡ length → ⊥) → false ≡ named size collection first second
+  other : (collection ≡ length → ⊥) → false ≡ namedLengths size collection first second
   other h = sym (rw (ne-eqb collection (collectionLength size) (λ e. h (e ∙ sym is))))
 
 returns : tie.Need-returns

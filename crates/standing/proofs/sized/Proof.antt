@@ -6,16 +6,16 @@ use mathlib.Core.Bool.{false}
 use Prim.Native.Nat.{ℕ}
 use lib.Dec.{eqb}
 use Rattle.size.specs.declared.Size.{Size}
-use Rattle.standing.specs.Stores.{sized}
+use Rattle.standing.specs.Stores.{storesSized}
 use Rattle.size.specs.Size.{storeLength}
 use Rattle.standing.proofs.sized.Statement.{statement}
 use Rattle.standing.proofs.sized.Tie as tie
 
 module _ {named : ℕ} (size : Size) (first second : ℕ) (is : named ≡ storeLength size) where
-  not-first : (first ≡ named → ⊥) → false ≡ sized size first second
+  not-first : (first ≡ named → ⊥) → false ≡ storesSized size first second
   not-first h = sym (rw (ne-eqb first (storeLength size) (λ e. h (e ∙ sym is))))
 
-  by-second : first ≡ named → eqb second named ≡ sized size first second
+  by-second : first ≡ named → eqb second named ≡ storesSized size first second
   by-second h = ap (eqb second) is ∙ sym (rw (eq-eqb first (storeLength size) (h ∙ is)))
 
 returns : tie.Need-returns

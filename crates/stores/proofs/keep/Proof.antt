@@ -8,13 +8,13 @@ use Rattle.layout.specs.Flat.{Flat, flat}
 use Rattle.coding.specs.Kind.{codingOf}
 use Rattle.standing.specs.declared.Holder.{Holder}
 use Rattle.standing.specs.declared.Holder.the-variants.{Neither, First, Second}
-use Rattle.standing.specs.Stores.{Stores, stores, reference, kept}
+use Rattle.standing.specs.Stores.{Stores, stores, reference, storesWith}
 use Rattle.stores.proofs.keep.Statement.{statement}
 use Rattle.stores.proofs.keep.Tie as tie
 
 -- the stores once the description's picture is finished
 abbrev done : Kind → Flat → Stores → Holder → Stores
-done k d s holder = kept holder (codingOf k .render d (reference holder s)) s
+done k d s holder = storesWith holder (codingOf k .render d (reference holder s)) s
 
 module _ {holder : Holder} (k : Kind) (d : Flat) (first second : List ℕ) where
   at-first : {picture : List ℕ} → holder ≡ Neither → picture ≡ codingOf k .render d second → stores picture second ≡ done k d (stores first second) holder

@@ -6,7 +6,9 @@ use Rattle.stream.proofs.extend.Statement.{statement}
 use Rattle.stream.proofs.extend.Tie as tie
 
 put-requires : tie.Need-put-requires
-put-requires c κs = (omega arith, omega arith, bit-small (c .before .before .before .before .args .bit) (c .before .bit-number .ensures), omega (arith, c .before .before .if1 .taken))
+put-requires c κs =
+    let small = bit-small (c .before .before .before .before .args .bit) (c .before .bit-number .ensures) in
+    (record { some = omega arith; short = omega arith; small = small }, omega (arith, c .before .before .if1 .taken))
 
 returns : tie.Need-returns
 returns c = extends-in (c .before .before .before .before .before .before .before .args .picture .now) (c .before .before .before .before .before .before .before .args .count) (c .before .before .before .before .before .before .before .args .bit) (c .before .before .before .before .before .if1 .taken) (c .before .before .before .before .bit-number .ensures) (c .before .before .put .ensures)

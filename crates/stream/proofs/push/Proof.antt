@@ -5,10 +5,20 @@ use Rattle.stream.proofs.push.Statement.{statement}
 use Rattle.stream.proofs.push.Tie as tie
 
 returns : tie.Need-returns
-returns c = pushed-start (c .before .before .before .before .before .before .before .before .args .stream) (c .before .before .before .before .before .before .before .before .args .bit) (c .before .before .before .before .before .before .starts .ensures) (c .before .before .before .before .before .before .before .before .args .picture .now) (c .before .before .before .before .before .if1 .taken) (c .begun-by .ensures) (c .before .before .before .begin .ensures)
+returns c =
+    let at-begin = c .before .before .before in
+    let at-if1 = at-begin .before .before in
+    let at-starts = at-if1 .before in
+    let a = at-starts .before .before .args in
+    pushed-start (a .stream) (a .bit) (at-starts .starts .ensures) (a .picture .now) (at-if1 .if1 .taken) (c .begun-by .ensures) (at-begin .begin .ensures)
 
 returns-2 : tie.Need-returns-2
-returns-2 c = pushed-on (c .before .before .before .before .before .before .before .before .args .stream) (c .before .before .before .before .before .before .before .before .args .bit) (c .before .before .before .before .before .before .starts .ensures) (c .before .before .before .before .before .before .before .before .args .picture .now) (c .before .before .before .before .before .if1 .left) (c .longer-by .ensures) (c .before .before .before .extend .ensures)
+returns-2 c =
+    let at-extend = c .before .before .before in
+    let at-if1 = at-extend .before .before in
+    let at-starts = at-if1 .before in
+    let a = at-starts .before .before .args in
+    pushed-on (a .stream) (a .bit) (at-starts .starts .ensures) (a .picture .now) (at-if1 .if1 .left) (c .longer-by .ensures) (at-extend .extend .ensures)
 
 pub push-spec : {M : Type 1} → statement M
 push-spec =

@@ -4,7 +4,7 @@ use borrow.Author.Tests.{le-leb, lt-leb, not-true, not-false}
 use mathlib.Core.Path.{_≡_, sym, ap, _∙_}
 use mathlib.Core.Bool.{Bool}
 use Rattle.vault.specs.declared.Header.{Header}
-use Rattle.vault.specs.Block.{ruled, clear, payloadOf, follows}
+use Rattle.vault.specs.Block.{headerRuled, unusedClear, payloadOf, fieldsFollow}
 use Rattle.vault.proofs.follows.Statement.{statement}
 use Rattle.vault.proofs.follows.Tie as tie
 
@@ -13,44 +13,44 @@ of-header : {read own : Header} {told is : Bool} (test : Header → Bool) → to
 of-header test e h t = sym (e ∙ ap test h) ∙ t
 
 returns : tie.Need-returns
-unfolding follows
+unfolding fieldsFollow
 returns c =
     let start = c .before .before .before in
-    simp (of-header (ruled (start .args .size)) (c .before .ruled .ensures) (start .pre .1) (not-true _ (c .if1 .taken)))
+    simp (of-header (headerRuled (start .args .size)) (c .before .ruled .ensures) (start .pre .1) (not-true _ (c .if1 .taken)))
 
 returns-2 : tie.Need-returns-2
-unfolding follows
+unfolding fieldsFollow
 returns-2 c =
     let at-ruled = c .before .before .before in
     let start = at-ruled .before .before in
     simp (
-      of-header (ruled (start .args .size)) (at-ruled .ruled .ensures) (start .pre .1) (not-false _ (c .before .before .if1 .left)),
+      of-header (headerRuled (start .args .size)) (at-ruled .ruled .ensures) (start .pre .1) (not-false _ (c .before .before .if1 .left)),
       lt-leb _ _ (c .if2 .taken),
     )
 
 returns-3 : tie.Need-returns-3
-unfolding follows
+unfolding fieldsFollow
 returns-3 c =
     let at-if2 = c .before .before .before in
     let at-ruled = at-if2 .before .before .before in
     let start = at-ruled .before .before in
     simp (
-      of-header (ruled (start .args .size)) (at-ruled .ruled .ensures) (start .pre .1) (not-false _ (at-if2 .before .before .if1 .left)),
+      of-header (headerRuled (start .args .size)) (at-ruled .ruled .ensures) (start .pre .1) (not-false _ (at-if2 .before .before .if1 .left)),
       le-leb _ _ (at-if2 .if2 .left),
-      of-header (λ (h : Header). clear (h .used) (payloadOf (start .args .block .now)) 500) (c .before .unused-zero .ensures) (start .pre .1)
+      of-header (λ (h : Header). unusedClear (h .used) (payloadOf (start .args .block .now)) 500) (c .before .unused-zero .ensures) (start .pre .1)
           (not-true _ (c .if3 .taken)),
     )
 
 returns-4 : tie.Need-returns-4
-unfolding follows
+unfolding fieldsFollow
 returns-4 c =
     let at-if2 = c .before .before .before .before in
     let at-ruled = at-if2 .before .before .before in
     let start = at-ruled .before .before in
     simp (
-      of-header (ruled (start .args .size)) (at-ruled .ruled .ensures) (start .pre .1) (not-false _ (at-if2 .before .before .if1 .left)),
+      of-header (headerRuled (start .args .size)) (at-ruled .ruled .ensures) (start .pre .1) (not-false _ (at-if2 .before .before .if1 .left)),
       le-leb _ _ (at-if2 .if2 .left),
-      of-header (λ (h : Header). clear (h .used) (payloadOf (start .args .block .now)) 500) (c .before .before .unused-zero .ensures) (start .pre .1)
+      of-header (λ (h : Header). unusedClear (h .used) (payloadOf (start .args .block .now)) 500) (c .before .before .unused-zero .ensures) (start .pre .1)
           (not-false _ (c .before .if3 .left)),
       c .pair .ensures,
     )

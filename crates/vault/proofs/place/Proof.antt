@@ -9,7 +9,7 @@ use lib.ListN.{length, take, drop, length-take, length-drop, drop-of-length-le}
 use lib.Seq.{length-take-le, take-length}
 use borrow.Rule.Slice.PartMut.{putMid, post-is}
 use Rattle.vault.specs.Block.{payloadOf}
-use Rattle.vault.specs.Parts.{placed}
+use Rattle.vault.specs.Parts.{placedPayload}
 use Rattle.vault.proofs.place.Statement.{statement}
 use Rattle.vault.proofs.place.Tie as tie
 
@@ -27,8 +27,8 @@ module _ (block collection : List ℕ) (part : ℕ) (e : length block ≡ 512) (
       rw (take-length, drop-of-length-le lent short, append-nil)
 
   in-place : (copy : List ℕ) → copy ≡ take (length (payloadOf block)) (payloadOf block) ++ drop (length (payloadOf block)) lent
-      → putMid (500 * part) (500 * part + 500 - 500 * part) collection copy ≡ placed block part collection
-  unfolding placed
+      → putMid (500 * part) (500 * part + 500 - 500 * part) collection copy ≡ placedPayload block part collection
+  unfolding placedPayload
   in-place copy f =
       (λ i. take (500 * part) collection ++ ((f ∙ copied) i ++ post-is (500 * part) (500 * part + 500) collection (omega arith) i))
       ∙ sym (append-assoc (take (500 * part) collection) (payloadOf block) (drop (500 * part + 500) collection))

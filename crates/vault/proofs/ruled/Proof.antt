@@ -2,27 +2,27 @@
 use borrow.Author.Needs.{needs}
 use borrow.Author.Tests.{lt-ltb, le-ltb, le-leb, lt-leb, not-true, not-false}
 use mathlib.Core.Path.{sym, _∙_}
-use Rattle.vault.specs.Block.{ruled}
+use Rattle.vault.specs.Block.{headerRuled}
 use Rattle.vault.proofs.ruled.Statement.{statement}
 use Rattle.vault.proofs.ruled.Tie as tie
 
 returns : tie.Need-returns
-unfolding ruled
+unfolding headerRuled
 returns c = simp (lt-leb _ _ (c .if1 .taken))
 
 returns-2 : tie.Need-returns-2
-unfolding ruled
+unfolding headerRuled
 returns-2 c = simp (le-leb _ _ (c .before .before .if1 .left), le-ltb _ _ (c .if2 .taken))
 
 returns-3 : tie.Need-returns-3
-unfolding ruled
+unfolding headerRuled
 returns-3 c =
     let at-if2 = c .before .before .before in
     let at-if1 = at-if2 .before .before in
     simp (le-leb _ _ (at-if1 .if1 .left), lt-ltb _ _ (at-if2 .if2 .left), lt-leb _ _ (rw (c .before .before .greatest-part .ensures) at (c .if3 .taken)))
 
 returns-4 : tie.Need-returns-4
-unfolding ruled
+unfolding headerRuled
 returns-4 c =
     let at-greatest-part = c .before .before .before .before in
     let at-if1 = at-greatest-part .before .before .before in
@@ -34,7 +34,7 @@ returns-4 c =
     )
 
 returns-5 : tie.Need-returns-5
-unfolding ruled
+unfolding headerRuled
 returns-5 c =
     let at-if3 = c .before .before .before in
     let at-if2 = at-if3 .before .before .before in

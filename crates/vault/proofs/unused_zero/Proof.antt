@@ -8,7 +8,7 @@ use lib.ListN.{getD}
 use lib.Seq.{getD-take, getD-drop}
 use lib.Pow.{pow-pos}
 use Rattle.vault.proofs.Clear.{clear-start, clear-less, clear-fails, clear-more}
-use Rattle.vault.specs.Block.{clear, payloadOf, unused}
+use Rattle.vault.specs.Block.{unusedClear, payloadOf, unused}
 use Rattle.vault.proofs.unused_zero.Statement.{statement}
 use Rattle.vault.proofs.unused_zero.Tie as tie
 
@@ -18,7 +18,7 @@ weighed : (block : List ℕ) (used i w : ℕ) → i < 500 → w ≡ 2 ^ unused u
 weighed block used i w l e = rw (getD-take, getD-drop, e)
 
 abbrev Inv-loop : tie.InvT-loop
-Inv-loop block used i₀ i = clear used (payloadOf block) i ≡ true
+Inv-loop block used i₀ i = unusedClear used (payloadOf block) i ≡ true
 
 abbrev μ-loop : tie.MeasureT-loop
 μ-loop block used i₀ i = 500 - i

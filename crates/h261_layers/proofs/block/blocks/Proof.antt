@@ -16,7 +16,9 @@ use Rattle.h261_layers.proofs.block.blocks.Statement.{statement}
 use Rattle.h261_layers.proofs.block.blocks.Tie as tie
 
 abbrev Inv-loop : tie.InvT-loop
-Inv-loop tables bytes count at intra pattern levels₀ base place₀ b₀ levels place b = BlocksSoFar (mapRead (putBlocks levels₀ base) (blocksRead intra (bitsOf 6 pattern) (bitsLeft bytes count at) at)) (length levels₀) bytes count intra pattern base levels b place
+Inv-loop tables bytes count at intra pattern levels₀ base place₀ b₀ levels place b =
+    BlocksSoFar (mapRead (putBlocks levels₀ base) (blocksRead intra (bitsOf 6 pattern) (bitsLeft bytes count at) at)) (length levels₀) bytes count intra pattern base
+    levels b place
 
 abbrev μ-loop : tie.MeasureT-loop
 μ-loop tables bytes count at intra pattern levels₀ base place₀ b₀ levels place b = 6 - b

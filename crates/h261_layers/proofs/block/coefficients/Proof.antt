@@ -4,11 +4,10 @@ use borrow.Author.Needs.{needs}
 use native.Mathlib.Omega.{arith}
 use Prim.Native.Nat.{_-_}
 use lib.ListN.{length, length-set}
-use Rattle.laws.specs.Choice.{pick}
 use Rattle.bits.specs.Bits.{bitsLeft}
 use Rattle.bits.specs.Read.{loop}
 use Rattle.h261_words.specs.Answer.{asCoefficient}
-use Rattle.h261_words.specs.Tables.{firstTable5, laterTable5}
+use Rattle.h261_words.specs.Tables.{tableOf}
 use Rattle.layout.specs.Flat.{putBlock}
 use Rattle.fields.specs.Answer.{mapRead, leaving}
 use Rattle.fields.specs.declared.PlaceRead.{PlaceRead}
@@ -18,7 +17,9 @@ use Rattle.h261_layers.proofs.block.coefficients.Statement.{statement}
 use Rattle.h261_layers.proofs.block.coefficients.Tie as tie
 
 abbrev Inv-loop : tie.InvT-loop
-Inv-loop tables bytes count at opening levels₀ from end place₀ first₀ k₀ levels place first k = (length levels ≡ length levels₀) × CoefficientsSoFar (mapRead (putBlock levels₀ from) (loop (λ turns. coefficients turns (end - from) (pick opening firstTable5 laterTable5)) (bitsLeft bytes count at) at)) bytes count end first levels k place
+Inv-loop tables bytes count at opening levels₀ from end place₀ first₀ k₀ levels place first k =
+    (length levels ≡ length levels₀)
+    × CoefficientsSoFar (mapRead (putBlock levels₀ from) (loop (λ turns. coefficients turns (end - from) (tableOf opening)) (bitsLeft bytes count at) at)) bytes count end first levels k place
 
 abbrev μ-loop : tie.MeasureT-loop
 μ-loop tables bytes count at opening levels₀ from end place₀ first₀ k₀ levels place first k = count - place

@@ -54,12 +54,12 @@ returns-3 : tie.Need-returns-3
 returns-3 c =
     let at-spares = c .before .before .before in
     let quantised-so = quantised (at-spares .before) in
-    row-no-place spares (λ dropped. done _) quantised-so 0 (at-spares .spares .result) (c .before .before .match3 .keys2) (at-spares .spares .ensures) (c .place-refusal2 .ensures)
+    row-no-field spares (λ dropped. done _) quantised-so (at-spares .spares .result) (c .before .before .match3 .keys2) (at-spares .spares .ensures) (c .field-refusal2 .ensures)
 
 returns-4 : tie.Need-returns-4
 returns-4 c =
     let at-spares = c .before .before .before in
-    row-done (row-place spares (λ dropped. done _) (quantised (at-spares .before)) 0 spares-reads (at-spares .spares .ensures) (c .before .dropped .given .1))
+    row-done (row-field spares (λ dropped. done _) (quantised (at-spares .before)) spares-reads (at-spares .spares .ensures) (c .before .dropped .given .1))
 
 pub group-head-spec : {M : Type 1} → statement M
 group-head-spec =

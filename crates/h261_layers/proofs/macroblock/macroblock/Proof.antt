@@ -9,17 +9,17 @@ use Rattle.bits.specs.Read.{Reader, _>>=_, refused}
 use Rattle.bits.specs.Code.{word}
 use Rattle.fields.specs.Rules.{optional, quantiser}
 use Rattle.fields.specs.Answer.{mapRead}
-use Rattle.fields.proofs.Row.{Row, row-field, row-no-field, row-field-good, row-word, row-no-word, row-word-good}
+use Rattle.fields.proofs.Row.{Row, row-field, row-no-field, row-field-good}
 use Rattle.fields.proofs.Told.{no-place, is-place}
 use Rattle.h261_words.specs.Tables.{table2}
 use Rattle.h261_words.specs.Words.{isMC, hasMQUANT}
 use Rattle.layout.specs.Value.{Vector, Macroblock}
 use Rattle.h261_description.specs.Vector.{Before}
-use Rattle.h261_layers.specs.Answer.{Typed, KeptVector, vectorOf, beforeOf, Sent, putSent}
+use Rattle.h261_layers.specs.Answer.{KeptVector, vectorOf, beforeOf, Sent, putSent}
 use Rattle.h261_layers.specs.Grammar.{patternRead, macroblock}
 use Rattle.h261_layers.proofs.Layers.{pattern-reads}
 use Rattle.h261_layers.proofs.Told.{row-vector, row-no-vector, row-vector-good}
-use Rattle.h261_layers.proofs.MacroblockSteps.{typed-of}
+use Rattle.h261_layers.proofs.MacroblockSteps.{Typed, typed-of}
 use Rattle.h261_layers.proofs.MacroblockWhole as row
 use Rattle.h261_layers.proofs.MacroblockWhole.{type-reads, mquant-reads, moved-reads, macroblock-begun, no-blocks, whole-macroblock, vector-kept, quantiser-small, small-byte}
 use Rattle.h261_layers.proofs.macroblock.macroblock.Statement.{statement}
@@ -63,10 +63,10 @@ module _ (c : tie.After-known-told) where
   type = c .before .kind .given .0 .0
 
   typed : To start₁ (afterType start₁ type) (c .before .kind .given .0 .1 .0)
-  typed = row-word (word table2) (afterType start₁) (begun start₁) type-reads (c .before .before .before .mtype .ensures) (c .before .kind .given .1)
+  typed = row-field (word table2) (afterType start₁) (begun start₁) type-reads (c .before .before .before .mtype .ensures) (c .before .kind .given .1)
 
   of-table : Typed type
-  of-table = typed-of type (row-word-good (word table2) (afterType start₁) (begun start₁) type-reads (c .before .before .before .mtype .ensures) (c .before .kind .given .1))
+  of-table = typed-of type (row-field-good (word table2) (afterType start₁) (begun start₁) type-reads (c .before .before .before .mtype .ensures) (c .before .kind .given .1))
 
 module _ (c : tie.After-known-told2) where
   abbrev told₂ : tie.After-known-told
@@ -141,7 +141,7 @@ module _ (c : tie.After-known-told4) where
 
   coded : To start (afterPattern start type₄ mquant₄ vector₄ cbp) (c .before .coded .given .0 .1 .0)
   coded =
-      row-word (patternRead type₄) (afterPattern start type₄ mquant₄ vector₄) (pointed told₄) (pattern-reads type₄)
+      row-field (patternRead type₄) (afterPattern start type₄ mquant₄ vector₄) (pointed told₄) (pattern-reads type₄)
       (c .before .before .before .pattern .ensures) (c .before .coded .given .1)
 
 -- ---- the needs
@@ -154,7 +154,10 @@ returns : tie.Need-returns
 returns c =
     let at-mtype = c .before .before .before in
     let s = at-mtype .before .before .before .before in
-    ap (mapRead (put s)) (row-no-word (word table2) (afterType s) (begun s) (at-mtype .mtype .result) (c .before .before .match .keys2) (at-mtype .mtype .ensures) (c .word-refusal .ensures))
+    ap (mapRead (put s)) (row-no-field (word table2) (afterType s) (begun s) (at-mtype .mtype .result) (c .before .before .match .keys2) (at-mtype .mtype .ensures) (c .field-refusal .ensures))
+
+cast-mtype : tie.Need-cast-mtype
+cast-mtype c = omega (arith, of-table c .high)
 
 mquant-requires : tie.Need-mquant-requires
 mquant-requires c κs = typed c .within
@@ -165,7 +168,7 @@ returns-2 c =
     let told = at-mquant .before in
     ap (mapRead (put (start₁ told)))
     (row-no-field (optional (hasMQUANT (type told)) 0 quantiser) (afterQuantiser (start₁ told) (type told)) (typed told) (at-mquant .mquant .result) (c .before .before .match2 .keys2)
-    (at-mquant .mquant .ensures) (c .field-refusal .ensures))
+    (at-mquant .mquant .ensures) (c .field-refusal2 .ensures))
 
 moved-requires : tie.Need-moved-requires
 moved-requires c κs = (record { tabled = start₂ c .pre .0 .tabled; within = quantised c .within }, start₂ c .pre .1 .stepped)
@@ -186,8 +189,8 @@ returns-4 c =
     let at-pattern = c .before .before .before in
     let told = at-pattern .before in
     ap (mapRead (put (start₃ told)))
-    (row-no-word (patternRead (type₃ told)) (afterPattern (start₃ told) (type₃ told) (mquant (told₃ told)) (vectorOf (across told) (down told))) (pointed told) (at-pattern .pattern .result)
-    (c .before .before .match4 .keys2) (at-pattern .pattern .ensures) (c .word-refusal2 .ensures))
+    (row-no-field (patternRead (type₃ told)) (afterPattern (start₃ told) (type₃ told) (mquant (told₃ told)) (vectorOf (across told) (down told))) (pointed told) (at-pattern .pattern .result)
+    (c .before .before .match4 .keys2) (at-pattern .pattern .ensures) (c .field-refusal3 .ensures))
 
 add-address : tie.Need-add-address
 add-address c = omega (arith, start (c .before) .pre .1 .stepped .last-address)
@@ -252,7 +255,7 @@ returns-6 c =
 pub macroblock-spec : {M : Type 1} → statement M
 macroblock-spec =
     tie.close
-    (tie.spec mtype-requires (λ c. search needs) (λ c. search needs) (λ c κs. search needs) returns mquant-requires (λ c. search needs)
+    (tie.spec mtype-requires (λ c. search needs) (λ c. search needs) (λ c κs. search needs) returns cast-mtype mquant-requires (λ c. search needs)
     (λ c. search needs) (λ c κs. search needs) returns-2 moved-requires (λ c. search needs) (λ c. search needs) (λ c κs. search needs)
     returns-3 pattern-requires (λ c. search needs) (λ c. search needs) (λ c κs. search needs) returns-4 add-address mul-index sub-index
     add-index (λ c κs. search needs) mul-blocks blocks-requires (λ c. search needs) (λ c. search needs) (λ c κs. search needs)

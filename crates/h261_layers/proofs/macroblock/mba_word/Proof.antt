@@ -5,7 +5,7 @@ use Rattle.bits.specs.Read.{got, refused}
 use Rattle.bits.specs.Code.{word}
 use Rattle.h261_words.specs.Tables.{table1}
 use Prim.Native.Nat.{ℕ}
-use Rattle.bits.proofs.Told.{no-word, is-word}
+use Rattle.bits.proofs.Told.{no-field, is-field}
 use Rattle.h261_layers.proofs.MacroblockSteps.{mba-refused, mba-stuffed, mba-start-last, mba-start, mba-past, mba-step}
 use borrow.Author.Needs.{needs}
 use Rattle.h261_layers.proofs.macroblock.mba_word.Statement.{statement}
@@ -21,7 +21,7 @@ module _ (t : tie.After-known-told) where
 
   found : word table1 (bitsLeft (start .args .bytes .now) (start .args .count) (start .args .at)) (start .args .at)
       ≡ got (t .before .read .given .0 .0) (bitsLeft (start .args .bytes .now) (start .args .count) next) next
-  found = is-word _ _ _ _ _ (t .before .before .before .mba .ensures) (t .before .read .given .1)
+  found = is-field _ _ _ _ _ (t .before .before .before .mba .ensures) (t .before .read .given .1)
 
 -- ---- the needs
 mba-requires : tie.Need-mba-requires
@@ -31,8 +31,8 @@ returns : tie.Need-returns
 returns c =
     let at-mba = c .before .before .before in
     let start = at-mba .before .before in
-    ap refused (c .word-refusal .ensures)
-    ∙ mba-refused (start .args .last) (start .args .address) _ _ _ (no-word _ _ (at-mba .mba .result) (c .before .before .match .keys2) (at-mba .mba .ensures))
+    ap refused (c .field-refusal .ensures)
+    ∙ mba-refused (start .args .last) (start .args .address) _ _ _ (no-field _ _ (at-mba .mba .result) (c .before .before .match .keys2) (at-mba .mba .ensures))
 
 returns-2 : tie.Need-returns-2
 returns-2 c = let t = c .before in mba-stuffed (start t .args .last) (start t .args .address) _ _ _ _ _ (found t) (c .if1 .taken)

@@ -1,11 +1,12 @@
 -- `h261_layers::macroblock::moved` meets its contract: no vector, one after zero, or one after the vector that is behind.
 use Rattle.h261_layers.proofs.MacroblockSteps.{optional-not, moved-anew, moved-on}
+use Rattle.h261_groups.specs.Format.{Addressed}
 use Rattle.h261_words.specs.Words.{isMC}
 use Rattle.layout.specs.Value.{zeroVector}
 use Rattle.h261_description.specs.Vector.{preceding}
 use Rattle.h261_layers.specs.Vector.{vectorRead}
 use Rattle.h261_layers.specs.Answer.{beforeOf}
-use Rattle.h261_layers.specs.Ready.{Addressed, Stepped}
+use Rattle.h261_layers.specs.Ready.{Stepped}
 use Rattle.h261_layers.specs.declared.Behind.{Behind}
 use native.Mathlib.Omega.{arith}
 use Prim.Native.Nat.{ℕ, _+_}

@@ -12,13 +12,25 @@ cbp-requires : tie.Need-cbp-requires
 cbp-requires c κs = (c .before .before .before .pre .tabled, c .before .before .before .pre .within)
 
 returns : tie.Need-returns
-returns c = optional-there (hasCBP (c .before .before .before .before .args .mtype)) (c .before .before .has-cbp .result) (pick (isIntra (c .before .before .before .before .args .mtype)) 63 0) (word table4) _ _ (c .before .before .has-cbp .ensures) _ (c .before .if1 .taken) (c .cbp .ensures)
+returns c =
+    let at-has-cbp = c .before .before in
+    let mtype = at-has-cbp .before .before .args .mtype in
+    optional-there (hasCBP mtype) (at-has-cbp .has-cbp .result) (pick (isIntra mtype) 63 0) (word table4) _ _ (at-has-cbp .has-cbp .ensures) _ (c .before .if1 .taken)
+    (c .cbp .ensures)
 
 returns-2 : tie.Need-returns-2
-returns-2 c = pattern-all (c .before .before .before .before .before .args .mtype) (c .before .before .before .has-cbp .result) (c .before .is-intra .result) _ _ (c .before .before .before .has-cbp .ensures) (c .before .is-intra .ensures) (c .before .before .if1 .left) (c .if2 .taken)
+returns-2 c =
+    let at-intra = c .before in
+    let at-if1 = at-intra .before in
+    let at-has-cbp = at-if1 .before in
+    pattern-all (at-has-cbp .before .before .args .mtype) _ _ _ _ (at-has-cbp .has-cbp .ensures) (at-intra .is-intra .ensures) (at-if1 .if1 .left) (c .if2 .taken)
 
 returns-3 : tie.Need-returns-3
-returns-3 c = pattern-none (c .before .before .before .before .before .args .mtype) (c .before .before .before .has-cbp .result) (c .before .is-intra .result) _ _ (c .before .before .before .has-cbp .ensures) (c .before .is-intra .ensures) (c .before .before .if1 .left) (c .if2 .left)
+returns-3 c =
+    let at-intra = c .before in
+    let at-if1 = at-intra .before in
+    let at-has-cbp = at-if1 .before in
+    pattern-none (at-has-cbp .before .before .args .mtype) _ _ _ _ (at-has-cbp .has-cbp .ensures) (at-intra .is-intra .ensures) (at-if1 .if1 .left) (c .if2 .left)
 
 pub pattern-spec : {M : Type 1} → statement M
 pattern-spec = tie.close (tie.spec (λ c κs. search needs) cbp-requires returns (λ c κs. search needs) returns-2 returns-3)

@@ -22,7 +22,10 @@ slice-write-macroblocks-4 : tie.Need-slice-write-macroblocks-4
 slice-write-macroblocks-4 c = simp length-set (omega (arith, c .before .before .before .pre .0))
 
 returns : tie.Need-returns
-returns c = fields-are (c .before .before .before .args .macroblocks .now) (c .before .before .before .args .at) (c .before .before .before .args .mtype) (c .before .before .before .args .quantiser) _ _ _ _ (c .before .component-byte .ensures) (c .component-byte2 .ensures)
+returns c =
+    let start = c .before .before .before in
+    fields-are (start .args .macroblocks .now) (start .args .at) (start .args .mtype) (start .args .quantiser) _ _ _ _ (c .before .component-byte .ensures)
+    (c .component-byte2 .ensures)
 
 pub put-fields-spec : {M : Type 1} → statement M
 put-fields-spec =

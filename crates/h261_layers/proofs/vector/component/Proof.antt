@@ -5,7 +5,7 @@ use Prim.Native.Nat.{_<_}
 use Rattle.bits.specs.Bits.{bitsLeft}
 use Rattle.bits.specs.Read.{got, refused}
 use Rattle.bits.specs.Code.{word}
-use Rattle.bits.proofs.Told.{no-word, is-word}
+use Rattle.bits.proofs.Told.{no-field, is-field}
 use Rattle.h261_words.specs.Tables.{table3}
 use Rattle.h261_layers.proofs.VectorSteps.{component-refused, component-out, component-in, pair-below}
 use borrow.Author.Needs.{needs}
@@ -19,7 +19,7 @@ module _ (c : tie.After-known-told) where
 
   pair : word table3 (bitsLeft (start .args .bytes .now) (start .args .count) (start .args .at)) (start .args .at)
       ≡ got (c .before .read .given .0 .0) (bitsLeft (start .args .bytes .now) (start .args .count) (c .before .read .given .0 .1 .0)) (c .before .read .given .0 .1 .0)
-  pair = is-word _ _ _ _ _ (c .before .before .before .mvd .ensures) (c .before .read .given .1)
+  pair = is-field _ _ _ _ _ (c .before .before .before .mvd .ensures) (c .before .read .given .1)
 
   below : c .before .read .given .0 .0 < 32
   below = pair-below _ _ _ _ _ (start .pre .0 .within .inside) pair
@@ -31,8 +31,8 @@ mvd-requires c κs = (c .before .pre .0 .tabled, c .before .pre .0 .within)
 returns : tie.Need-returns
 returns c =
     let at-mvd = c .before .before .before in
-    ap refused (c .word-refusal .ensures)
-    ∙ component-refused _ (at-mvd .before .before .pre .1) _ _ _ (no-word _ _ (at-mvd .mvd .result) (c .before .before .match .keys2) (at-mvd .mvd .ensures))
+    ap refused (c .field-refusal .ensures)
+    ∙ component-refused _ (at-mvd .before .before .pre .1) _ _ _ (no-field _ _ (at-mvd .mvd .result) (c .before .before .match .keys2) (at-mvd .mvd .ensures))
 
 add-landed : tie.Need-add-landed
 add-landed c = omega (arith, below c, start c .pre .1 .high)

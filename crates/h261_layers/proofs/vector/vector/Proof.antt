@@ -66,7 +66,7 @@ returns c =
     let s = at-component .before .before in
     vector-refused (s .args .format) (s .args .number) (s .args .address) (preceding s) _ _ _
     (row-no-component (componentRead (componentOf (s .args .horizontal))) (afterFirst (preceding s)) (begun s) (at-component .component .result) (c .before .before .match .keys2)
-    (at-component .component .ensures) (c .word-refusal .ensures))
+    (at-component .component .ensures) (c .field-refusal .ensures))
 
 component-requires-2 : tie.Need-component-requires-2
 component-requires-2 c κs = (record { tabled = start₁ c .pre .0 .tabled; within = first c .within }, start₁ c .pre .1 .vertically)
@@ -78,7 +78,7 @@ returns-2 c =
     let s = start₁ read in
     vector-refused (s .args .format) (s .args .number) (s .args .address) (preceding s) _ _ _
     (row-no-component (componentRead (componentOf (s .args .vertical))) (λ v. done (record { horizontal = componentOf (read .before .first .given .0 .0); vertical = v })) (first read)
-    (at-component .component2 .result) (c .before .before .match2 .keys2) (at-component .component2 .ensures) (c .word-refusal2 .ensures))
+    (at-component .component2 .result) (c .before .before .match2 .keys2) (at-component .component2 .ensures) (c .field-refusal2 .ensures))
 
 column-requires : tie.Need-column-requires
 column-requires c κs = start c .pre .1 .addressed

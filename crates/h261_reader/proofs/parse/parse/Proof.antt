@@ -1,16 +1,14 @@
 -- `h261_reader::parse::parse` meets its contract: the count is refused, or the header is, or a group is, and the buffers are cleared; or the groups are laid out.
-use Prim.Native.Nat.{zero-le, _+_, _*_}
+use Prim.Native.Nat.{zero-le, _+_}
 use Rattle.h261_groups.specs.Format.{groupCount}
-use mathlib.Core.Path.{refl, ap, _∙_}
+use mathlib.Core.Path.{refl, _∙_}
 use native.Mathlib.Omega.{arith}
 use lib.ListN.{length-set}
-use Rattle.refusals.specs.declared.Refusal.{Refusal}
 use Rattle.h261_reader.proofs.Blank.{blank-lengths}
-use Rattle.h261_reader.specs.Described.{described}
-use Rattle.refusals.specs.declared.Verdict.the-variants.{Refused}
 use Rattle.h261_layers.proofs.Layers as layers
+use Rattle.bits.specs.Answer.{Within}
 use Rattle.fields.proofs.Told.{within-next}
-use Rattle.h261_reader.proofs.ParseSteps.{described-count, lent-is, described-no-header, header-is, groups-described, cleared-as, refused-verdict, refused-buffers, read-verdict, read-buffers, unread}
+use Rattle.h261_reader.proofs.ParseSteps.{described-count, lent-is, described-no-header, header-is, groups-described, cleared-as, refused-blank, read-laid, unread}
 use borrow.Author.Needs.{needs}
 use Rattle.h261_reader.proofs.parse.parse.Statement.{statement}
 use Rattle.h261_reader.proofs.parse.parse.Tie as tie
@@ -19,36 +17,29 @@ returns : tie.Need-returns
 returns c =
     let at-above = c .before in
     let start = at-above .before .before .before .before .before in
-    let bytes = start .args .bytes .now in
-    let format = start .args .format in
-    let count = start .args .count in
-    let d = described-count format bytes count (at-above .above .result) (at-above .above .ensures) (c .if1 .taken) in (
-      refused-verdict format (described format bytes count) _ d,
-      refused-buffers format (described format bytes count) _ _ _ _ d (start .pre .head-blank) (start .pre .ms-blank) (start .pre .ls-blank),
-    )
+    refused-blank (start .args .format) _ (described-count _ _ _ (at-above .above .result) (at-above .above .ensures) (c .if1 .taken)) refl (start .pre)
+
+-- the bytes have N bits
+module _ (c : tie.Else1) where
+  abbrev began : tie.Start
+  began = c .before .before .before .before .before .before
+
+  lent : Within (began .args .bytes .now) (began .args .count) 0
+  lent = record { lent = lent-is (began .args .format) (began .args .bytes .now) _ (c .before .above .result) (c .before .above .ensures) (c .if1 .left); inside = zero-le }
 
 header-requires : tie.Need-header-requires
-header-requires c κs =
-    let at-above = c .before in
-    let start = at-above .before .before .before .before .before in
-    record
-    { lent = lent-is (start .args .format) (start .args .bytes .now) (start .args .count) (at-above .above .result) (at-above .above .ensures) (c .if1 .left); inside = zero-le }
+header-requires c κs = lent c
 
 returns-2 : tie.Need-returns-2
 returns-2 c =
     let at-header = c .before .before .before in
     let at-if1 = at-header .before in
     let at-above = at-if1 .before in
-    let start = at-above .before .before .before .before .before in
-    let bytes = start .args .bytes .now in
-    let format = start .args .format in
-    let count = start .args .count in
-    let d =
-    described-no-header format bytes count (at-above .above .result) (at-above .above .ensures) (at-if1 .if1 .left) (at-header .header .result) (at-header .header .ensures)
-    (c .before .before .match .keys2) in (
-      ap (λ (r : Refusal). Refused r) (c .pair-refusal .ensures) ∙ refused-verdict format (described format bytes count) _ d,
-      refused-buffers format (described format bytes count) _ _ _ _ d (start .pre .head-blank) (start .pre .ms-blank) (start .pre .ls-blank),
-    )
+    let start = began at-if1 in
+    refused-blank (start .args .format) _
+    (described-no-header _ _ _ (at-above .above .result) (at-above .above .ensures) (at-if1 .if1 .left) (at-header .header .result) (at-header .header .ensures)
+    (c .before .before .match .keys2))
+    (c .pair-refusal .ensures) (start .pre)
 
 slice-write-head : tie.Need-slice-write-head
 slice-write-head c = omega (arith, blank-lengths (c .before .before .before .before .before .before .before .before .before .before .pre) .head-long)
@@ -66,18 +57,15 @@ groups-requires c κs =
     let at-header = at-opened .before .before in
     let at-if1 = at-header .before in
     let at-above = at-if1 .before in
-    let start = at-above .before .before .before .before .before in
-    let bytes = start .args .bytes .now in
-    let format = start .args .format in
-    let count = start .args .count in (
+    let start = began at-if1 in
+    let long = blank-lengths (start .pre) in (
       record {
         tabled = at-tables .tables .ensures;
-        within = within-next _ _ _ _ _ (layers.header-reads format)
-            (record { lent = lent-is format bytes count (at-above .above .result) (at-above .above .ensures) (at-if1 .if1 .left); inside = zero-le })
-            (header-is format bytes count (at-above .above .result) (at-above .above .ensures) (at-if1 .if1 .left) (at-header .header .result) (at-header .header .ensures) _ _ _
+        within = within-next _ _ _ _ _ (layers.header-reads (start .args .format)) (lent at-if1)
+            (header-is _ _ _ (at-above .above .result) (at-above .above .ensures) (at-if1 .if1 .left) (at-header .header .result) (at-header .header .ensures) _ _ _
             (at-opened .opened .given .1));
       },
-      record { head-long = simp length-set (blank-lengths (start .pre) .head-long); ms-long = blank-lengths (start .pre) .ms-long; ls-long = blank-lengths (start .pre) .ls-long },
+      record { head-long = simp length-set (long .head-long); ms-long = long .ms-long; ls-long = long .ls-long },
     )
 
 same-length : tie.Need-same-length
@@ -109,22 +97,17 @@ returns-3 c =
     let at-opened = at-bit .before .before in
     let at-header = at-opened .before .before in
     let at-if1 = at-header .before in
-    let at-above = at-if1 .before in
-    let start = at-above .before .before .before .before .before in
-    let bytes = start .args .bytes .now in
-    let format = start .args .format in
-    let count = start .args .count in
-    let fits = blank-lengths (start .pre) in
-    let d = unread format (described format bytes count) bytes count (at-groups .groups .result) _
-    (groups-described format bytes count (at-above .above .result) (at-above .above .ensures) (at-if1 .if1 .left) (at-header .header .result) (at-header .header .ensures) _ _
-    _ (at-bit .bit .result) _ _ _ _ (at-opened .opened .given .1) (at-bit .bit .ensures) (start .pre .head-blank) (start .pre .ms-blank) (start .pre .ls-blank) (at-groups .groups .ensures))
-    (at-match2 .match2 .keys2) in (
-      ap (λ (r : Refusal). Refused r) (c .place-refusal .ensures) ∙ refused-verdict format (described format bytes count) _ d,
-      refused-buffers format (described format bytes count) _ _ _ _ d
-          (cleared-as _ (3 + groupCount format) _ (at-clear .clear .ensures) (at-groups .groups .kept .1 .1 .1 .1 .1 .0 ∙ simp length-set (fits .head-long)))
-          (cleared-as _ (groupCount format * 132) _ (at-clear2 .clear2 .ensures) (at-groups .groups .kept .1 .1 .1 .1 .1 .1 .0 ∙ fits .ms-long))
-          (cleared-as _ (groupCount format * 12672) _ (at-clear3 .clear3 .ensures) (at-groups .groups .kept .1 .1 .1 .1 .1 .1 .1 .0 ∙ fits .ls-long)),
-    )
+    let start = began at-if1 in
+    let long = blank-lengths (start .pre) in
+    let laid =
+    groups-described _ _ _ _ (at-if1 .before .above .ensures) (at-if1 .if1 .left) (at-header .header .result) (at-header .header .ensures) (at-opened .opened .given .1)
+    (at-bit .bit .ensures) (start .pre) (at-groups .groups .ensures) in
+    refused-blank (start .args .format) _ (unread (start .args .format) _ _ _ (at-groups .groups .result) _ laid (at-match2 .match2 .keys2)) (c .place-refusal .ensures)
+    (record {
+      head-blank = cleared-as _ (3 + groupCount (start .args .format)) _ (at-clear .clear .ensures) (at-groups .groups .kept .1 .1 .1 .1 .1 .0 ∙ simp length-set (long .head-long));
+      ms-blank = cleared-as _ _ _ (at-clear2 .clear2 .ensures) (at-groups .groups .kept .1 .1 .1 .1 .1 .1 .0 ∙ long .ms-long);
+      ls-blank = cleared-as _ _ _ (at-clear3 .clear3 .ensures) (at-groups .groups .kept .1 .1 .1 .1 .1 .1 .1 .0 ∙ long .ls-long);
+    })
 
 same-length-4 : tie.Need-same-length-4
 same-length-4 c =
@@ -149,17 +132,11 @@ returns-4 c =
     let at-opened = at-bit .before .before in
     let at-header = at-opened .before .before in
     let at-if1 = at-header .before in
-    let at-above = at-if1 .before in
-    let start = at-above .before .before .before .before .before in
-    let bytes = start .args .bytes .now in
-    let format = start .args .format in
-    let count = start .args .count in
-    let v =
-    groups-described format bytes count (at-above .above .result) (at-above .above .ensures) (at-if1 .if1 .left) (at-header .header .result) (at-header .header .ensures) _ _
-    _ (at-bit .bit .result) _ _ _ _ (at-opened .opened .given .1) (at-bit .bit .ensures) (start .pre .head-blank) (start .pre .ms-blank) (start .pre .ls-blank) (at-groups .groups .ensures) in (
-      read-verdict format (described format bytes count) bytes count (at-groups .groups .result) _ v (at-match2 .match2 .keys1),
-      read-buffers format (described format bytes count) bytes count (at-groups .groups .result) _ v (at-match2 .match2 .keys1),
-    )
+    let start = began at-if1 in
+    let laid =
+    groups-described _ _ _ _ (at-if1 .before .above .ensures) (at-if1 .if1 .left) (at-header .header .result) (at-header .header .ensures) (at-opened .opened .given .1)
+    (at-bit .bit .ensures) (start .pre) (at-groups .groups .ensures) in
+    read-laid (start .args .format) _ _ _ (at-groups .groups .result) _ laid (at-match2 .match2 .keys1)
 
 pub parse-spec : {M : Type 1} → statement M
 parse-spec =

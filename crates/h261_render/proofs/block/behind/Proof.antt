@@ -3,12 +3,12 @@ use mathlib.Core.Path.{sym, ap, _∙_}
 use Prim.Native.Nat.{ℕ, _/_}
 use borrow.Author.Needs.{needs}
 use Rattle.h261_render.proofs.Component.{back-low, back-high, halved-whole, halved-half, halved-none}
-use Rattle.h261_description.specs.Moved.{halved}
+use Rattle.h261_description.specs.Moved.{halvedPlace}
 use Rattle.h261_render.proofs.block.behind.Statement.{statement}
 use Rattle.h261_render.proofs.block.behind.Tie as tie
 
 returns : tie.Need-returns
-returns c = sym (ap (halved (c .before .args .plane)) (back-low (c .before .args .component) (c .if1 .taken)) ∙ halved-none (c .before .args .plane))
+returns c = sym (ap (halvedPlace (c .before .args .plane)) (back-low (c .before .args .component) (c .if1 .taken)) ∙ halved-none (c .before .args .plane))
 
 returns-2 : tie.Need-returns-2
 returns-2 c = let s = c .before .before in sym (halved-whole (s .args .plane) _ (c .if2 .taken) ∙ back-high (s .args .component) (search needs) (search needs))

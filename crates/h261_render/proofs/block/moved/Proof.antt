@@ -3,7 +3,7 @@ use Prim.Native.Nat.{_+_, _-_}
 use native.Mathlib.Omega.{arith}
 use borrow.Author.Needs.{needs}
 use Rattle.h261_render.proofs.Component.{ahead-most}
-use Rattle.h261_description.specs.Moved.{moved}
+use Rattle.h261_description.specs.Moved.{movedPlace}
 use Rattle.h261_render.proofs.block.moved.Statement.{statement}
 use Rattle.h261_render.proofs.block.moved.Tie as tie
 
@@ -11,7 +11,7 @@ add-result : tie.Need-add-result
 add-result c = omega (arith, c .forth .ensures, ahead-most (c .before .args .plane) (c .before .args .component) (search needs))
 
 returns : tie.Need-returns
-unfolding moved
+unfolding movedPlace
 returns c = λ i. c .before .before .args .place + c .before .forth .ensures i - c .behind .ensures i
 
 pub moved-spec : {M : Type 1} → statement M

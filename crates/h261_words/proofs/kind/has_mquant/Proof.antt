@@ -1,4 +1,4 @@
--- `kind::has_mquant` meets its contract: a computed test for each type, and none past 10.
+-- `h261_words::kind::has_mquant` meets its contract: a computed test for each type, and none past 10.
 use Rattle.h261_words.proofs.TypeSays.{mquant-yes, mquant-no}
 use Rattle.h261_words.proofs.kind.has_mquant.Statement.{statement}
 use Rattle.h261_words.proofs.kind.has_mquant.Tie as tie

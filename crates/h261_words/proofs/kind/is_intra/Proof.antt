@@ -1,4 +1,4 @@
--- `kind::is_intra` meets its contract: a computed test for each range of types, and none past 10.
+-- `h261_words::kind::is_intra` meets its contract: a computed test for each range of types, and none past 10.
 use mathlib.Core.Bool.{true, false}
 use mathlib.Core.List.{[], _∷_}
 use native.Mathlib.Omega.{arith}

@@ -1,15 +1,11 @@
 -- `block::blocks` meets its contract. The loop's invariant: what is written is the blocks before this one.
-use Prim.Native.Nat.{_+_, _-_, _*_}
+use Prim.Native.Nat.{_-_}
 use native.Mathlib.Omega.{arith}
 use borrow.Author.Needs.{needs}
-use lib.ListN.{drop}
-use Rattle.layout.proofs.Levels.{all-take, all-drop}
+use Rattle.bits.proofs.Appended.{wrote-long}
 use Rattle.layout.specs.Flat.{gathers}
-use Rattle.layout.specs.Numbers.{isLevel}
 use Rattle.h261_writer.specs.Write.{blocksOf}
-use Rattle.h261_writer.proofs.Put.{wrote-long}
-use Rattle.h261_validity.proofs.Steps.{piece-length}
-use Rattle.h261_writer.proofs.BlockTurn.{BlocksSoFar, blocks-begin, block-begins, blocks-done, blocks-room, blocks-more}
+use Rattle.h261_writer.proofs.BlockTurn.{BlocksSoFar, blocks-begin, blocks-done, block-asked, blocks-more}
 use Rattle.h261_writer.proofs.block.blocks.Statement.{statement}
 use Rattle.h261_writer.proofs.block.blocks.Tie as tie
 
@@ -19,34 +15,25 @@ Inv-loop tables levels intra out₀ at place₀ b₀ out place b = BlocksSoFar (
 abbrev μ-loop : tie.MeasureT-loop
 μ-loop tables levels intra out₀ at place₀ b₀ out place b = 6 - b
 
+abbrev start : tie.At-loop Inv-loop μ-loop → tie.Start Inv-loop μ-loop
+start c = c .before .before .before
+
 loop-holds : tie.Need-loop-holds Inv-loop μ-loop
 loop-holds c = blocks-begin _ _ _ _
 
 part-block-end : tie.Need-part-block-end Inv-loop μ-loop
-part-block-end c = omega (arith, c .before .before .before .before .pre .long, c .loop-test .taken)
+part-block-end c = omega (arith, start (c .before) .pre .long, c .loop-test .taken)
 
 block-requires : tie.Need-block-requires Inv-loop μ-loop
 block-requires c κs =
-    let at-loop-test = c .before .before in
-    let at-loop = at-loop-test .before in
-    let start = at-loop .before .before .before in
-    let levels = start .args .levels .now in
-    record {
-      tables = start .pre .tables;
-      long = piece-length levels (at-loop .loop .b * 64) 64 (omega (arith, start .pre .long, at-loop-test .loop-test .taken));
-      allowed = all-take isLevel (at-loop .loop .b * 64 + 64 - at-loop .loop .b * 64) (drop (at-loop .loop .b * 64) levels) (all-drop isLevel (at-loop .loop .b * 64) levels (start .pre .allowed));
-      coded = block-begins levels (start .args .intra) (at-loop .loop .b) (start .pre .coded) (at-loop-test .loop-test .taken);
-      room = blocks-room (at-loop .loop .inv) (start .pre .room) (at-loop-test .loop-test .taken);
-    }
+    let t = c .before .before in let l = t .before in
+    block-asked (l .loop .inv) (t .loop-test .taken) (start l .pre) (start l .pre .counts)
 
 loop-again : tie.Need-loop-again Inv-loop μ-loop
-loop-again c =
-    let at-loop-test = c .before .before .before .before .before in
-    let start = at-loop-test .before .before .before .before in
-    blocks-more (at-loop-test .before .loop .inv) (start .pre .room) (at-loop-test .loop-test .taken) (c .before .before .block .ensures)
+loop-again c = let t = c .before .before .before .before .before in blocks-more (t .before .loop .inv) (t .loop-test .taken) (c .before .before .block .ensures)
 
 same-length : tie.Need-same-length Inv-loop μ-loop
-same-length c = wrote-long (c .before .loop .inv .wrote) (c .before .before .before .before .pre .room) (omega (arith, c .before .loop .inv .count))
+same-length c = wrote-long (c .before .loop .inv .wrote)
 
 returns : tie.Need-returns Inv-loop μ-loop
 returns c = blocks-done (c .before .loop .inv) (c .loop-test .left)

@@ -1,71 +1,44 @@
 -- `vector::vector` meets its contract: by the type, and by whether the preceding vector counts as zero.
-use mathlib.Core.Path.{sym, ap, _∙_}
-use mathlib.Core.Bool.{Bool, true}
+use mathlib.Core.Path.{_≡_, sym, _∙_}
+use mathlib.Core.Bool.{true}
 use borrow.Author.Needs.{needs}
 use borrow.Author.Tests.{not-true, not-false}
-use Rattle.laws.specs.Choice.{pick}
-use Rattle.h261_writer.specs.Write.{vectorOf}
-use Rattle.h261_writer.proofs.MacroblockSteps.{given-not, pointing}
-use Rattle.layout.specs.Value.{zeroVector}
+use Rattle.h261_words.specs.Words.{isMC}
+use Rattle.layout.specs.Flat.{byteVector}
 use Rattle.h261_description.specs.Vector.{preceding}
-use Rattle.h261_writer.specs.Sound.{behind}
+use Rattle.h261_writer.specs.Write.{vectorBits}
+use Rattle.h261_writer.specs.Sound.{beforeIn}
+use Rattle.h261_writer.proofs.MacroblockSteps.{left-out, zero-asked, own-asked, zero-wrote, own-wrote}
 use Rattle.h261_writer.proofs.vector.vector.Statement.{statement}
 use Rattle.h261_writer.proofs.vector.vector.Tie as tie
 
+abbrev start : tie.Else1 → tie.Start
+start c = c .before .before .before
+
+-- the type is MC
+pointed : (c : tie.Else1) → isMC (start c .args .kind) ≡ true
+pointed c = sym (c .before .is-mc .ensures) ∙ not-false _ (c .if1 .left)
+
 returns : tie.Need-returns
 returns c =
-    let start = c .before .before .before in
-    given-not (vectorOf (preceding (behind (start .args .last) (start .args .horizontal) (start .args .vertical)) (start .args .step))
-    (behind 0 (start .args .across) (start .args .down) .vector))
-    _ (sym (c .before .is-mc .ensures) ∙ not-true _ (c .if1 .taken))
+    let a = c .before .before .before .args in
+    left-out (vectorBits (preceding (beforeIn (a .last) (a .horizontal) (a .vertical)) (a .step)) (byteVector (a .across) (a .down))) _ (sym (c .before .is-mc .ensures) ∙ not-true _ (c .if1 .taken))
 
 components-requires : tie.Need-components-requires
-components-requires c κs =
-    let start = c .before .before .before .before .before .before in
-    record {
-      tables = start .pre .tables;
-      horizontal-near = tt;
-      vertical-near = tt;
-      across-near = start .pre .across-near;
-      down-near = start .pre .down-near;
-      room = start .pre .room;
-    }
+components-requires c κs = let r = c .before .before in let e = r .before in zero-asked (start e .pre) (pointed e) (sym (r .restarts .ensures) ∙ c .before .if2 .taken)
 
 returns-2 : tie.Need-returns-2
 returns-2 c =
-    let at-if2 = c .before .before .before .before in
-    let at-is-mc = at-if2 .before .before .before in
-    let start = at-is-mc .before .before in
-    let horizontal = start .args .horizontal in
-    let vertical = start .args .vertical in
-    pointing _ true (behind (start .args .last) horizontal vertical) (start .args .step) (behind 0 (start .args .across) (start .args .down) .vector) zeroVector
-    (sym (at-is-mc .is-mc .ensures) ∙ not-false _ (at-if2 .before .before .if1 .left))
-    (ap (λ (b : Bool). pick b zeroVector (behind 0 horizontal vertical .vector)) (sym (at-if2 .before .restarts .ensures) ∙ at-if2 .if2 .taken))
-    (c .before .before .components .ensures)
+    let t = c .before .before .before .before in let r = t .before in let e = r .before in
+    zero-wrote (start e .pre) (pointed e) (sym (r .restarts .ensures) ∙ t .if2 .taken) (c .before .before .components .ensures)
 
 components-requires-2 : tie.Need-components-requires-2
-components-requires-2 c κs =
-    let start = c .before .before .before .before .before .before in
-    record {
-      tables = start .pre .tables;
-      horizontal-near = start .pre .horizontal-near;
-      vertical-near = start .pre .vertical-near;
-      across-near = start .pre .across-near;
-      down-near = start .pre .down-near;
-      room = start .pre .room;
-    }
+components-requires-2 c κs = let r = c .before .before in let e = r .before in own-asked (start e .pre) (pointed e) (sym (r .restarts .ensures) ∙ c .before .if2 .left)
 
 returns-3 : tie.Need-returns-3
 returns-3 c =
-    let at-if2 = c .before .before .before .before in
-    let at-is-mc = at-if2 .before .before .before in
-    let start = at-is-mc .before .before in
-    let horizontal = start .args .horizontal in
-    let vertical = start .args .vertical in
-    pointing _ true (behind (start .args .last) horizontal vertical) (start .args .step) (behind 0 (start .args .across) (start .args .down) .vector)
-    (behind 0 horizontal vertical .vector) (sym (at-is-mc .is-mc .ensures) ∙ not-false _ (at-if2 .before .before .if1 .left))
-    (ap (λ (b : Bool). pick b zeroVector (behind 0 horizontal vertical .vector)) (sym (at-if2 .before .restarts .ensures) ∙ at-if2 .if2 .left))
-    (c .before .before .components2 .ensures)
+    let t = c .before .before .before .before in let r = t .before in let e = r .before in
+    own-wrote (start e .pre) (pointed e) (sym (r .restarts .ensures) ∙ t .if2 .left) (c .before .before .components2 .ensures)
 
 pub vector-spec : {M : Type 1} → statement M
 vector-spec =

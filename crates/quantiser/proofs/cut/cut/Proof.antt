@@ -1,4 +1,4 @@
--- `cut::cut` meets its contract: the two steps are the definition's, and each number is read back from its bits.
+-- `quantiser::cut::cut` meets its contract: the two steps are the definition's, and each number is read back from its bits.
 use borrow.Author.Needs.{needs}
 use Rattle.quantiser.proofs.CutLaws.{cut-steps}
 use Rattle.quantiser.proofs.cut.cut.Statement.{statement}

@@ -1,4 +1,4 @@
--- `cut::short` meets its contract: what is cut to 16 bits fits them.
+-- `quantiser::cut::short` meets its contract: what is cut to 16 bits fits them.
 use mathlib.Core.Path.{_≡_, _∙_, ap}
 use Prim.Native.Nat.{suc-le-suc}
 use lib.IntN.{ℤ, pos, negsuc}

@@ -1,4 +1,4 @@
--- `dequantise::coefficient` meets its contract: 2 Q L + s Q is the signed magnitude, and each number on the way is small.
+-- `quantiser::dequantise::coefficient` meets its contract: 2 Q L + s Q is the signed magnitude, and each number on the way is small.
 use mathlib.Core.Path.{_≡_, _∙_, ap, sym}
 use Prim.Native.Nat.{ℕ, _≤_}
 use native.Mathlib.Omega.{arith}

@@ -1,4 +1,4 @@
--- `dequantise::coefficients` meets its contract. The loop's invariant: the first k coefficients are the definition's.
+-- `quantiser::dequantise::coefficients` meets its contract. The loop's invariant: the first k coefficients are the definition's.
 use mathlib.Core.Path.{refl, _∙_}
 use Prim.Native.Nat.{_-_, _≤_}
 use borrow.Author.Needs.{needs}

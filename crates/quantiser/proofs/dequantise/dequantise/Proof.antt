@@ -1,4 +1,4 @@
--- `dequantise::dequantise` meets its contract: Figure 12 places the coefficients, and an INTRA block's first number is replaced.
+-- `quantiser::dequantise::dequantise` meets its contract: Figure 12 places the coefficients, and an INTRA block's first number is replaced.
 use mathlib.Core.Path.{_≡_, ap, _∙_}
 use Prim.Native.Nat.{ℕ, _+_}
 use native.Mathlib.Omega.{arith}

@@ -1,4 +1,4 @@
--- `dequantise::direct` meets its contract: by the definition's test, one arm each.
+-- `quantiser::dequantise::direct` meets its contract: by the definition's test, one arm each.
 use mathlib.Core.Path.{_≡_}
 use Prim.Native.Nat.{_*_}
 use native.Mathlib.Omega.{arith}

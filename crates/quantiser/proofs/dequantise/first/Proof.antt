@@ -1,4 +1,4 @@
--- `dequantise::first` meets its contract: by the definition's test, one arm each.
+-- `quantiser::dequantise::first` meets its contract: by the definition's test, one arm each.
 use mathlib.Core.Path.{_∙_, ap, sym}
 use mathlib.Core.Bool.{Bool}
 use Prim.Native.Nat.{ℕ}

@@ -1,4 +1,4 @@
--- `dequantise::level` meets its contract: by the definition's test, one arm each.
+-- `quantiser::dequantise::level` meets its contract: by the definition's test, one arm each.
 use mathlib.Core.Path.{_≡_, _∙_, ap}
 use native.Mathlib.Omega.{arith}
 use lib.IntN.{ℤ, pos, _-ℤ_}

@@ -1,4 +1,4 @@
--- `dequantise::odd` meets its contract: by the definition's test, one arm each.
+-- `quantiser::dequantise::odd` meets its contract: by the definition's test, one arm each.
 use mathlib.Core.Path.{_≡_, _∙_, ap, sym}
 use mathlib.Core.Bool.{Bool}
 use Prim.Native.Nat.{_-_}

@@ -1,4 +1,4 @@
--- `dequantise::placed` meets its contract: each row has the numbers at the positions of Figure 12.
+-- `quantiser::dequantise::placed` meets its contract: each row has the numbers at the positions of Figure 12.
 use lib.Dec.{lit≤}
 use borrow.Author.Needs.{needs}
 use Rattle.quantiser.proofs.Lines.{block-of}

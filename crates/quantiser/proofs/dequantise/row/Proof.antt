@@ -1,4 +1,4 @@
--- `dequantise::row` meets its contract: a number of 16 bits is the same in 32.
+-- `quantiser::dequantise::row` meets its contract: a number of 16 bits is the same in 32.
 use borrow.Author.Needs.{needs}
 use Rattle.quantiser.proofs.Lines.{line-of}
 use Rattle.quantiser.proofs.Coefficients.{wide-fits, wide}

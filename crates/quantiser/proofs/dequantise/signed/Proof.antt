@@ -1,4 +1,4 @@
--- `dequantise::signed` meets its contract: the number is taken once, with one sign or the other, or not at all.
+-- `quantiser::dequantise::signed` meets its contract: the number is taken once, with one sign or the other, or not at all.
 use mathlib.Core.Path.{_≡_, _∙_, ap}
 use mathlib.Core.Logic.{⊎-elim}
 use Prim.Native.Nat.{ℕ}

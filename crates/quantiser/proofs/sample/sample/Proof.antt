@@ -1,4 +1,4 @@
--- `sample::sample` meets its contract: the sum is small, and cut to 16 bits it is cut to a sample as it was before.
+-- `quantiser::sample::sample` meets its contract: the sum is small, and cut to 16 bits it is cut to a sample as it was before.
 use mathlib.Core.Path.{_≡_, _∙_, ap}
 use lib.Dec.{lit≤}
 use lib.IntN.{ℤ, pos, _+ℤ_}

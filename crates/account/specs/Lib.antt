@@ -1,0 +1,4 @@
+pub mod Status
+pub mod Blocks
+pub mod Idle
+pub mod Said

@@ -1,0 +1,31 @@
+// Standard input, where a read that fails is told from the input's end.
+use libc::STDIN_FILENO;
+ghost use Rattle.io.specs.Counts.{Counts};
+
+// How many bytes were read, and whether the read after them failed.
+pub struct Filled {
+    pub count: usize,
+    pub failed: bool,
+}
+
+// Reads until the buffer is full, the input ends or a read fails.
+pub fn fill(buffer: &mut [u8]) -> Filled
+    ensures { λ r. ⌜ Counts (r .count) (now (buffer .exit)) ⌝ }
+{
+    let mut done: usize = 0;
+    while done < buffer.len() {
+        let got = libc::read(STDIN_FILENO, &mut buffer[done..]);
+        let more = io::count(got, &buffer[done..]);
+        if more == 0 {
+            return Filled {
+                count: done,
+                failed: got < 0,
+            };
+        }
+        done += more;
+    }
+    Filled {
+        count: done,
+        failed: false,
+    }
+}

@@ -1,0 +1,332 @@
+-- Blocks, clips and descriptions that are sent are refused by the first rule that refuses; what a refused call leaves. Assumes nothing.
+use Prim.Native.Nat.{ℕ, _≤_}
+use mathlib.Core.Path.{_≡_, refl, sym, ap, subst, _∙_}
+use mathlib.Core.Bool.{Bool, true, false}
+use mathlib.Core.List.{List, [], _∷_, _++_}
+use native.Mathlib.Omega.{arith}
+use borrow.Author.Tests.{eq-eqb, ne-eqb, leb-true}
+use lib.Dec.{eqb, ltb, leb}
+use lib.ListN.{length}
+use Rattle.laws.specs.Choice.{pick, both, either, opposite, alike}
+use Rattle.laws.proofs.Choice.{two-of}
+use Rattle.refusals.specs.Told.{Told, accepted, refused, verdictOn}
+use Rattle.refusals.proofs.Told.{told-apart}
+use Rattle.size.specs.declared.Size.{Size}
+use Rattle.size.specs.Size.{limit}
+use Rattle.layout.specs.Flat.{Flat}
+use Rattle.coding.specs.declared.Kind.{Kind}
+use Rattle.coding.specs.Kind.{formatOf, kindSize, codingOf}
+use Rattle.vault.specs.declared.Header.{Header}
+use Rattle.vault.specs.Block.{clipOf, partOf, lastOf, checkSumOf, headerOf, headerRuled, fieldsFollow, sumOf, pictures, checkOf, ofClip, judgeOf}
+use Rattle.vault.specs.Parts.{placedPayload}
+use Rattle.standing.specs.declared.Line.{Line}
+use Rattle.standing.specs.declared.Line.the-variants.{Earlier, Next, Anew, Otherwise}
+use Rattle.standing.specs.declared.Standing.{Standing}
+use Rattle.standing.specs.declared.Receiver.{Receiver}
+use Rattle.standing.specs.Receive.{Event, refusing, taken, failed, finished, Buffers, freshReceiver, countOf, markOf, lineOf, judgedBlock, endedPicture, tookOf, byLine, byJudgement, decide, advance, answerOf, collectionAfter, storedBy, failedReceiver, cameTo, step}
+use Rattle.listing.specs.declared.Clip.{Clip}
+use Rattle.listing.specs.Listed.{openedBy, foundBy, Came, stepped, byOpened, listed}
+use Rattle.sender.specs.declared.Sender.{Sender}
+use Rattle.standing.specs.declared.Standing.the-variants as T
+use Rattle.standing.specs.Receive as R
+use Rattle.sender.specs.Send as S
+use Rattle.listing.specs.declared.Clip.the-variants as K
+use Rattle.demand1.specs.Order.{Verdict, when, firstOf, Refuses}
+use Rattle.demand1.specs.Rules.{pictureRules, sendRules, checkRules, judgeRules, blockRules, takes, markRule, lastRules}
+use Rattle.demand1.specs.Demand1.{verdictSaid, BlockRefuses, receiverOf}
+use Rattle.demand1.proofs.Order.{orElse, first-append}
+use Rattle.demand1.proofs.Pictures.{kind-due}
+
+-- ---- opening
+pub opening-due : {A : Type 0} (none : Bool) (a : A) → verdictOn (pick none (refused 22 0) (accepted a)) ≡ firstOf (when 22 none ∷ [])
+opening-due true a = refl
+opening-due false a = refl
+
+-- ---- a block: its verdict decides what is judged of it
+abbrev pub withValue : {A : Type 0} → A → Verdict → Told A
+withValue a (accepted t) = accepted a
+withValue a (refused n place) = refused n place
+
+pub value-verdict : {A : Type 0} (a : A) (v : Verdict) → verdictOn (withValue a v) ≡ v
+value-verdict a (accepted t) = refl
+value-verdict a (refused n place) = refl
+
+checked : (long sum fine : Bool) (header : Header) → pick long (pick sum (pick fine (accepted header) (refused 22 0)) (refused 21 0)) (refused 1 0)
+    ≡ withValue header (firstOf (when 1 (opposite long) ∷ when 21 (opposite sum) ∷ when 22 (opposite fine) ∷ []))
+checked true true true header = refl
+checked true true false header = refl
+checked true false fine header = refl
+checked false sum fine header = refl
+
+pub check-is : (size : Size) (block : List ℕ) → checkOf size block ≡ withValue (headerOf block) (firstOf (checkRules size block))
+unfolding checkOf
+check-is size block = checked (eqb (length block) 512) (eqb (sumOf block) (checkSumOf block)) (fieldsFollow size block) (headerOf block)
+
+of-clip : (v : Verdict) (header : Header) (clip : ℕ) → ofClip clip (withValue header v) ≡ withValue header (orElse v (firstOf (when 23 (opposite (eqb (header .clip) clip)) ∷ [])))
+of-clip (refused n place) header clip = refl
+of-clip (accepted t) header clip = go (eqb (header .clip) clip)
+  where
+    go : (same : Bool) → pick same (accepted header) (refused 23 0) ≡ withValue header (firstOf (when 23 (opposite same) ∷ []))
+    go true = refl
+    go false = refl
+
+pub judge-is : (size : Size) (clip : ℕ) (block : List ℕ) → judgeOf size clip block ≡ withValue (headerOf block) (firstOf (judgeRules size clip block))
+unfolding judgeOf
+judge-is size clip block =
+    ap (ofClip clip) (check-is size block) ∙ of-clip (firstOf (checkRules size block)) (headerOf block) clip
+    ∙ ap (withValue (headerOf block)) (sym (first-append (checkRules size block) (when 23 (opposite (eqb (clipOf block) clip)) ∷ [])))
+
+judged-is : (r : Receiver) (block : List ℕ) (b : Buffers) → judgedBlock r block b ≡ withValue (headerOf block) (firstOf (blockRules r block b))
+unfolding judgedBlock
+judged-is r block b = go (R.lentLengths (kindSize (r .kind)) b)
+  where
+    go : (named : Bool) → pick named (judgeOf (kindSize (r .kind)) (r .clip) block) (refused 1 0)
+        ≡ withValue (headerOf block) (firstOf (when 1 (opposite named) ∷ judgeRules (kindSize (r .kind)) (r .clip) block))
+    go true = judge-is (kindSize (r .kind)) (r .clip) block
+    go false = refl
+
+-- ---- a good block
+abbrev eventVerdict : Event Flat → Verdict
+eventVerdict e = verdictSaid (answerOf e)
+
+module _ (r : Receiver) (block : List ℕ) (b : Buffers) where
+  abbrev header : Header
+  header = headerOf block
+
+  abbrev after : List ℕ
+  after = placedPayload block (partOf block) (b .collection)
+
+  -- what a refused event leaves: lost, with the part in the collection
+  abbrev Fails : Event Flat → Type 0
+  Fails e = (n place : ℕ) → eventVerdict e ≡ refused n place
+      → (advance r e ≡ failedReceiver r header) × (collectionAfter block (b .collection) e ≡ after) × (storedBy codingOf r (b .both) e ≡ b .both)
+
+  ended-due : (rules : List Verdict) (found : Told Flat) → verdictOn found ≡ firstOf rules → eventVerdict (endedPicture codingOf r header found) ≡ firstOf (rules ++ (markRule r header found ∷ []))
+  unfolding endedPicture
+  ended-due rules (refused n place) h = sym (first-append rules (accepted tt ∷ []) ∙ ap (λ (v : Verdict). orElse v (accepted tt)) (sym h))
+  ended-due rules (accepted d) h =
+      go (alike (codingOf (r .kind) .refresh d) (markOf (r .progress) header))
+      ∙ sym (first-append rules (markRule r header (accepted d) ∷ []) ∙ ap (λ (v : Verdict). orElse v (firstOf (markRule r header (accepted d) ∷ []))) (sym h))
+    where
+      go : (true-mark : Bool) → eventVerdict (pick true-mark (finished header d) (failed header 24 0)) ≡ firstOf (when 24 (opposite true-mark) ∷ [])
+      go true = refl
+      go false = refl
+
+  ended-fails : (found : Told Flat) → Fails (endedPicture codingOf r header found)
+  unfolding endedPicture
+  ended-fails (refused n place) = λ m at h. (refl, refl, refl)
+  ended-fails (accepted d) = go (alike (codingOf (r .kind) .refresh d) (markOf (r .progress) header))
+    where
+      go : (true-mark : Bool) → Fails (pick true-mark (finished header d) (failed header 24 0))
+      go true = λ m at h. absurd (told-apart h)
+      go false = λ m at h. (refl, refl, refl)
+
+  abbrev lastOnes : List Verdict
+  lastOnes = pictureRules (formatOf (r .kind)) after (countOf header) ++ (markRule r header (codingOf (r .kind) .read after (countOf header)) ∷ [])
+
+  took-due : (standing : Standing) → eventVerdict (tookOf codingOf r header standing after) ≡ firstOf (pick (lastOf block) lastOnes [])
+  unfolding tookOf
+  took-due standing = go (lastOf block)
+    where
+      go : (last : Bool) → eventVerdict (pick last (endedPicture codingOf r header (codingOf (r .kind) .read after (countOf header))) (taken header standing)) ≡ firstOf (pick last lastOnes [])
+      go true = ended-due (pictureRules (formatOf (r .kind)) after (countOf header)) (codingOf (r .kind) .read after (countOf header)) (kind-due (r .kind) after (countOf header))
+      go false = refl
+
+  took-fails : (standing : Standing) → Fails (tookOf codingOf r header standing after)
+  unfolding tookOf
+  took-fails standing = go (lastOf block)
+    where
+      go : (last : Bool) → Fails (pick last (endedPicture codingOf r header (codingOf (r .kind) .read after (countOf header))) (taken header standing))
+      go true = ended-fails (codingOf (r .kind) .read after (countOf header))
+      go false = λ m at h. absurd (told-apart h)
+
+  line-due : (line : Line) → eventVerdict (byLine codingOf line r header block (b .collection)) ≡ firstOf (pick (both (takes line) (lastOf block)) lastOnes [])
+  unfolding byLine
+  line-due Earlier = refl
+  line-due Next = took-due (r .progress .standing)
+  line-due Anew = took-due T.Catching
+  line-due Otherwise = refl
+
+  line-fails : (line : Line) → Fails (byLine codingOf line r header block (b .collection))
+  unfolding byLine
+  line-fails Earlier = λ m at h. absurd (told-apart h)
+  line-fails Next = took-fails (r .progress .standing)
+  line-fails Anew = took-fails T.Catching
+  line-fails Otherwise = λ m at h. absurd (told-apart h)
+
+  -- ---- any block
+  record Comes (e : Event Flat) : Type 0 where
+    due : eventVerdict e ≡ firstOf (blockRules r block b ++ lastRules r block b)
+    idle : (n place : ℕ) → firstOf (blockRules r block b) ≡ refused n place → e ≡ refusing n place
+    fails : firstOf (blockRules r block b) ≡ accepted tt → Fails e
+
+  decided : (v : Verdict) → firstOf (blockRules r block b) ≡ v → Comes (byJudgement codingOf (withValue header v) r block (b .collection))
+  unfolding byJudgement
+  decided (refused n place) h = record {
+    due = sym (first-append (blockRules r block b) (lastRules r block b) ∙ ap (λ (v : Verdict). orElse v (firstOf (lastRules r block b))) h);
+    idle = λ m at q. same n m place at (sym h ∙ q);
+    fails = λ q. absurd (told-apart (sym q ∙ h));
+  }
+    where
+      same : (n m place at : ℕ) → _≡_ {A = Verdict} (refused n place) (refused m at) → _≡_ {A = Event Flat} (refusing n place) (refusing m at)
+      same n m place at q = cc
+  decided (accepted t) h = record {
+    due =
+        line-due (lineOf (r .progress) header)
+        ∙ sym (first-append (blockRules r block b) (lastRules r block b) ∙ ap (λ (v : Verdict). orElse v (firstOf (lastRules r block b))) h);
+    idle = λ m at q. absurd (told-apart (sym h ∙ q));
+    fails = λ _. line-fails (lineOf (r .progress) header);
+  }
+
+  decide-came : Comes (decide codingOf r block b)
+  unfolding decide
+  decide-came =
+      subst (λ (x : Told Header). Comes (byJudgement codingOf x r block (b .collection))) (sym (judged-is r block b))
+      (decided (firstOf (blockRules r block b)) refl)
+
+  -- what a receiver's call comes to
+  event-refuses : (e : Event Flat) → Comes e → BlockRefuses r block b r (λ s. s) (answerOf e) (advance r e) (record { collection = collectionAfter block (b .collection) e; both = storedBy codingOf r (b .both) e })
+  event-refuses e c = record {
+    due = c .due;
+    stores = λ n place h. stored (firstOf (blockRules r block b)) refl n place h;
+    unchanged = λ n place h.
+        subst (λ (x : Event Flat). (advance r x ≡ r) × (record { collection = collectionAfter block (b .collection) x; both = storedBy codingOf r (b .both) x } ≡ b)) (sym (c .idle n place h)) (refl, refl);
+    at-last = λ n place g h. let f = c .fails g n place h in (f .0, λ i. record { collection = f .1 i; both = f .2 i });
+  }
+    where
+      stored : (v : Verdict) → firstOf (blockRules r block b) ≡ v → (n place : ℕ) → eventVerdict e ≡ refused n place → storedBy codingOf r (b .both) e ≡ b .both
+      stored (accepted t) g n place h = c .fails g n place h .2
+      stored (refused m at) g n place h = ap (storedBy codingOf r (b .both)) (c .idle m at g)
+
+  pub step-refuses : BlockRefuses r block b r (λ s. s) (step codingOf r block b .gave .answer) (step codingOf r block b .gave .next) (step codingOf r block b .left)
+  unfolding step cameTo
+  step-refuses = event-refuses (decide codingOf r block b) decide-came
+
+-- ---- the lister's
+-- a block without 22 has a clip
+clip-some : (size : Size) (block : List ℕ) → fieldsFollow size block ≡ true → eqb (clipOf block) 0 ≡ false
+unfolding fieldsFollow headerRuled
+clip-some size block e =
+    let first = two-of (headerRuled size (headerOf block)) _ e .0 in
+    not-zero (clipOf block) (leb-true 1 (clipOf block) (two-of (leb 1 (clipOf block)) _ first .0))
+  where
+    not-zero : (n : ℕ) → 1 ≤ n → eqb n 0 ≡ false
+    not-zero n l = ne-eqb n 0 (λ z. omega (arith, l, z))
+
+all-fine : (long sum fine : Bool) → firstOf (when 1 (opposite long) ∷ when 21 (opposite sum) ∷ when 22 (opposite fine) ∷ []) ≡ accepted tt → fine ≡ true
+all-fine true true true e = refl
+all-fine true true false e = absurd (told-apart (sym e))
+all-fine true false fine e = absurd (told-apart (sym e))
+all-fine false sum fine e = absurd (told-apart (sym e))
+
+module _ (kind : Kind) (block : List ℕ) where
+  abbrev own : Receiver
+  own = freshReceiver (clipOf block) kind
+
+  found-is : foundBy kind block ≡ withValue own (firstOf (checkRules (kindSize kind) block))
+  unfolding foundBy openedBy
+  found-is = ap (openedBy kind) (check-is (kindSize kind) block) ∙ go (firstOf (checkRules (kindSize kind) block)) refl
+    where
+      go : (v : Verdict) → firstOf (checkRules (kindSize kind) block) ≡ v → openedBy kind (withValue (headerOf block) v) ≡ withValue own v
+      go (refused n place) e = refl
+      go (accepted t) e =
+          ap (λ (z : Bool). pick z (refused 22 0) (accepted own))
+          (clip-some (kindSize kind) block (all-fine (eqb (length block) 512) (eqb (sumOf block) (checkSumOf block)) (fieldsFollow (kindSize kind) block) e))
+
+  -- its own clip's block is no other's
+  own-rules : firstOf (judgeRules (kindSize kind) (clipOf block) block) ≡ firstOf (checkRules (kindSize kind) block)
+  own-rules =
+      first-append (checkRules (kindSize kind) block) (when 23 (opposite (eqb (clipOf block) (clipOf block))) ∷ [])
+      ∙ ap (λ (z : Bool). orElse (firstOf (checkRules (kindSize kind) block)) (firstOf (when 23 (opposite z) ∷ []))) (eq-eqb (clipOf block) (clipOf block) refl)
+      ∙ or-none (firstOf (checkRules (kindSize kind) block))
+    where
+      or-none : (v : Verdict) → orElse v (accepted tt) ≡ v
+      or-none (accepted t) = refl
+      or-none (refused n place) = refl
+
+  opened-is : (b : Buffers) → pick (R.lentLengths (kindSize kind) b) (foundBy kind block) (refused 1 0) ≡ withValue own (firstOf (blockRules own block b))
+  opened-is b = go (R.lentLengths (kindSize kind) b)
+    where
+      go : (named : Bool) → pick named (foundBy kind block) (refused 1 0) ≡ withValue own (firstOf (when 1 (opposite named) ∷ judgeRules (kindSize kind) (clipOf block) block))
+      go true = found-is ∙ ap (withValue own) (sym own-rules)
+      go false = refl
+
+-- of what a call is known to come to
+abbrev ListRefuses : Receiver → List ℕ → Buffers → Clip → Came → Type 0
+ListRefuses r block b clip x = BlockRefuses r block b clip K.Known (x .answer) (x .next) (x .left)
+
+as-known : (r : Receiver) (block : List ℕ) (b : Buffers) → ListRefuses r block b (K.Known r) (stepped (step codingOf r block b))
+unfolding stepped
+as-known r block b =
+    let x = step-refuses r block b in
+    record {
+      due = x .due;
+      stores = x .stores;
+      unchanged = λ n place h. let u = x .unchanged n place h in (ap K.Known (u .0), u .1);
+      at-last = λ n place g h. let u = x .at-last n place g h in (ap K.Known (u .0), u .1);
+    }
+
+as-unknown : (kind : Kind) (block : List ℕ) (b : Buffers) (v : Verdict) → firstOf (blockRules (own kind block) block b) ≡ v
+    → ListRefuses (own kind block) block b K.Unknown (byOpened (withValue (own kind block) v) block b)
+unfolding byOpened
+as-unknown kind block b (refused m at) e =
+    let r : Receiver = own kind block in
+    record {
+      due = sym (first-append (blockRules r block b) (lastRules r block b) ∙ ap (λ (v : Verdict). orElse v (firstOf (lastRules r block b))) e);
+      stores = λ n place h. refl;
+      unchanged = λ n place h. (refl, refl);
+      at-last = λ n place g h. absurd (told-apart (sym g ∙ e));
+    }
+as-unknown kind block b (accepted t) e =
+    let x = as-known (own kind block) block b in
+    record {
+      due = x .due;
+      stores = x .stores;
+      unchanged = λ n place h. absurd (told-apart (sym e ∙ h));
+      at-last = x .at-last;
+    }
+
+pub listed-refuses : (kind : Kind) (clip : Clip) (block : List ℕ) (b : Buffers) → ListRefuses (receiverOf kind clip block) block b clip (listed kind clip block b)
+unfolding listed
+listed-refuses kind (K.Known r) block b = as-known r block b
+listed-refuses kind K.Unknown block b =
+    subst (λ (x : Told Receiver). ListRefuses (own kind block) block b K.Unknown (byOpened x block b)) (sym (opened-is kind block b))
+    (as-unknown kind block b (firstOf (blockRules (own kind block) block b)) refl)
+
+-- ---- a description that is sent
+abbrev judgementVerdict : S.Judgement → Verdict
+judgementVerdict S.sends = accepted tt
+judgementVerdict (S.refuses n) = refused n 0
+
+otherwise : (fine : Bool) (n : ℕ) (x : S.Judgement) (rules : List Verdict) → judgementVerdict x ≡ firstOf rules → judgementVerdict (pick fine x (S.refuses n)) ≡ firstOf (when n (opposite fine) ∷ rules)
+otherwise true n x rules h = h
+otherwise false n x rules h = refl
+
+first-refresh : (first refresh : Bool) → opposite (either (opposite first) refresh) ≡ both first (opposite refresh)
+first-refresh true refresh = refl
+first-refresh false refresh = refl
+
+judge-due : (s : Sender) (d : Flat) (b : S.Buffers) → judgementVerdict (S.judge codingOf s d b) ≡ firstOf (sendRules s d b)
+unfolding S.judge
+judge-due s d b =
+    let c = codingOf (s .kind) in
+    let above : Verdict = when 32 (opposite (leb (length (c .written d)) (limit (kindSize (s .kind))))) in
+    let first : Verdict = when 33 (both (eqb (s .picture) 0) (opposite (c .refresh d))) in
+    let invalid : Verdict = when 31 (opposite (c .valid d)) in
+    let many : Verdict = when 34 (opposite (ltb (s .picture) pictures)) in
+    otherwise (both (c .named d) (S.lentLengths (kindSize (s .kind)) b)) 1 _ (many ∷ invalid ∷ first ∷ above ∷ [])
+    (otherwise (ltb (s .picture) pictures) 34 _ (invalid ∷ first ∷ above ∷ [])
+    (otherwise (c .valid d) 31 _ (first ∷ above ∷ [])
+    (otherwise (either (opposite (eqb (s .picture) 0)) (c .refresh d)) 33 _ (above ∷ []) (otherwise (leb (length (c .written d)) (limit (kindSize (s .kind)))) 32 S.sends [] refl)
+    ∙ ap (λ (z : Bool). firstOf (when 33 z ∷ above ∷ [])) (first-refresh (eqb (s .picture) 0) (c .refresh d)))))
+
+came-refuses : (s : Sender) (d : Flat) (b : S.Buffers) (rules : List Verdict) (j : S.Judgement) → judgementVerdict j ≡ firstOf rules
+    → (let x = S.cameTo codingOf s d b j in Refuses {W = Sender × S.Buffers} rules (verdictOn (x .gave .answer)) (s, b) (x .gave .next, x .left))
+unfolding S.cameTo
+came-refuses s d b rules S.sends h = record { due = h; unchanged = λ n place q. absurd (told-apart q) }
+came-refuses s d b rules (S.refuses m) h = record { due = h; unchanged = λ n place q. refl }
+
+pub sent-refuses : (s : Sender) (d : Flat) (b : S.Buffers)
+    → (let x = S.step codingOf s d b in Refuses {W = Sender × S.Buffers} (sendRules s d b) (verdictOn (x .gave .answer)) (s, b) (x .gave .next, x .left))
+unfolding S.step
+sent-refuses s d b = came-refuses s d b (sendRules s d b) (S.judge codingOf s d b) (judge-due s d b)

@@ -1,0 +1,62 @@
+-- Whatever keeps the promises of the entry points meets demand 1: each promise is an equation with a definition whose verdict is the first rule's that refuses. Assumes nothing.
+use Prim.Native.Nat.{ℕ}
+use mathlib.Core.Path.{_≡_, refl, sym, ap, subst, _∙_}
+use mathlib.Core.List.{List}
+use lib.Dec.{eqb}
+use lib.ListN.{length}
+use Rattle.refusals.specs.Told.{Told, accepted, refused, verdictOn, foundOr}
+use Rattle.refusals.proofs.Told.{told-apart}
+use Rattle.bits.specs.Bits.{Bit}
+use Rattle.h261_writer.specs.Output.{pictureBits, outputLeft, writeOf}
+use Rattle.h261_reader.specs.ReadOf.{readOf}
+use Rattle.vault.specs.Block.{headerOf}
+use Rattle.standing.specs.Receive.{Outcome, freshReceiver}
+use Rattle.decoder.specs.Decoded.{decoded}
+use Rattle.listing.specs.Listed.{Came}
+use Rattle.sender.specs.declared.Sender.{Sender}
+use Rattle.sender.specs.Send as S
+use Rattle.listing.specs.declared.Clip.the-variants as K
+use Rattle.demand1.specs.Order.{Verdict, firstOf, Refuses}
+use Rattle.demand1.specs.Rules.{readRules, decodeRules, sendRules, checkRules, judgeRules}
+use Rattle.demand1.specs.Demand1.{BlockRefuses, receiverOf, PromisesMeet}
+use Rattle.demand1.proofs.Pictures.{reader-due, decoder-due, writer-due}
+use Rattle.demand1.proofs.Blocks.{opening-due, value-verdict, check-is, judge-is, step-refuses, listed-refuses, sent-refuses}
+
+-- what is found or was there before
+kept-before : {A : Type 0} (before : A) (x : Told A) (n place : ℕ) → verdictOn x ≡ refused n place → foundOr before x ≡ before
+kept-before before (accepted a) n place h = absurd (told-apart h)
+kept-before before (refused m at) n place h = refl
+
+-- an answer that is the verdict of what is found, and buffers that hold it or what they held
+found-refuses : {A : Type 0} (rules : List Verdict) (verdict : Verdict) (before left : A) (x : Told A) → verdictOn x ≡ firstOf rules → verdict ≡ verdictOn x → left ≡ foundOr before x
+    → Refuses rules verdict before left
+found-refuses rules verdict before left x due says outputLeft = record { due = says ∙ due; unchanged = λ n place h. outputLeft ∙ kept-before before x n place (sym says ∙ h) }
+
+-- an output that a refusal left
+untouched : (out : List ℕ) (bits : List Bit) (x : Told ℕ) (n place : ℕ) → verdictOn x ≡ refused n place → outputLeft out bits x ≡ out
+unfolding outputLeft
+untouched out bits (accepted m) n place h = absurd (told-apart h)
+untouched out bits (refused m at) n place h = refl
+
+pub promises-meet : PromisesMeet
+promises-meet p keeps = record {
+  reads = λ f bytes n before.
+      found-refuses (readRules f bytes n before) _ before _ (readOf f bytes n before) (reader-due f bytes n before) (keeps .read-says f bytes n before) (keeps .read-leaves f bytes n before);
+  decodes = λ k bytes n reference store.
+      found-refuses (decodeRules k bytes n reference store) _ store _ (decoded k bytes n reference (length store)) (decoder-due k bytes n reference store)
+      (keeps .decode-says k bytes n reference store) (keeps .decode-leaves k bytes n reference store);
+  writes = λ f d out. record {
+    due = ap verdictOn (keeps .write-says f d out) ∙ writer-due f d (length out);
+    unchanged = λ n place h. keeps .write-leaves f d out ∙ untouched out (pictureBits f d) (writeOf f d (length out)) n place (sym (ap verdictOn (keeps .write-says f d out)) ∙ h);
+  };
+  checks = λ size block. ap verdictOn (keeps .check-is size block ∙ check-is size block) ∙ value-verdict (headerOf block) (firstOf (checkRules size block));
+  judges = λ size clip block. ap verdictOn (keeps .judge-is size clip block ∙ judge-is size clip block) ∙ value-verdict (headerOf block) (firstOf (judgeRules size clip block));
+  opens-receiver = λ clip kind. ap verdictOn (keeps .open-receiver-is clip kind) ∙ opening-due (eqb clip 0) (freshReceiver clip kind);
+  receives = λ r block b.
+      subst (λ (x : Outcome). BlockRefuses r block b r (λ s. s) (x .gave .answer) (x .gave .next) (x .left)) (sym (keeps .receive-does r block b)) (step-refuses r block b);
+  opens-sender = λ clip kind. ap verdictOn (keeps .open-sender-is clip kind) ∙ opening-due (eqb clip 0) (S.freshSender clip kind);
+  sends = λ s d b.
+      subst (λ (x : S.Outcome). Refuses {W = Sender × S.Buffers} (sendRules s d b) (verdictOn (x .gave .answer)) (s, b) (x .gave .next, x .left)) (sym (keeps .send-does s d b)) (sent-refuses s d b);
+  lists = λ kind clip block b.
+      subst (λ (x : Came). BlockRefuses (receiverOf kind clip block) block b clip K.Known (x .answer) (x .next) (x .left)) (sym (keeps .list-is kind clip block b)) (listed-refuses kind clip block b);
+}

@@ -1,0 +1,5 @@
+pub mod Order
+pub mod Pictures
+pub mod Blocks
+pub mod Demand1
+pub mod WrongRefusals

@@ -1,0 +1,4 @@
+pub mod Order
+pub mod Rules
+pub mod Demand1
+pub mod WrongRefusals

@@ -1,0 +1,106 @@
+-- Document 01, "Refusal numbers": what each entry point is refused by, in the paper's order. Assumes nothing.
+use Prim.Native.Nat.{ℕ, _*_, _≤_}
+use mathlib.Core.Path.{_≡_}
+use mathlib.Core.Bool.{Bool, true, false}
+use mathlib.Core.List.{List, [], _∷_, _++_}
+use lib.Dec.{eqb, ltb, leb}
+use lib.ListN.{length}
+use Rattle.laws.specs.Choice.{pick, both, either, opposite, alike}
+use Rattle.refusals.specs.Told.{Told, accepted, refused, verdictOn}
+use Rattle.bits.specs.Bits.{source}
+use Rattle.fields.specs.Answer.{found}
+use Rattle.size.specs.declared.Size.{Size}
+use Rattle.size.specs.Size.{limit, storeLength}
+use Rattle.layout.specs.Flat.{Flat}
+use Rattle.h261_groups.specs.declared.Format.{Format}
+use Rattle.h261_groups.specs.Format.{sizeOf}
+use Rattle.h261_description.specs.Valid.{lengthsOf, valid}
+use Rattle.h261_layers.specs.Grammar.{picture}
+use Rattle.h261_writer.specs.Output.{pictureBits, lentLengths}
+use Rattle.coding.specs.declared.Kind.{Kind}
+use Rattle.coding.specs.Kind.{formatOf, kindSize, codingOf}
+use Rattle.vault.specs.declared.Header.{Header}
+use Rattle.vault.specs.Block.{clipOf, partOf, lastOf, checkSumOf, headerOf, fieldsFollow, sumOf, pictures}
+use Rattle.vault.specs.Parts.{placedPayload}
+use Rattle.standing.specs.declared.Line.{Line}
+use Rattle.standing.specs.declared.Line.the-variants.{Earlier, Next, Anew, Otherwise}
+use Rattle.standing.specs.declared.Receiver.{Receiver}
+use Rattle.standing.specs.Receive.{Buffers, countOf, markOf, lineOf}
+use Rattle.sender.specs.declared.Sender.{Sender}
+use Rattle.standing.specs.Receive as R
+use Rattle.sender.specs.Send as S
+use Rattle.demand1.specs.Order.{Verdict, when, firstOf}
+
+-- ---- a picture's N bits: "1, 2, then the earliest place, then the smaller number". The grammar reads on from place to place and stops at the first refusal
+abbrev pub pictureRules : Format → List ℕ → ℕ → List Verdict
+pictureRules f bytes n =
+    -- 2: "N above 8 times the slice, or above the format's limit"
+    when 2 (either (ltb (8 * length bytes) n) (ltb (limit (sizeOf f)) n)) ∷
+    -- 3 to 13
+    verdictOn (found (picture f (source bytes n) 0)) ∷ []
+
+-- 1: "a lent buffer hasn't its named length"
+abbrev pub readRules : Format → List ℕ → ℕ → Flat → List Verdict
+readRules f bytes n before = when 1 (opposite (lengthsOf f before)) ∷ pictureRules f bytes n
+
+abbrev pub decodeRules : Kind → List ℕ → ℕ → List ℕ → List ℕ → List Verdict
+decodeRules k bytes n reference store =
+    when 1 (opposite (both (eqb (length reference) (storeLength (kindSize k))) (eqb (length store) (storeLength (kindSize k))))) ∷ pictureRules (formatOf k) bytes n
+
+-- ---- a description: 31, "invalid description, or one of another format than opened"; 32, "written picture above the limit"
+abbrev pub writeRules : Format → Flat → ℕ → List Verdict
+writeRules f d room = when 1 (opposite (lentLengths f d room)) ∷ when 31 (opposite (valid f d)) ∷ when 32 (ltb (limit (sizeOf f)) (length (pictureBits f d))) ∷ []
+
+-- "Sender: 1, 34, 31, 33, 32." 34: "4,096 pictures sent"; 33: "picture 0 not a refresh"
+abbrev pub sendRules : Sender → Flat → S.Buffers → List Verdict
+sendRules s d b =
+    when 1 (opposite (both (codingOf (s .kind) .named d) (S.lentLengths (kindSize (s .kind)) b))) ∷
+    when 34 (opposite (ltb (s .picture) pictures)) ∷
+    when 31 (opposite (codingOf (s .kind) .valid d)) ∷
+    when 33 (both (eqb (s .picture) 0) (opposite (codingOf (s .kind) .refresh d))) ∷
+    when 32 (opposite (leb (length (codingOf (s .kind) .written d)) (limit (kindSize (s .kind))))) ∷ []
+
+-- ---- 22: "opening with clip 0"
+abbrev pub openRules : ℕ → List Verdict
+openRules clip = when 22 (eqb clip 0) ∷ []
+
+-- ---- "Blocks: 1, 21, 22, 23." 21: "block check wrong"; 22: "block field against its rule"; 23: "another clip's block"
+abbrev pub checkRules : Size → List ℕ → List Verdict
+checkRules size block = when 1 (opposite (eqb (length block) 512)) ∷ when 21 (opposite (eqb (sumOf block) (checkSumOf block))) ∷ when 22 (opposite (fieldsFollow size block)) ∷ []
+
+abbrev pub judgeRules : Size → ℕ → List ℕ → List Verdict
+judgeRules size clip block = checkRules size block ++ (when 23 (opposite (eqb (clipOf block) clip)) ∷ [])
+
+abbrev pub blockRules : Receiver → List ℕ → Buffers → List Verdict
+blockRules r block b = when 1 (opposite (R.lentLengths (kindSize (r .kind)) b)) ∷ judgeRules (kindSize (r .kind)) (r .clip) block
+
+-- ---- "A last part is read at once": the lines by which a block is taken
+abbrev pub takes : Line → Bool
+takes Earlier = false
+takes Next = true
+takes Anew = true
+takes Otherwise = false
+
+-- 24: "accepted picture, untrue refresh mark"
+abbrev pub markRule : Receiver → Header → Told Flat → Verdict
+markRule r header (accepted d) = when 24 (opposite (alike (codingOf (r .kind) .refresh d) (markOf (r .progress) header)))
+markRule r header (refused n place) = accepted tt
+
+-- a taken part that is the last: the picture's own refusals, and then 24
+abbrev pub lastRules : Receiver → List ℕ → Buffers → List Verdict
+lastRules r block b =
+    let collection : List ℕ = placedPayload block (partOf block) (b .collection) in
+    let n : ℕ = countOf (headerOf block) in
+    pick (both (takes (lineOf (r .progress) (headerOf block))) (lastOf block))
+    (pictureRules (formatOf (r .kind)) collection n ++ (markRule r (headerOf block) (codingOf (r .kind) .read collection n) ∷ []))
+    []
+
+-- ---- the table: what a picture's bits are refused by has a number from 2 to 13, and a place up to N, which is 0 for 2
+pub record InTable (n number place : ℕ) : Type 0 where
+  pub least : 2 ≤ number
+  pub most : number ≤ 13
+  pub within : place ≤ n
+  pub counted : number ≡ 2 → place ≡ 0
+
+abbrev pub PictureInTable : Type 0
+PictureInTable = (f : Format) (bytes : List ℕ) (n number place : ℕ) → firstOf (pictureRules f bytes n) ≡ refused number place → InTable n number place

@@ -1,0 +1,4 @@
+pub mod Uniform
+pub mod Sending
+pub mod Arriving
+pub mod Instances

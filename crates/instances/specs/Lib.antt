@@ -1,0 +1,3 @@
+pub mod Uniform
+pub mod Example
+pub mod Instances
