@@ -58,37 +58,46 @@ is-earlier p part q n (inr t) = go (ltb p q)
     go true = refl
     go false = rw (eq-eqb p q (t .0), lt-ltb part n (t .1))
 
-not-earlier : (p part q n : ℕ) → q ≤ p → (p ≡ q → n ≤ part) → earlierPlace (place p part) (place q n) ≡ false
+pub not-earlier : (p part q n : ℕ) → q ≤ p → (p ≡ q → n ≤ part) → earlierPlace (place p part) (place q n) ≡ false
 not-earlier p part q n l h = either-false (ltb p q) _ (le-ltb p q l) (both-false (eqb p q) (ltb part n) (λ e. le-ltb part n (h (eqb-true p q e))))
 
 module _ {D : Type 0} {coding : Kind → Coding D} (lawful : AllLawful coding) {clip : ℕ} {kind : Kind} {sent : List (Picture D)} (sound : Sound coding clip kind sent) where
-  abbrev blockCount : Picture D → ℕ
+  abbrev pub blockCount : Picture D → ℕ
   blockCount x = partCount (length (bitsOf coding kind x))
 
   -- ---- a receiver to which this part of picture p is to come
-  data Ready (p part : ℕ) (m : Moment) : Type 0 where
+  pub data Ready (p part : ℕ) (m : Moment) : Type 0 where
     -- it wants that part
     awaiting : isLost (m .standing) ≡ false → m .wanted ≡ place p part → ((x : Picture D) → getElem? sent p ≡ some x → part < blockCount x) → Ready p part m
     -- the picture is a refresh, not earlier than what it wants, and part 0 is to come
     starting : part ≡ 0 → ((x : Picture D) → getElem? sent p ≡ some x → refreshOf coding kind x ≡ true) → earlierPlace (place p 0) (m .wanted) ≡ false → Ready p part m
 
-  record Onward (p part : ℕ) (m : Moment) (block : List ℕ) : Type 0 where
-    next : Moment
-    comes : Comes lawful clip kind m block next
-    held : Held lawful sound next
-    ready : Ready p part next
+  pub record Onward (p part : ℕ) (m : Moment) (block : List ℕ) : Type 0 where
+    pub next : Moment
+    pub comes : Comes lawful clip kind m block next
+    pub held : Held lawful sound next
+    pub ready : Ready p part next
+
+  -- a part further, standing so
+  pub record Further (p part : ℕ) (m : Moment) (block : List ℕ) (standing : Standing) : Type 0 where
+    pub goes : Onward p part m block
+    pub stands : goes .next .standing ≡ standing
 
   -- ---- one to which all have come
-  record Complete (p part : ℕ) (m : Moment) : Type 0 where
-    stands : m .standing ≡ T.InStep p
-    wants : m .wanted ≡ place (p + 1) 0
-    count : (x : Picture D) → getElem? sent p ≡ some x → part ≡ blockCount x
+  pub record Complete (p part : ℕ) (m : Moment) : Type 0 where
+    pub stands : m .standing ≡ T.InStep p
+    pub wants : m .wanted ≡ place (p + 1) 0
+    pub count : (x : Picture D) → getElem? sent p ≡ some x → part ≡ blockCount x
 
-  record Completes (p part : ℕ) (m : Moment) (block : List ℕ) : Type 0 where
-    next : Moment
-    finishes : Finishing lawful clip kind p m block next
-    held : Held lawful sound next
-    complete : Complete p part next
+  pub record Completes (p part : ℕ) (m : Moment) (block : List ℕ) : Type 0 where
+    pub next : Moment
+    pub finishes : Finishing lawful clip kind p m block next
+    pub held : Held lawful sound next
+    pub complete : Complete p part next
+
+  onward-or : {p part : ℕ} {m : Moment} {block : List ℕ} {standing : Standing} → Further p part m block standing ⊎ Completes p part m block → Onward p part m block ⊎ Completes p part m block
+  onward-or (inl f) = inl (f .goes)
+  onward-or (inr c) = inr c
 
   -- ---- the next block
   module _ {p part : ℕ} {block : List ℕ} (h : PartOf sent p part block) (m : Moment) (held : Held lawful sound m) where
@@ -102,13 +111,13 @@ module _ {D : Type 0} {coding : Kind → Coding D} (lawful : AllLawful coding) {
     same-count y e = ap blockCount (Option·some-injective x y (sym (h .at) ∙ e))
 
     took : (standing : Standing) → isLost standing ≡ false → Takes lawful clip kind (block-of lawful sound h) m (held .named) standing → Fits lawful sound h m held
-        → Shows sent standing (shownStore (kindSize kind) (whereShown standing (m .holder)) (m .lent .both)) → Onward p (part + 1) m block ⊎ Completes p (part + 1) m block
+        → Shows sent standing (shownStore (kindSize kind) (whereShown standing (m .holder)) (m .lent .both)) → Further p (part + 1) m block standing ⊎ Completes p (part + 1) m block
     took standing l t fits shows = go (eqb (part + 1) (blockCount x)) refl
       where
         less : (a b : ℕ) → a < b → (a + 1 ≡ b → ⊥) → a + 1 < b
         less a b i n = omega (arith, i, n)
 
-        go : (last : Bool) → eqb (part + 1) (blockCount x) ≡ last → Onward p (part + 1) m block ⊎ Completes p (part + 1) m block
+        go : (last : Bool) → eqb (part + 1) (blockCount x) ≡ last → Further p (part + 1) m block standing ⊎ Completes p (part + 1) m block
         go true e =
             inr
             (record {
@@ -120,13 +129,16 @@ module _ {D : Type 0} {coding : Kind → Coding D} (lawful : AllLawful coding) {
         go false e =
             inl
             (record {
-              next = _;
-              comes = goes-further lawful sound h m held standing t e;
-              held = held-further lawful sound h m held standing fits shows;
-              ready = awaiting l refl (λ y q. subst (λ (n : ℕ). part + 1 < n) (same-count y q) (less part (blockCount x) inside (eqb-false (part + 1) (blockCount x) e)));
+              goes = record {
+                next = _;
+                comes = goes-further lawful sound h m held standing t e;
+                held = held-further lawful sound h m held standing fits shows;
+                ready = awaiting l refl (λ y q. subst (λ (n : ℕ). part + 1 < n) (same-count y q) (less part (blockCount x) inside (eqb-false (part + 1) (blockCount x) e)));
+              };
+              stands = refl;
             })
 
-    wanted-next : isLost (m .standing) ≡ false → place p part ≡ m .wanted → Onward p (part + 1) m block ⊎ Completes p (part + 1) m block
+    pub wanted-next : isLost (m .standing) ≡ false → place p part ≡ m .wanted → Further p (part + 1) m block (m .standing) ⊎ Completes p (part + 1) m block
     wanted-next l w =
         took (m .standing) l (takes-next lawful clip kind (block-of lawful sound h) m (held .named) (line-of lawful sound h m held false true _ not-before is-next refl))
         (fits-next lawful sound h m held l (ap (λ (q : Place). q .picture) w) (ap (λ (q : Place). q .part) w)) (held .shows)
@@ -150,17 +162,18 @@ module _ {D : Type 0} {coding : Kind → Coding D} (lawful : AllLawful coding) {
         go true q =
             let sides = two-of (samePlace (place p part) (m .wanted)) _ q in
             let here = two-of (eqb p (m .wanted .picture)) _ (sides .0) in
-            wanted-next (not-lost (isLost (m .standing)) (sides .1)) (λ i. place (eqb-true p (m .wanted .picture) (here .0) i) (eqb-true part (m .wanted .part) (here .1) i))
+            onward-or (wanted-next (not-lost (isLost (m .standing)) (sides .1)) (λ i. place (eqb-true p (m .wanted .picture) (here .0) i) (eqb-true part (m .wanted .part) (here .1) i)))
         go false q =
-            took T.Catching refl (takes-anew lawful clip kind (block-of lawful sound h) m (held .named) (line-of lawful sound h m held false false true not-before q is-refresh))
-            (fits-anew lawful sound h m held z r) (none-shown (kindSize kind) (m .lent .both))
+            onward-or
+            (took T.Catching refl (takes-anew lawful clip kind (block-of lawful sound h) m (held .named) (line-of lawful sound h m held false false true not-before q is-refresh))
+            (fits-anew lawful sound h m held z r) (none-shown (kindSize kind) (m .lent .both)))
 
     on-next : Ready p part m → Onward p (part + 1) m block ⊎ Completes p (part + 1) m block
-    on-next (awaiting l w less) = wanted-next l (sym w)
+    on-next (awaiting l w less) = onward-or (wanted-next l (sym w))
     on-next (starting z r e) = begun z (r x (h .at)) e
 
     -- none is left to come
-    no-next : Complete p part m → ⊥
+    pub no-next : Complete p part m → ⊥
     no-next c = ne-of-lt inside (c .count x (h .at))
 
   -- ---- an older block
@@ -266,7 +279,7 @@ module _ {D : Type 0} {coding : Kind → Coding D} (lawful : AllLawful coding) {
     };
   }
 
-  some-parts : (n : ℕ) → 1 ≤ n → 0 < partCount n
+  pub some-parts : (n : ℕ) → 1 ≤ n → 0 < partCount n
   some-parts n l = omega arith
 
   -- a part is still to come
@@ -280,7 +293,7 @@ module _ {D : Type 0} {coding : Kind → Coding D} (lawful : AllLawful coding) {
       go (awaiting l w less) = ne-of-lt (less x at) all-parts
       go (starting z s n) = ne-of-lt (some-parts (length (bitsOf coding kind x)) (lawful .each kind .has-bits (x .description))) (sym z ∙ all-parts)
 
-  ends : {p part : ℕ} {blocks : List (List ℕ)} → W.Arrives sent p part blocks → (m : Moment) → Held lawful sound m → Ready p part m → Ends p m blocks
+  pub ends : {p part : ℕ} {blocks : List (List ℕ)} → W.Arrives sent p part blocks → (m : Moment) → Held lawful sound m → Ready p part m → Ends p m blocks
   ends {p} {part} (W.all x at e) m held r = absurd (not-yet p part m x at e r)
   ends {p} (W.older {part} {block} {blocks} o a) m held r =
       let g : Onward p part m block = on-older o m held r in
@@ -297,10 +310,10 @@ module _ {D : Type 0} {coding : Kind → Coding D} (lawful : AllLawful coding) {
   run-append w [] b = refl
   run-append w (block ∷ a) b = run-append (afterBlock (step coding) w block) a b
 
-  joined : (p k : ℕ) (m : Moment) (first rest : List (List ℕ)) (e : Ends p m first) → Ends k (e .last) rest → Ends k m (first ++ rest)
-  joined p k m first rest e r = record {
+  pub joined : (k : ℕ) (m n : Moment) (first rest : List (List ℕ)) → worldGiven (step coding) (worldAt clip kind m) first ≡ worldAt clip kind n → Ends k n rest → Ends k m (first ++ rest)
+  joined k m n first rest is r = record {
     last = r .last;
-    is = run-append (worldAt clip kind m) first rest ∙ ap (λ (w : World). worldGiven (step coding) w rest) (e .is) ∙ r .is;
+    is = run-append (worldAt clip kind m) first rest ∙ ap (λ (w : World). worldGiven (step coding) w rest) is ∙ r .is;
     held = r .held;
     stands = r .stands;
     wants = r .wants;
@@ -311,7 +324,7 @@ module _ {D : Type 0} {coding : Kind → Coding D} (lawful : AllLawful coding) {
       is = ap (λ (l : List (List ℕ)). first ++ l) (r .finishes .is) ∙ sym (append-assoc first (r .finishes .before) (r .finishes .block ∷ r .finishes .after));
       answers =
           ap (λ (w : World). step coding (w .receiver) (r .finishes .block) (w .lent) .gave .answer)
-          (run-append (worldAt clip kind m) first (r .finishes .before) ∙ ap (λ (w : World). worldGiven (step coding) w (r .finishes .before)) (e .is))
+          (run-append (worldAt clip kind m) first (r .finishes .before) ∙ ap (λ (w : World). worldGiven (step coding) w (r .finishes .before)) is)
           ∙ r .finishes .answers;
       only-older = r .finishes .only-older;
     };
@@ -328,7 +341,7 @@ module _ {D : Type 0} {coding : Kind → Coding D} (lawful : AllLawful coding) {
       let e : Ends p m first = ends a m held r in
       let rest : Ends (p + 1 + length later) (e .last) (second ++ W.inTurn later) = follow (p + 1) second later (t .0) (t .1) (e .last) (e .held) (ready-on p (e .last) (e .stands) (e .wants)) in
       let k : p + 1 + length later ≡ p + suc (length later) = omega arith in
-      subst (λ (k : ℕ). Ends k m (first ++ (second ++ W.inTurn later))) k (joined p (p + 1 + length later) m first (second ++ W.inTurn later) e rest)
+      subst (λ (k : ℕ). Ends k m (first ++ (second ++ W.inTurn later))) k (joined (p + 1 + length later) m (e .last) first (second ++ W.inTurn later) (e .is) rest)
 
   -- ---- its last block
   arrives-parts : {p part : ℕ} {blocks : List (List ℕ)} → W.Arrives sent p part blocks → Parts lawful sound blocks
@@ -340,7 +353,7 @@ module _ {D : Type 0} {coding : Kind → Coding D} (lawful : AllLawful coding) {
   parts-append [] b s t = t
   parts-append (block ∷ a) b s t = (s .0, parts-append a b (s .1) t)
 
-  parts-split : (a b : List (List ℕ)) → Parts lawful sound (a ++ b) → Parts lawful sound a × Parts lawful sound b
+  pub parts-split : (a b : List (List ℕ)) → Parts lawful sound (a ++ b) → Parts lawful sound a × Parts lawful sound b
   parts-split [] b t = (tt, t)
   parts-split (block ∷ a) b t = let s = parts-split a b (t .1) in ((t .0, s .0), s .1)
 
@@ -353,7 +366,7 @@ module _ {D : Type 0} {coding : Kind → Coding D} (lawful : AllLawful coding) {
   last-of block (second ∷ blocks) = let l = last-of second blocks in (block ∷ l .0, l .1, ap (λ (r : List (List ℕ)). block ∷ r) (l .2))
 
   -- no picture is without blocks
-  not-none : {p part : ℕ} {blocks : List (List ℕ)} → W.Arrives sent p part blocks → part ≡ 0 → blocks ≡ [] → ⊥
+  pub not-none : {p part : ℕ} {blocks : List (List ℕ)} → W.Arrives sent p part blocks → part ≡ 0 → blocks ≡ [] → ⊥
   not-none {p} (W.all x at e) z n = ne-of-lt (some-parts (length (bitsOf coding kind x)) (lawful .each kind .has-bits (x .description))) (sym z ∙ e ∙ sound .whole p x at .count)
   not-none (W.older o a) z n = let q : _≡_ {A = ℕ} 0 1 = cc in omega arith
   not-none (W.next h a) z n = let q : _≡_ {A = ℕ} 0 1 = cc in omega arith
@@ -362,7 +375,7 @@ module _ {D : Type 0} {coding : Kind → Coding D} (lawful : AllLawful coding) {
   unfolding worldGiven
   upon-run w before block = ap (λ (v : World). v .receiver) (sym (run-append w before (block ∷ [])))
 
-  at-last : (m : Moment) → Held lawful sound m → (k : ℕ) (block : List ℕ) (blocks : List (List ℕ)) → Ends k m (block ∷ blocks) → Parts lawful sound (block ∷ blocks)
+  pub at-last : (m : Moment) → Held lawful sound m → (k : ℕ) (block : List ℕ) (blocks : List (List ℕ)) → Ends k m (block ∷ blocks) → Parts lawful sound (block ∷ blocks)
       → W.InStepAt (step coding) shownBy sent k (worldAt clip kind m) (block ∷ blocks)
   at-last m held k block blocks e t =
       let l = last-of block blocks in

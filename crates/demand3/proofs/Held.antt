@@ -55,6 +55,13 @@ pub not-lost : (b : Bool) → opposite b ≡ true → b ≡ false
 not-lost true e = absurd (false≢true e)
 not-lost false e = refl
 
+-- ---- lost and catching are not in step
+pub lost-in-step : (k : ℕ) → T.Lost ≡ T.InStep k → ⊥
+lost-in-step k e = let z : _≡_ {A = ℕ} 0 1 = cc in omega arith
+
+pub catching-in-step : (k : ℕ) → T.Catching ≡ T.InStep k → ⊥
+catching-in-step k e = let z : _≡_ {A = ℕ} 0 1 = cc in omega arith
+
 module _ {D : Type 0} {coding : Kind → Coding D} (lawful : AllLawful coding) {clip : ℕ} {kind : Kind} {sent : List (Picture D)} (sound : Sound coding clip kind sent) where
   -- ---- what holds
   -- of what is collected, and of the store under the wanted picture
@@ -168,12 +175,13 @@ module _ {D : Type 0} {coding : Kind → Coding D} (lawful : AllLawful coding) {
     held-drawn fits = held-arrived fits store (fits .draws) (lawful .each kind .rendered-long (x .description) _)
 
   -- ---- any block
-  -- the receiver goes on to another moment, of which the same holds. What it wants then is what it wanted, or the place after this one
+  -- the receiver goes on to another moment, of which the same holds. What it wants then is what it wanted, or the place after this one; and it is in step only where it was, or where this was its picture's last part
   pub record Goes (p part : ℕ) (m : Moment) (block : List ℕ) : Type 0 where
     pub next : Moment
     pub comes : Comes lawful clip kind m block next
     pub held : Held next
     pub wants : (next .wanted ≡ m .wanted) ⊎ ((next .wanted ≡ place p (part + 1)) ⊎ (next .wanted ≡ place (p + 1) 0))
+    pub steps : (k : ℕ) → next .standing ≡ T.InStep k → (m .standing ≡ T.InStep k) ⊎ ((x : Picture D) → getElem? sent p ≡ some x → part + 1 ≡ partCount (length (bitsOf coding kind x)))
 
   module _ {p part : ℕ} {block : List ℕ} (h : PartOf sent p part block) (m : Moment) (held : Held m) where
     pub line-of : (a b c : Bool) → earlierPlace (place p part) (m .wanted) ≡ a → both (samePlace (place p part) (m .wanted)) (opposite (isLost (m .standing))) ≡ b
@@ -183,12 +191,12 @@ module _ {D : Type 0} {coding : Kind → Coding D} (lawful : AllLawful coding) {
     line-of a b c ea eb ec = λ i. pick (ea i) Earlier (pick (eb i) Next (pick (ec i) Anew Otherwise))
 
     taken-on : (standing : Standing) → Takes lawful clip kind (block-of h) m (held .named) standing → Fits h m held
-        → Shows sent standing (shownStore (kindSize kind) (whereShown standing (m .holder)) (m .lent .both)) → Goes p part m block
-    taken-on standing t fits shows = go (eqb (part + 1) (partCount (length (bitsOf coding kind (h .picture))))) refl
+        → Shows sent standing (shownStore (kindSize kind) (whereShown standing (m .holder)) (m .lent .both)) → ((k : ℕ) → standing ≡ T.InStep k → m .standing ≡ T.InStep k) → Goes p part m block
+    taken-on standing t fits shows was = go (eqb (part + 1) (partCount (length (bitsOf coding kind (h .picture))))) refl
       where
         go : (last : Bool) → eqb (part + 1) (partCount (length (bitsOf coding kind (h .picture)))) ≡ last → Goes p part m block
-        go true e = record { next = _; comes = goes-arrived h m held standing t fits e .comes; held = held-drawn h m held fits; wants = inr (inr refl) }
-        go false e = record { next = _; comes = goes-further h m held standing t e; held = held-further h m held standing fits shows; wants = inr (inl refl) }
+        go true e = record { next = _; comes = goes-arrived h m held standing t fits e .comes; held = held-drawn h m held fits; wants = inr (inr refl); steps = λ k s. inr (one-picture h m held (λ (y : Picture D). part + 1 ≡ partCount (length (bitsOf coding kind y))) (eqb-true (part + 1) (partCount (length (bitsOf coding kind (h .picture)))) e)) }
+        go false e = record { next = _; comes = goes-further h m held standing t e; held = held-further h m held standing fits shows; wants = inr (inl refl); steps = λ k s. inl (was k s) }
 
     on-next : lineOf (progressAt m) (headerOf coding kind (h .picture) clip p part) ≡ Next → both (samePlace (place p part) (m .wanted)) (opposite (isLost (m .standing))) ≡ true → Goes p part m block
     on-next q e =
@@ -196,14 +204,14 @@ module _ {D : Type 0} {coding : Kind → Coding D} (lawful : AllLawful coding) {
         let here = two-of (eqb p (m .wanted .picture)) _ (sides .0) in
         taken-on (m .standing) (takes-next lawful clip kind (block-of h) m (held .named) q)
         (fits-next h m held (not-lost (isLost (m .standing)) (sides .1)) (eqb-true p (m .wanted .picture) (here .0)) (eqb-true part (m .wanted .part) (here .1)))
-        (held .shows)
+        (held .shows) (λ k s. s)
 
     on-anew : lineOf (progressAt m) (headerOf coding kind (h .picture) clip p part) ≡ Anew → both (eqb part 0) (both (refreshOf coding kind (h .picture)) (eqb part 0)) ≡ true → Goes p part m block
     on-anew q e =
         let sides = two-of (eqb part 0) _ e in
         taken-on T.Catching (takes-anew lawful clip kind (block-of h) m (held .named) q)
         (fits-anew h m held (eqb-true part 0 (sides .0)) (two-of (refreshOf coding kind (h .picture)) _ (sides .1) .0))
-        (none-shown (kindSize kind) (m .lent .both))
+        (none-shown (kindSize kind) (m .lent .both)) (λ k s. absurd (catching-in-step k s))
 
     -- whatever line it matches, what holds goes on to hold
     pub step-held : Goes p part m block
@@ -211,11 +219,11 @@ module _ {D : Type 0} {coding : Kind → Coding D} (lawful : AllLawful coding) {
       where
         go : (a b c : Bool) → earlierPlace (place p part) (m .wanted) ≡ a → both (samePlace (place p part) (m .wanted)) (opposite (isLost (m .standing))) ≡ b
             → both (eqb part 0) (both (refreshOf coding kind (h .picture)) (eqb part 0)) ≡ c → Goes p part m block
-        go true b c ea eb ec = record { next = m; comes = comes-old lawful clip kind (block-of h) m (held .named) (line-of true b c ea eb ec); held = held; wants = inl refl }
+        go true b c ea eb ec = record { next = m; comes = comes-old lawful clip kind (block-of h) m (held .named) (line-of true b c ea eb ec); held = held; wants = inl refl; steps = λ k s. inl s }
         go false true c ea eb ec = on-next (line-of false true c ea eb ec) eb
         go false false true ea eb ec = on-anew (line-of false false true ea eb ec) ec
         go false false false ea eb ec =
-            record { next = astray m; comes = comes-lost lawful clip kind (block-of h) m (held .named) (line-of false false false ea eb ec); held = held-astray m held; wants = inl refl }
+            record { next = astray m; comes = comes-lost lawful clip kind (block-of h) m (held .named) (line-of false false false ea eb ec); held = held-astray m held; wants = inl refl; steps = λ k s. absurd (lost-in-step k s) }
 
   -- ---- any list of blocks
   abbrev pub Parts : List (List ℕ) → Type 0

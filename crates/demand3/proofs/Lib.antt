@@ -9,3 +9,4 @@ pub mod Sent
 pub mod Step
 pub mod WholeClip
 pub mod Reconstructed
+pub mod Soon

@@ -34,7 +34,7 @@ pub member-at : {A : Type 0} {a : A} {l : List A} → List·Memᴰ a l → (i : 
 member-at (List·Memᴰ·head e) = (0, ap some (sym e))
 member-at (List·Memᴰ·tail m) = let found = member-at m in (suc (found .0), found .1)
 
-none-some : {A : Type 0} (a : A) → none ≡ some a → ⊥
+pub none-some : {A : Type 0} (a : A) → none ≡ some a → ⊥
 none-some a e = let z : _≡_ {A = ℕ} 0 1 = cc in omega arith
 
 cut-length : (n : ℕ) (out : List ℕ) → length (cut n out) ≡ n

@@ -3,3 +3,4 @@ pub mod Arrives
 pub mod Demand3
 pub mod Theorems
 pub mod Reconstructed
+pub mod Soon

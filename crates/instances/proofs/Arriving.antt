@@ -1,13 +1,14 @@
 -- What is said of a picture's blocks as they arrive in order, and of a block that comes after a gap. Assumes nothing.
-use mathlib.Core.Path.{_≡_, refl, sym, ap, _∙_}
+use mathlib.Core.Path.{_≡_, refl, sym, ap, subst, _∙_}
 use mathlib.Core.Bool.{Bool, true, false}
+use mathlib.Core.Logic.{⊎-elim}
 use mathlib.Core.List.{List, [], _∷_, _++_}
 use mathlib.Core.Option.{some}
-use Prim.Native.Nat.{ℕ, zero, suc, _+_, _≤_}
+use Prim.Native.Nat.{ℕ, zero, suc, _+_, _≤_, _<_}
 use native.Mathlib.Nat.{add-zero, le-refl}
 use native.Mathlib.Omega.{arith}
-use borrow.Author.Tests.{eq-eqb, ne-eqb, le-ltb}
-use lib.Dec.{eqb}
+use borrow.Author.Tests.{eqb-true, eq-eqb, ne-eqb, ltb-true, ltb-false, le-ltb}
+use lib.Dec.{eqb, ltb}
 use lib.ListN.{length, getElem?}
 use Rattle.laws.specs.Choice.{both, opposite}
 use Rattle.laws.proofs.Choice.{first-no, second-no}
@@ -16,16 +17,20 @@ use Rattle.coding.specs.Coding.{Coding}
 use Rattle.coding.specs.Kind.{kindSize, AllLawful}
 use Rattle.vault.specs.Parts.{partCount}
 use Rattle.standing.specs.declared.Place.{Place}
+use Rattle.standing.specs.declared.Standing.{Standing}
 use Rattle.standing.specs.declared.Line.the-variants.{Otherwise}
 use Rattle.standing.specs.Answered.{Said, taken, lost, picture}
 use Rattle.standing.specs.Receive.{place, earlierPlace, samePlace, isLost, lineOf, step}
 use Rattle.standing.specs.Run.{World, worldAfter, answers}
 use Rattle.demand3.specs.Clip.{Picture, PartOf, worldGiven, afterBlock}
+use Rattle.demand3.specs.Soon.{InOrder, here, next}
 use Rattle.demand3.proofs.Finished.{none-shown}
-use Rattle.demand3.proofs.Step.{Moment, progressAt, worldAt, astray, bitsOf, refreshOf, headerOf, Comes, comes-lost, lost-answers, Takes, takes-next, takes-anew}
-use Rattle.demand3.proofs.Held.{Sound, Held, Fits, block-of, fits-next, fits-anew, goes-further, goes-answers, goes-arrived, held-further, held-drawn, line-of, after-comes}
+use Rattle.demand3.proofs.Step.{Moment, progressAt, worldAt, astray, bitsOf, refreshOf, headerOf, Comes, comes-old, comes-lost, lost-answers, Takes, takes-next, takes-anew}
+use Rattle.demand3.proofs.Held.{lost-in-step, Sound, Held, held-astray, Goes, step-held, Fits, block-of, fits-next, fits-anew, goes-further, goes-answers, goes-arrived, held-further, held-drawn, line-of, after-comes}
 use Rattle.instances.specs.Instances.{arrival}
+use Rattle.instances.specs.Bound.{NotInStep}
 use Rattle.standing.specs.declared.Standing.the-variants as T
+use Rattle.demand3.specs.Soon as S
 
 -- ---- answers, one after another
 pub answers-append : {D : Type 0} (coding : Kind → Coding D) (w : World) (a b : List (List ℕ)) → answers coding w (a ++ b) ≡ answers coding w a ++ answers coding (worldGiven (step coding) w a) b
@@ -152,3 +157,76 @@ module _ {D : Type 0} {coding : Kind → Coding D} (lawful : AllLawful coding) {
     pub says-lost : goes-astray .answer ≡ lost
     unfolding goes-astray
     says-lost = lost-answers lawful clip kind (block-of lawful sound h) m (held .named) otherwise
+
+  -- ---- a receiver that is lost stays lost over a block that is no part 0 of a refresh
+  pub record Loses (m : Moment) (block : List ℕ) : Type 0 where
+    pub next : Moment
+    pub comes : Comes lawful clip kind m block next
+    pub held : Held lawful sound next
+    pub stands : next .standing ≡ T.Lost
+
+  module _ {p part : ℕ} {block : List ℕ} (h : PartOf sent p part block) (m : Moment) (held : Held lawful sound m) (l : m .standing ≡ T.Lost) (plain : part ≡ 0 → refreshOf coding kind (h .picture) ≡ false) where
+    no-next : both (samePlace (place p part) (m .wanted)) (opposite (isLost (m .standing))) ≡ false
+    no-next = second-no (samePlace (place p part) (m .wanted)) (opposite (isLost (m .standing))) (ap (λ (s : Standing). opposite (isLost s)) l)
+
+    no-anew : both (eqb part 0) (both (refreshOf coding kind (h .picture)) (eqb part 0)) ≡ false
+    no-anew = go (eqb part 0) refl
+      where
+        go : (t : Bool) → eqb part 0 ≡ t → both t (both (refreshOf coding kind (h .picture)) t) ≡ false
+        go true e = ap (λ (r : Bool). both r true) (plain (eqb-true part 0 e))
+        go false e = refl
+
+    pub stays-lost : Loses m block
+    stays-lost = go (earlierPlace (place p part) (m .wanted)) refl
+      where
+        go : (a : Bool) → earlierPlace (place p part) (m .wanted) ≡ a → Loses m block
+        go true e = record { next = m; comes = comes-old lawful clip kind (block-of lawful sound h) m (held .named) (line-of lawful sound h m held true _ _ e refl refl); held = held; stands = l }
+        go false e = record {
+          next = astray m;
+          comes = comes-lost lawful clip kind (block-of lawful sound h) m (held .named) (line-of lawful sound h m held false false false e no-next no-anew);
+          held = held-astray lawful sound m held;
+          stands = refl;
+        }
+
+  -- ---- blocks in order from a part of picture j on, and no picture between j and q is a refresh: a receiver that is lost isn't in step before q's last part
+  module _ (j q last : ℕ) (plain : (i : ℕ) (x : Picture D) → getElem? sent i ≡ some x → j < i → i < q → refreshOf coding kind x ≡ false)
+      (short : (x : Picture D) → getElem? sent q ≡ some x → last < partCount (length (bitsOf coding kind x))) where
+    abbrev Out : Moment → Type 0
+    Out m = (k : ℕ) → m .standing ≡ T.InStep k → ⊥
+
+    -- the order goes up
+    no-further : {p part : ℕ} {blocks : List (List ℕ)} → InOrder sent q last p part blocks → (p ≤ q) × (p ≡ q → part ≤ last)
+    no-further here = (le-refl q, λ e. le-refl last)
+    no-further (next h o) = let b = no-further o in (b .0, λ e. let c = b .1 e in omega (arith, c))
+    no-further (S.onward x at n o) = let b = no-further o in let c = b .0 in (omega (arith, c), λ e. absurd (omega (arith, c, e)))
+
+    pub not-yet : {p part : ℕ} {blocks : List (List ℕ)} → InOrder sent q last p part blocks → j ≤ p → (part ≡ 0 → j < p) → (m : Moment) → Held lawful sound m → (p < q → m .standing ≡ T.Lost) → Out m
+        → NotInStep (step coding) (worldAt clip kind m) blocks
+    not-yet here a z m held l out = tt
+    not-yet {p} (next {part = part} {block = block} {blocks = blocks} h o) a z m held l out =
+        go (λ n k t u. not-yet o a (λ e. absurd (omega (arith, e))) n k t u) (ltb p q) refl
+      where
+        on : (n : Moment) → Comes lawful clip kind m block n → Out n → NotInStep (step coding) (worldAt clip kind n) blocks → NotInStep (step coding) (worldAt clip kind m) (block ∷ blocks)
+        on n c u rest =
+            subst (λ (v : World). ((k : ℕ) → v .receiver .progress .standing ≡ T.InStep k → ⊥) × NotInStep (step coding) v blocks) (sym (after-comes lawful sound m block n c)) (u, rest)
+
+        go : ((n : Moment) → Held lawful sound n → (p < q → n .standing ≡ T.Lost) → Out n → NotInStep (step coding) (worldAt clip kind n) blocks) → (b : Bool) → ltb p q ≡ b
+            → NotInStep (step coding) (worldAt clip kind m) (block ∷ blocks)
+        go below true s =
+            let less : p < q = ltb-true p q s in
+            let g : Loses m block = stays-lost h m held (l less) (λ e. plain p (h .picture) (h .at) (z e) less) in
+            let u : Out (g .next) = λ k e. lost-in-step k (sym (g .stands) ∙ e) in
+            on (g .next) (g .comes) u (below (g .next) (g .held) (λ _. g .stands) u)
+        go below false s =
+            let g : Goes lawful sound p part m block = step-held lawful sound h m held in
+            let there : q ≤ p = ltb-false p q s in
+            let up = no-further o in
+            let most : p ≤ q = up .0 in
+            let same : p ≡ q = omega (arith, there, most) in
+            let more : part + 1 ≤ last = up .1 same in
+            let has : last < partCount (length (bitsOf coding kind (h .picture))) = short (h .picture) (ap (getElem? sent) (sym same) ∙ h .at) in
+            let u : Out (g .next) = λ k e. ⊎-elim (λ was. out k was) (λ c. let end = c (h .picture) (h .at) in omega (arith, more, has, end)) (g .steps k e) in
+            on (g .next) (g .comes) u (below (g .next) (g .held) (λ less. absurd (omega (arith, there, less))) u)
+    not-yet {p} (S.onward x at n o) a z m held l out =
+        let c = no-further o .0 in
+        not-yet o (omega (arith, a)) (λ _. omega (arith, a)) m held (λ _. l (omega (arith, c))) out

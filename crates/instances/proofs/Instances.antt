@@ -74,7 +74,7 @@ still-below Qcif = let e : length (pictureBits Qcif (still Qcif)) ≡ 32 + 3 * 2
 still-below Cif = let e : length (pictureBits Cif (still Cif)) ≡ 32 + 12 * 26 = still-long Cif in omega arith
 
 -- two blocks in QCIF, seven in CIF
-grey-parts : (kind : Kind) (c : Code) → partCount (length (codingOf kind .written (grey (formatOf kind) (codeOf c)))) ≡ suc (beforeLast kind)
+pub grey-parts : (kind : Kind) (c : Code) → partCount (length (codingOf kind .written (grey (formatOf kind) (codeOf c)))) ≡ suc (beforeLast kind)
 unfolding codingOf
 grey-parts K.H261Qcif c = let e : length (pictureBits Qcif (grey Qcif (codeOf c))) ≡ 32 + 3 * 2171 = grey-long c Qcif in omega arith
 grey-parts K.H261Cif c = let e : length (pictureBits Cif (grey Cif (codeOf c))) ≡ 32 + 12 * 2171 = grey-long c Cif in omega arith
@@ -98,19 +98,19 @@ module _ (kind : Kind) where
   f = formatOf kind
 
   -- ---- the descriptions
-  grey-refresh : (c : Code) → codingOf kind .refresh (grey f (codeOf c)) ≡ true
+  pub grey-refresh : (c : Code) → codingOf kind .refresh (grey f (codeOf c)) ≡ true
   unfolding codingOf
   grey-refresh c = intra-refresh f (greyLevels (codeOf c))
 
-  still-plain : codingOf kind .refresh (still f) ≡ false
+  pub still-plain : codingOf kind .refresh (still f) ≡ false
   unfolding codingOf
   still-plain = still-no-refresh f
 
-  grey-fits : (c : Code) → length (codingOf kind .written (grey f (codeOf c))) ≤ limit (kindSize kind)
+  pub grey-fits : (c : Code) → length (codingOf kind .written (grey f (codeOf c))) ≤ limit (kindSize kind)
   unfolding codingOf
   grey-fits c = grey-below c f
 
-  still-fits : length (codingOf kind .written (still f)) ≤ limit (kindSize kind)
+  pub still-fits : length (codingOf kind .written (still f)) ≤ limit (kindSize kind)
   unfolding codingOf
   still-fits = still-below f
 

@@ -2,3 +2,4 @@ pub mod Uniform
 pub mod Sending
 pub mod Arriving
 pub mod Instances
+pub mod Bound

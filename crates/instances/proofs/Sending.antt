@@ -1,10 +1,11 @@
 -- What comes of the calls of a clip, into outputs and stores that are all 0: a picture for each that can be sent, none for one above the limit. Assumes nothing.
 use mathlib.Core.Path.{_≡_, refl, ap, _∙_}
-use mathlib.Core.Bool.{true}
-use mathlib.Core.List.{List, [], _∷_, _++_}
-use Prim.Native.Nat.{ℕ, _≤_, _<_}
+use mathlib.Core.Bool.{Bool, true}
+use mathlib.Core.List.{List, [], _∷_, _++_, map}
+use Prim.Native.Nat.{ℕ, _+_, _≤_, _<_}
 use native.Mathlib.Nat.{mul-one}
-use borrow.Author.Tests.{eq-eqb}
+use native.Mathlib.Omega.{arith}
+use borrow.Author.Tests.{eq-eqb, ne-eqb}
 use lib.Dec.{T, eqb}
 use lib.ListN.{length}
 use Rattle.laws.specs.Choice.{both, either, opposite}
@@ -27,7 +28,7 @@ use Rattle.demand2.proofs.WrittenBack.{one-of}
 use Rattle.demand3.specs.Clip.{Picture, sentAs, pictures}
 use Rattle.demand3.proofs.Finished.{bothSized, kept-sized}
 use Rattle.demand3.proofs.Step.{lengths-make}
-use Rattle.instances.specs.Example.{blank, blankStores, newcomer, call}
+use Rattle.instances.specs.Example.{blank, blankStores, newcomer, call, calls}
 use Rattle.instances.proofs.Uniform.{repeated-length}
 use Rattle.standing.specs.Receive as R
 
@@ -107,3 +108,25 @@ module _ {D : Type 0} (coding : Kind → Coding D) (w : World) (d : D) where
         pub above-refused : callOutcome coding w (call kind d) .gave .answer ≡ refused 32 0
         unfolding callOutcome step cameTo
         above-refused = ap (λ (j : Judgement). cameTo coding (w .sender) d lent j .gave .answer) (above coding (w .sender) d lent passed l)
+
+-- ---- calls that can all be sent, one after another
+pub record Sendable {D : Type 0} (coding : Kind → Coding D) (kind : Kind) (d : D) : Type 0 where
+  pub can : Described coding kind d
+  pub within : length (coding kind .written d) ≤ limit (kindSize kind)
+
+module _ {D : Type 0} (coding : Kind → Coding D) (long : (kind : Kind) (d : D) (before : List ℕ) → length (coding kind .render d before) ≡ storeLength (kindSize kind)) {A : Type 0} (describe : A → D) where
+  -- each becomes a picture of its description
+  pub all-sent : (w : World) → bothSized (kindSize (w .sender .kind)) (w .both) ≡ true → ((a : A) → Sendable coding (w .sender .kind) (describe a))
+      → (a : A) → either (opposite (eqb (w .sender .picture) 0)) (coding (w .sender .kind) .refresh (describe a)) ≡ true → (l : List A) → w .sender .picture + length (a ∷ l) ≤ mostPictures
+      → map (λ (x : Picture D). x .description) (pictures coding w (calls (w .sender .kind) (map describe (a ∷ l)))) ≡ map describe (a ∷ l)
+  unfolding pictures
+  all-sent w sized can a begins [] few =
+      ap (map (λ (x : Picture D). x .description)) (picture-first coding w (describe a) sized (omega (arith, few)) (can a .can) begins (can a .within) [])
+  all-sent w sized can a begins (b ∷ l) few =
+      ap (map (λ (x : Picture D). x .description)) (picture-first coding w (describe a) sized (omega (arith, few)) (can a .can) begins (can a .within) (calls (w .sender .kind) (map describe (b ∷ l))))
+      ∙ ap (λ (ds : List D). describe a ∷ ds)
+      (all-sent (next coding w (describe a)) (next-sized coding w (describe a) sized (long (w .sender .kind) (describe a) (reference (w .sender .holder) (w .both)))) can b
+      (later (coding (w .sender .kind) .refresh (describe b))) l (omega (arith, few)))
+    where
+      later : (t : Bool) → either (opposite (eqb (w .sender .picture + 1) 0)) t ≡ true
+      later t = rw (ne-eqb (w .sender .picture + 1) 0 (λ e. omega (arith, e)))

@@ -1,3 +1,4 @@
 pub mod Uniform
 pub mod Example
 pub mod Instances
+pub mod Bound

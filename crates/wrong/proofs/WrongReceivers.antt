@@ -1,13 +1,15 @@
--- The wrong receivers that document 01 names don't meet demand 3: each is given blocks of the example (instances). Assumes nothing.
+-- The wrong receivers that document 01 names don't meet demand 3: each is given blocks of the example (instances); nor does one that needs two refreshes meet T-14. Assumes nothing.
 use mathlib.Core.Path.{_≡_, refl, sym, ap, subst, _∙_}
 use mathlib.Core.Bool.{Bool, true, false, true≢false}
 use mathlib.Core.Logic.{_⊎_, inl, inr}
 use mathlib.Core.List.{List, [], _∷_, _++_, append-nil}
 use mathlib.Core.Option.{some, Option·some-injective}
-use Prim.Native.Nat.{ℕ, _+_}
+use Prim.Native.Nat.{ℕ, _+_, _<_}
 use native.Mathlib.Omega.{arith}
+use borrow.Author.Tests.{eqb-false, ltb-false}
+use lib.Dec.{eqb, ltb, lit<}
 use lib.ListN.{getElem?, getD}
-use Rattle.laws.specs.Choice.{both, opposite}
+use Rattle.laws.specs.Choice.{both, either, opposite}
 use Rattle.coding.specs.declared.Kind.the-variants.{H261Qcif}
 use Rattle.layout.specs.Flat.{Flat}
 use Rattle.h261_groups.specs.declared.Format.the-variants.{Qcif}
@@ -17,19 +19,23 @@ use Rattle.standing.specs.declared.Receiver.{Receiver}
 use Rattle.standing.specs.declared.Standing.{Standing}
 use Rattle.standing.specs.Receive.{place, earlierPlace, samePlace, isLost, freshReceiver, Buffers, Outcome, step}
 use Rattle.standing.specs.Run.{World}
-use Rattle.demand3.specs.Clip.{Picture, Clip, blocksIn, picturesIn, begin, Each, Receive, Show, afterBlock, worldGiven, Shows}
+use Rattle.demand3.specs.Clip.{Picture, PartOf, Clip, blocksIn, picturesIn, begin, Each, Receive, Show, afterBlock, worldGiven, Shows}
 use Rattle.demand3.specs.Arrives.{InStepAt}
 use Rattle.demand3.specs.Demand3.{CatchesUp}
+use Rattle.demand3.specs.Soon.{InOrder, here, next, onward, Soon}
+use Rattle.demand3.proofs.Held.{lost-in-step}
 use Rattle.demand3.proofs.InStep.{sound-clip}
 use Rattle.demand3.proofs.WholeClip.{own-arrive, whole-clip}
 use Rattle.demand3.proofs.Calls.{each-of, given-append, always, Ends, ends}
 use Rattle.instances.specs.Uniform.{grey}
 use Rattle.instances.specs.Example.{newcomer, example}
 use Rattle.instances.specs.Instances.{Example, Delivered, astray}
+use Rattle.instances.specs.Bound.{sparseClip, Bound}
 use Rattle.instances.proofs.Uniform.{Code, one, two, codeOf}
 use Rattle.instances.proofs.Sending.{newcomer-named}
 use Rattle.instances.proofs.Instances.{example-sent, example-meets, one-gap, each-parts}
-use Rattle.wrong.specs.WrongReceivers.{IdleWrong, LostWrong, NeverInStepWrong, wasLost, LostForEverWrong, Delivery, comesTo, OnlyRefreshWrong, RenumberingWrong}
+use Rattle.instances.proofs.Bound.{plain-between, none-after, bound-reached}
+use Rattle.wrong.specs.WrongReceivers.{IdleWrong, LostWrong, NeverInStepWrong, wasLost, LostForEverWrong, Delivery, comesTo, OnlyRefreshWrong, RenumberingWrong, TwoRefreshes, TwoRefreshesWrong}
 use Rattle.wrong.proofs.Sampled.{grey-sample}
 use Rattle.standing.specs.declared.Standing.the-variants as T
 
@@ -58,9 +64,6 @@ each0 = each-parts (blocksIn codingOf clip) (x .picture0 .blocks) (x .picture2 .
 
 each3 : Each (blocksIn codingOf clip) (x .picture3 .blocks)
 each3 = each-parts (blocksIn codingOf clip) (x .picture3 .blocks) (x .picture4 .blocks) (until-loss .1) .0
-
-lost-in-step : (k : ℕ) → T.Lost ≡ T.InStep k → ⊥
-lost-in-step k e = let z : _≡_ {A = ℕ} 0 1 = cc in omega arith
 
 module _ {receive : Receive} {show : Show} (catches : CatchesUp codingOf receive show) where
   -- with all blocks it is in step at picture 4
@@ -204,3 +207,43 @@ renumbering-wrong receive show made only catches =
     let z : _≡_ {A = ℕ} 1 2 =
     sym (first-sample 0 (x .picture0) one at0 (x .described0)) ∙ ap (λ (l : List ℕ). getD l 0 0) (same0 ∙ sym same3) ∙ first-sample 3 (x .picture3) two at3 (x .described3) in
     omega arith
+
+-- ---- wrong: one that needs two refreshes. From part 1 of picture 12 on there is one, picture 24 (instances, Bound)
+-- blocks in order, as far as some of them go
+order-split : {sent : List (Picture Flat)} {q last p part : ℕ} {blocks : List (List ℕ)} → InOrder sent q last p part blocks → (a b : List (List ℕ)) → blocks ≡ a ++ b → (q′ last′ : ℕ) × InOrder sent q′ last′ p part a
+order-split {p = p} {part = part} o [] b e = (p, part, here)
+order-split here (block ∷ a) b e = let z : _≡_ {A = ℕ} 0 1 = cc in absurd (omega arith)
+order-split {sent} {p = p} (next {part = part} {block = own} {blocks = blocks} h o) (block ∷ a) b e =
+    let same : own ≡ block = cc in
+    let rest : blocks ≡ a ++ b = cc in
+    let s = order-split o a b rest in
+    (s .0, s .1, next (subst (λ (l : List ℕ). PartOf sent p part l) same h) (s .2))
+order-split (onward y at n o) (block ∷ a) b e = let s = order-split o (block ∷ a) b e in (s .0, s .1, onward y at n (s .2))
+
+after-twelve : (p : ℕ) → earlierPlace (place p 0) (place 12 1) ≡ false → 12 < p
+after-twelve p e = go (ltb p 12) (eqb p 12) refl refl e
+  where
+    go : (a b : Bool) → ltb p 12 ≡ a → eqb p 12 ≡ b → either a (both b true) ≡ false → 12 < p
+    go true b l m n = absurd (true≢false n)
+    go false true l m n = absurd (true≢false n)
+    go false false l m n = let z = ltb-false p 12 l in let d = eqb-false p 12 m in omega (arith, z, d)
+
+-- the second of two after picture 12 would be past the clip's end
+no-two : (q : ℕ) → TwoRefreshes (sparseClip H261Qcif) 12 1 q → ⊥
+no-two q t =
+    let low : 12 < t .first = after-twelve (t .first) (t .from) in
+    let high : t .second < 25 = none-after H261Qcif (t .second) (t .at-second .0) (t .at-second .1) in
+    let less : t .first < t .second = t .less in
+    true≢false (sym (t .at-first .2) ∙ plain-between H261Qcif (t .first) (t .at-first .0) (t .at-first .1) low (omega (arith, high, less)))
+
+pub two-refreshes-wrong : TwoRefreshesWrong
+unfolding worldGiven
+two-refreshes-wrong receive show needs back =
+    let b : Bound H261Qcif = bound-reached H261Qcif in
+    let given : List (List ℕ) = b .before ++ (b .last ∷ []) in
+    let w : World = begin (newcomer H261Qcif) in
+    let s : Soon receive show (picturesIn codingOf (sparseClip H261Qcif)) 24 w given =
+    back (sparseClip H261Qcif) (newcomer H261Qcif) (newcomer-named H261Qcif) (b .every) [] tt 12 1 refl 25 0 given (b .in-order) (lit< tt) in
+    let o = order-split (b .in-order) (s .upto) (s .rest) (s .is) in
+    let e : Ends receive show (picturesIn codingOf (sparseClip H261Qcif)) (s .k) w (s .upto) = ends receive (s .finishes) in
+    no-two (o .0) (needs (sparseClip H261Qcif) (newcomer H261Qcif) (o .0) (o .1) 12 1 (s .upto) (o .2) (s .k) (ap (λ (v : World). v .receiver .progress .standing) (e .is) ∙ e .stands))

@@ -1,17 +1,18 @@
--- Receivers that demand 3 rules out, of those that document 01 names under "What the promises decide": each of any `receive` and `show` that are so. Assumes nothing.
+-- Receivers that demand 3 rules out, of those that document 01 names under "What the promises decide", and one that document 02's T-14 does: each of any `receive` and `show` that are so. Assumes nothing.
 use mathlib.Core.Path.{_≡_}
 use mathlib.Core.Bool.{Bool, true, false}
 use mathlib.Core.List.{List, List·Memᴰ}
 use mathlib.Core.Option.{some}
-use Prim.Native.Nat.{ℕ}
+use Prim.Native.Nat.{ℕ, _≤_, _<_}
 use lib.ListN.{getElem?}
 use Rattle.laws.specs.Choice.{both, opposite}
 use Rattle.layout.specs.Flat.{Flat}
 use Rattle.coding.specs.Kind.{codingOf}
 use Rattle.standing.specs.declared.Receiver.{Receiver}
-use Rattle.standing.specs.Receive.{place, samePlace, isLost, Buffers, Outcome, step}
-use Rattle.demand3.specs.Clip.{Picture, Clip, blocksIn, picturesIn, Fresh, begin, Each, Receive, Show, upon}
+use Rattle.standing.specs.Receive.{place, earlierPlace, samePlace, isLost, Buffers, Outcome, step}
+use Rattle.demand3.specs.Clip.{Picture, Clip, blocksIn, picturesIn, Fresh, begin, Each, Receive, Show, worldGiven, upon}
 use Rattle.demand3.specs.Demand3.{CatchesUp}
+use Rattle.demand3.specs.Soon.{InOrder, BackInStep}
 use Rattle.standing.specs.declared.Standing.the-variants as T
 
 -- ---- wrong: "a receiver that does nothing or is lost for ever"
@@ -68,3 +69,23 @@ abbrev pub RenumberingWrong : Type 0
 RenumberingWrong = (receive : Receive) (show : Show) (made : Picture Flat → List ℕ)
     → ((d : Delivery) (k : ℕ) (x : Picture Flat) → StandsAt receive d k → Sent d 0 x → show (comesTo receive d .gave) (comesTo receive d .left .both) ≡ made x)
     → CatchesUp codingOf receive show → ⊥
+
+-- ---- wrong by T-14: one that needs two refreshes: given a clip's blocks in order from some part on, it is in step only once two refreshes' part 0 have come, whatever else it does
+abbrev pub RefreshAt : Clip Flat → ℕ → Type 0
+RefreshAt c p = (x : Picture Flat) × (getElem? (picturesIn codingOf c) p ≡ some x) × (codingOf (c .kind) .refresh (x .description) ≡ true)
+
+pub record TwoRefreshes (c : Clip Flat) (j part q : ℕ) : Type 0 where
+  pub first : ℕ
+  pub second : ℕ
+  -- from part `part` of picture j on
+  pub from : earlierPlace (place first 0) (place j part) ≡ false
+  pub less : first < second
+  pub upto : second ≤ q
+  pub at-first : RefreshAt c first
+  pub at-second : RefreshAt c second
+
+abbrev pub TwoRefreshesWrong : Type 0
+TwoRefreshesWrong = (receive : Receive) (show : Show)
+    → ((c : Clip Flat) (r : Fresh (c .number) (c .kind)) (q last j part : ℕ) (blocks : List (List ℕ)) → InOrder (picturesIn codingOf c) q last j part blocks
+    → (k : ℕ) → worldGiven receive (begin r) blocks .receiver .progress .standing ≡ T.InStep k → TwoRefreshes c j part q)
+    → BackInStep codingOf receive show 12 → ⊥
