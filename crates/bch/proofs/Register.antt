@@ -1,8 +1,8 @@
 -- A register is fed a byte at a time by a table of what its eight high bits are worth, and a short one bit by bit. Assumes nothing.
 use mathlib.Core.Path.{_≡_, refl, sym, ap, subst, _∙_}
-use mathlib.Core.List.{List, _∷_, _++_}
+use mathlib.Core.List.{List}
 use Prim.Native.Nat.{ℕ, zero, suc, _+_, _-_, _*_, _/_, _%_, _^_, _≤_, _<_}
-use native.Mathlib.Nat.{zero-add, suc-add, zero-mul, one-mul, zero-div, mod-lt, mod-eq-of-lt}
+use native.Mathlib.Nat.{zero-mul, one-mul, zero-div, mod-lt, mod-eq-of-lt}
 use native.Mathlib.Omega.{arith}
 use lib.Dec.{eqb, lit<, lit≤, eqb→eq}
 use lib.Pow.{pow-pos, split}
@@ -12,7 +12,8 @@ use Rattle.laws.proofs.Table.{all-at}
 use Rattle.laws.specs.Row.{row}
 use Rattle.laws.proofs.Row.{getD-row}
 use Rattle.laws.specs.Xor.{_⊕_}
-use Rattle.bits.specs.Bits.{Bit, bitsOf, bitNum, bitAt, bitsFrom}
+use Rattle.bits.specs.Bits.{Bit, bitsOf, bitsFrom}
+use Rattle.bits.proofs.Value.{bits-split, byte-bits}
 use Rattle.bits.proofs.Numbers.{bitsOf-mod}
 use Rattle.bch.specs.Division.{Divisor, up, fed, raised}
 use Rattle.bch.proofs.Division.{up-lt, raised-xor, fed-append, fed-lt}
@@ -55,31 +56,12 @@ pub byte-fed-lt : (r b : ℕ) → r < 262144 → fed generator (bitsOf 8 b) r < 
 byte-fed-lt r b l = fed-lt generator (lit< tt) (bitsOf 8 b) r l
 
 -- ---- the bytes of a frame
-bits-more : (s : List ℕ) (a k m : ℕ) → bitsFrom s a (k + m) ≡ bitsFrom s a k ++ bitsFrom s (a + k) m
-unfolding bitsFrom
-bits-more s a zero m =
-    let e : 0 + m ≡ m = zero-add m in
-    let f : a ≡ a + 0 = omega arith in
-    λ i. bitsFrom s (f i) (e i)
-bits-more s a (suc k) m =
-    let e : suc k + m ≡ suc (k + m) = suc-add k m in
-    let f : a + 1 + k ≡ a + suc k = omega arith in
-    ap (bitsFrom s a) e ∙ ap (λ (l : List Bit). bitAt s a ∷ l) (bits-more s (a + 1) k m ∙ ap (λ (j : ℕ). bitsFrom s (a + 1) k ++ bitsFrom s j m) f)
-
-byte-bits : (s : List ℕ) (i a k : ℕ) → k ≤ 8 → a + k ≡ i * 8 + 8 → bitsFrom s a k ≡ bitsOf k (getD s i 0)
-unfolding bitsFrom bitAt bitNum
-byte-bits s i a zero l e = refl
-byte-bits s i a (suc k) l e =
-    let d : a / 8 ≡ i = omega arith in
-    let m : 7 - a % 8 ≡ k = omega arith in
-    rw (d, m, byte-bits s i (a + 1) k (omega arith) (omega arith))
-
 pub byte-next : (s : List ℕ) (i r : ℕ) → i < 64
     → fed generator (bitsFrom s (i * 8) (512 - i * 8)) r ≡ fed generator (bitsFrom s ((i + 1) * 8) (512 - (i + 1) * 8)) (fed generator (bitsOf 8 (getD s i 0)) r)
 byte-next s i r l =
     let e : 512 - i * 8 ≡ 8 + (512 - (i + 1) * 8) = omega arith in
     let f : i * 8 + 8 ≡ (i + 1) * 8 = omega arith in
-    ap (λ (w : List Bit). fed generator w r) (ap (bitsFrom s (i * 8)) e ∙ bits-more s (i * 8) 8 (512 - (i + 1) * 8))
+    ap (λ (w : List Bit). fed generator w r) (ap (bitsFrom s (i * 8)) e ∙ bits-split s (i * 8) 8 (512 - (i + 1) * 8))
     ∙ fed-append generator (bitsFrom s (i * 8) 8) (bitsFrom s (i * 8 + 8) (512 - (i + 1) * 8)) r
     ∙ (λ j. fed generator (bitsFrom s (f j) (512 - (i + 1) * 8)) (fed generator (byte-bits s i (i * 8) 8 (lit≤ tt) refl j) r))
 
@@ -97,7 +79,7 @@ first-fed s =
     ap (λ (w : List Bit). fed generator w 0) (byte-bits s 0 1 7 (lit≤ tt) refl ∙ bitsOf-mod 7 (getD s 0 0) (getD s 0 0 % 128) (sym (mod-eq-of-lt (mod-lt (getD s 0 0) (lit< tt)))))
     ∙ seven-alone (getD s 0 0 % 128) (mod-lt (getD s 0 0) (lit< tt)) in
     ap (fed generator (bitsFrom s 8 504)) (sym seven) ∙ sym (fed-append generator (bitsFrom s 1 7) (bitsFrom s 8 504) 0)
-    ∙ ap remainder (sym (bits-more s 1 7 504))
+    ∙ ap remainder (sym (bits-split s 1 7 504))
 
 -- ---- the register of 9 bits
 pub part-next : (d : Divisor) (x k r : ℕ) → 0 < k → fed d (bitsOf k x) r ≡ fed d (bitsOf (k - 1) x) (up d r ⊕ (x / 2 ^ (k - 1) % 2))
