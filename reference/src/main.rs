@@ -8,7 +8,7 @@ use reference::format::Format;
 mod commands;
 
 const USAGE: &str = "usage:
-  reference words|blocks|render|pictures|write|send|deliver|lists|packs|captures SEED COUNT FOLDER
+  reference words|blocks|render|pictures|write|send|deliver|lists|packs|captures|replays SEED COUNT FOLDER
   reference due
   reference annex-a > COEFFICIENTS
   reference annex-a-figures < OUTPUTS

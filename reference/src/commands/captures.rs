@@ -1,11 +1,12 @@
 //! Recordings of the raw line, made from this maker's own streams and from patterns of wrong bits.
 
 use reference::bits::{bit_of, Bits};
+use reference::check::check;
 use reference::line::{framing, replay, Code, FRAME};
 use reference::random::Random;
 
-use super::made::File;
-use super::packs;
+use super::made::{File, Made};
+use super::{packs, put16, put32};
 
 /// What the replay writes: the data bits in bytes, and its lines on standard error.
 pub struct Replayed {
@@ -147,6 +148,95 @@ pub fn recorded(stream: &[u8]) -> Vec<u8> {
     bits.truncate(bits.len() - 212);
     bits.truncate(bits.len() / 8 * 8);
     packed(&bits).bytes
+}
+
+/// Lent captures of any number of bits, with the answers and both buffers: see README.md, **replays**.
+pub fn make(seed: u64, count: usize) -> Made {
+    let code = Code::new();
+    let mut random = Random::new(seed);
+    let mut made = Made {
+        input: Vec::new(),
+        expected: Vec::new(),
+    };
+    for cut in 0..=2 * FRAME {
+        let bits = some(&code, &mut random, 26);
+        record(&code, &mut made, &bits, 24 * FRAME + cut, 0);
+    }
+    let bits = some(&code, &mut random, 26);
+    for short in 0..3 {
+        for n in [
+            0,
+            11_776,
+            11_777,
+            bits.len(),
+            bits.len() + 1,
+            bits.len() + 7,
+            1 << 31,
+        ] {
+            record(&code, &mut made, &bits, n, short);
+        }
+    }
+    record(&code, &mut made, &[], 0, 0);
+    record(&code, &mut made, &[], 0, 1);
+    record(&code, &mut made, &[], 1, 2);
+    for _ in 0..count {
+        let before = random.below(700);
+        let mut bits = noise(&mut random, before);
+        let frames = 24 + random.below(36);
+        bits.extend(some(&code, &mut random, frames));
+        let wrong = random.below(80);
+        for _ in 0..wrong {
+            let place = random.below(bits.len());
+            if (place - before.min(place)) % FRAME != 0 || random.chance(20) {
+                flip(&mut bits, place);
+            }
+        }
+        let n = bits.len() - random.below(FRAME);
+        record(
+            &code,
+            &mut made,
+            &bits,
+            n,
+            random.pick(&[0, 0, 0, 0, 0, 0, 0, 1, 2]),
+        );
+    }
+    made
+}
+
+/// N, which buffer is short, the slice's length, the slice; and the line that is expected.
+fn record(code: &Code, made: &mut Made, bits: &[bool], n: usize, short: usize) {
+    let slice = packed(bits).bytes;
+    put32(&mut made.input, n);
+    made.input.push(short as u8);
+    put16(&mut made.input, slice.len());
+    made.input.extend(&slice);
+    let mut out = vec![165; 4096];
+    let mut places = vec![7; 65];
+    let answer = if short != 0 && !(short == 1 && slice.is_empty()) {
+        Err(1)
+    } else if n > 8 * slice.len() {
+        Err(2)
+    } else {
+        let row: Vec<bool> = (0..n).map(|place| bit_of(&slice, place)).collect();
+        replay(code, &row)
+    };
+    let line = match answer {
+        Err(number) => format!("refused {number}"),
+        Ok(outcome) => {
+            let data = packed(&outcome.data);
+            out[..data.bytes.len()].copy_from_slice(&data.bytes);
+            places[..outcome.reports.len()].copy_from_slice(&outcome.reports);
+            format!(
+                "replayed {} {} {}",
+                outcome.lock,
+                data.count,
+                outcome.reports.len()
+            )
+        }
+    };
+    let places: Vec<String> = places.iter().map(usize::to_string).collect();
+    let line = format!("{line} {} {}\n", check(&out), places.join(" "));
+    made.expected.extend(line.into_bytes());
 }
 
 fn noise(random: &mut Random, count: usize) -> Vec<bool> {
