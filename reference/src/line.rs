@@ -75,8 +75,8 @@ impl Code {
                 remainder(&word, &generator)
             })
             .collect();
-        for one in 0..WORD {
-            assert!(wrong.insert(single[one].clone(), vec![one]).is_none());
+        for (place, left) in single.iter().enumerate() {
+            assert!(wrong.insert(left.clone(), vec![place]).is_none());
         }
         for one in 0..WORD {
             for other in one + 1..WORD {

@@ -23,9 +23,6 @@ module _ (d : Divisor) where
       ∙ xor-scaled (r / 2 ^ (d .top) % 2) (s / 2 ^ (d .top) % 2) (d .rest) (mod-lt _ (lit< tt)) (mod-lt _ (lit< tt)))
       ∙ xor-swap (r % 2 ^ (d .top) * 2) (s % 2 ^ (d .top) * 2) (r / 2 ^ (d .top) % 2 * d .rest) (s / 2 ^ (d .top) % 2 * d .rest)
 
-  pub up-zero : up d 0 ≡ 0
-  up-zero = up-xor 0 0 ∙ xor-self (up d 0)
-
   -- rest is of degree top at most
   pub up-lt : (r : ℕ) → d .rest < 2 ^ suc (d .top) → up d r < 2 ^ suc (d .top)
   unfolding up

@@ -6,7 +6,7 @@ use Prim.Native.Nat.{ℕ, suc, _+_, _-_, _%_, _≤_, _<_, max, min}
 use native.Mathlib.Nat.{mod-lt, le-of-lt}
 use native.Mathlib.Omega.{arith}
 use borrow.Author.Tests.{ne-eqb}
-use lib.Dec.{T, eqb, lit<, eqb→eq}
+use lib.Dec.{T, eqb, lit<}
 use lib.Bits.{xor-zero-r}
 use lib.ListN.{length, getD}
 use Rattle.laws.specs.Choice.{pick}

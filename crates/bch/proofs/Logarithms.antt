@@ -8,7 +8,7 @@ use native.Mathlib.Nat.{mod-lt, mod-eq-of-lt, le-of-suc-le-suc, not-suc-le-zero}
 use native.Mathlib.Omega.{arith}
 use lib.Dec.{T, eqb, ltb, lit<, eqb→eq, ltb→lt}
 use lib.Bits.{xor-comm}
-use lib.ListN.{getD, replicate}
+use lib.ListN.{getD}
 use Rattle.laws.specs.Choice.{both}
 use Rattle.laws.proofs.Choice.{both-left, both-right}
 use Rattle.laws.specs.Table.{allB}

@@ -9,7 +9,6 @@ use lib.Pow.{pow-pos, split}
 use lib.Bits.{xor-lt, xor-zero-r, xor-shifted}
 use lib.ListN.{getD}
 use Rattle.laws.proofs.Table.{all-at}
-use Rattle.laws.specs.Row.{row}
 use Rattle.laws.proofs.Row.{getD-row}
 use Rattle.laws.specs.Xor.{_⊕_}
 use Rattle.bits.specs.Bits.{Bit, bitsOf, bitsFrom}

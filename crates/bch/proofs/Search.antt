@@ -2,7 +2,7 @@
 use mathlib.Core.Path.{_≡_, refl, sym, ap, subst, _∙_}
 use mathlib.Core.Bool.{Bool, true, false}
 use mathlib.Core.Logic.{_⊎_, inl, inr}
-use mathlib.Core.List.{List, [], _∷_, _++_, map, List·Memᴰ, List·Memᴰ·head, List·Memᴰ·tail, Memᴰ·append-left, Memᴰ·append-right, List·Memᴰ·append-cases, List·Memᴰ·cases-cons, List·Memᴰ·not-nil, List·Memᴰ·eq-of-singleton, Memᴰ·map, Memᴰ·of-map}
+use mathlib.Core.List.{List, [], _∷_, map, List·Memᴰ, List·Memᴰ·head, List·Memᴰ·tail, Memᴰ·append-left, Memᴰ·append-right, List·Memᴰ·append-cases, List·Memᴰ·cases-cons, List·Memᴰ·not-nil, List·Memᴰ·eq-of-singleton, Memᴰ·map, Memᴰ·of-map}
 use Prim.Native.Nat.{ℕ, zero, suc, _≤_}
 use native.Mathlib.Omega.{arith}
 use borrow.Author.Tests.{eqb-true, eqb-false}
@@ -11,7 +11,7 @@ use lib.ListN.{length}
 use Rattle.laws.specs.Choice.{pick}
 use Rattle.bits.specs.Bits.{Bit, O, I}
 use Rattle.bch.specs.Word.{turned, errors, distance, changes}
-use Rattle.bch.specs.Code.{remainder, Near, Outcome, mended, unmended, Mends, wordsWithin, firstDivided, corrected}
+use Rattle.bch.specs.Code.{remainder, Outcome, mended, unmended, Mends, wordsWithin, firstDivided, corrected}
 use Rattle.bch.specs.Theorems.{GivenBack, CorrectedMends}
 use Rattle.bch.proofs.Word.{errors-undone, none-differ}
 use Rattle.bch.proofs.Unique.{settled}

@@ -1,14 +1,13 @@
 -- The document's numbers; and a word as H.261 5.4 sends it, 493 bits and their parity, is a codeword. Assumes nothing.
 use mathlib.Core.Path.{_≡_, refl, sym, ap, ap₂, _∙_}
-use mathlib.Core.List.{List, _++_}
 use Prim.Native.Nat.{ℕ, _+_, _^_, _<_}
 use lib.Dec.{eqb, lit<, eqb→eq}
 use lib.Bits.{xor-self, xor-zero-r}
-use lib.ListN.{length, replicate, length-append}
+use lib.ListN.{replicate, length-append}
 use Rattle.laws.proofs.Table.{all-at}
 use Rattle.laws.specs.Xor.{_⊕_}
 use Rattle.laws.proofs.Xor.{additive-same}
-use Rattle.bits.specs.Bits.{Bit, O, bitsOf}
+use Rattle.bits.specs.Bits.{O, bitsOf}
 use Rattle.bits.proofs.Fields.{length-bitsOf}
 use Rattle.bch.specs.Division.{up, fed}
 use Rattle.bch.proofs.Division.{fed-append, fed-lt}

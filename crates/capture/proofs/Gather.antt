@@ -1,7 +1,7 @@
 -- The bits of a frame, gathered into bytes, and its data bits, put after others. Assumes nothing.
 use mathlib.Core.Path.{_≡_, refl, sym, ap, _∙_}
 use mathlib.Core.List.{List, _++_}
-use Prim.Native.Nat.{ℕ, zero, suc, _+_, _*_, _/_, _%_, _^_, _≤_, _<_}
+use Prim.Native.Nat.{ℕ, zero, suc, _+_, _*_, _/_, _%_, _≤_, _<_}
 use native.Mathlib.Nat.{div-one}
 use native.Mathlib.Decide.{ℕ-discrete}
 use native.Mathlib.Omega.{arith}
@@ -24,7 +24,8 @@ pub none-gathered : (s : List ℕ) (at : ℕ) (f : List ℕ) → length f ≡ 64
 none-gathered s at f e = record { size = e; bytes = λ j l. absurd (omega arith) }
 
 -- one byte more
-pub one-gathered : (s : List ℕ) (at m n b : ℕ) (f : List ℕ) → m < 64 → n ≡ m + 1 → Gathered s at m f → b ≡ value s (at + 8 * m) 8 → Gathered s at n (set f m b)
+pub one-gathered : (s : List ℕ) (at m n b : ℕ) (f : List ℕ) → m < 64 → n ≡ m + 1 → Gathered s at m f
+    → b ≡ value s (at + 8 * m) 8 → Gathered s at n (set f m b)
 one-gathered s at m n b f l k g e = record { size = length-set f m b ∙ g .size; bytes = λ j h. go j h (ℕ-discrete j m) }
   where
     go : (j : ℕ) → j < n → Dec (j ≡ m) → getD (set f m b) j 0 ≡ value s (at + 8 * j) 8
@@ -55,7 +56,8 @@ three-gathered s at i w f l e g =
     let two = one-gathered s at (3 * i + 1) (3 * i + 2) (w / 256 % 256) _ (omega arith) (omega arith) one (second-byte s at i w e) in
     one-gathered s at (3 * i + 2) (3 * (i + 1)) (w % 256) _ (omega arith) (omega arith) two (third-byte s at i w e)
 
-bytes-same : (s : List ℕ) (at : ℕ) (f : List ℕ) → Gathered s at 64 f → (m j : ℕ) → j + m ≤ 64 → bitsFrom f (8 * j) (m * 8) ≡ bitsFrom s (at + 8 * j) (m * 8)
+bytes-same : (s : List ℕ) (at : ℕ) (f : List ℕ) → Gathered s at 64 f → (m j : ℕ) → j + m ≤ 64
+    → bitsFrom f (8 * j) (m * 8) ≡ bitsFrom s (at + 8 * j) (m * 8)
 unfolding bitsFrom
 bytes-same s at f g zero j l = refl
 bytes-same s at f g (suc m) j l =

@@ -1,19 +1,18 @@
 -- Framing bits by place, and the search for lock. Assumes nothing.
-use mathlib.Core.Path.{_≡_, refl, sym, ap, subst, _∙_}
+use mathlib.Core.Path.{_≡_, refl, sym, ap, _∙_}
 use mathlib.Core.Bool.{Bool, true, false}
 use mathlib.Core.Logic.{_⊎_, inl, inr}
-use mathlib.Core.List.{List, [], _∷_}
+use mathlib.Core.List.{List, _∷_}
 use Prim.Native.Nat.{ℕ, zero, suc, _+_, _-_, _*_, _/_, _%_, _^_, _≤_, _<_}
 use native.Mathlib.Nat.{mod-lt}
 use native.Mathlib.Omega.{arith}
 use lib.Dec.{lit<}
-use lib.ListN.{drop}
 use Rattle.laws.specs.Choice.{pick, both}
 use Rattle.laws.proofs.Choice.{second-no}
 use Rattle.laws.proofs.Rows.{lt-or-ge}
-use Rattle.bits.specs.Bits.{Bit, O, I, bitOf, bitsOf, bitNum, bitAt, bitsFrom, bitsLeft, same}
+use Rattle.bits.specs.Bits.{Bit, O, I, bitOf, bitsOf, bitNum, bitAt, bitsLeft, same}
 use Rattle.bits.proofs.Value.{bitNum-lt, left-none, left-more, left-drop}
-use Rattle.capture.specs.Capture.{LockPlace, lockAt, noLock, pattern, framedBy, lockFrom}
+use Rattle.capture.specs.Capture.{lockAt, noLock, pattern, framedBy, lockFrom}
 
 -- ---- framing bits
 -- the framing bit at a, and those 512 bits further on
@@ -90,7 +89,8 @@ pub lock-here : (s : List ℕ) (n a : ℕ) → a < n → true ≡ framedBy patte
 lock-here s n a l e =
     sym (lock-on s n a l ∙ ap (λ (b : Bool). pick b (lockAt a) (lockFrom (bitsLeft s n (a + 1)) (a + 1))) (sym e))
 
-pub lock-later : (s : List ℕ) (n a : ℕ) → a < n → false ≡ framedBy pattern (bitsLeft s n a) → lockFrom (bitsLeft s n (a + 1)) (a + 1) ≡ lockFrom (bitsLeft s n a) a
+pub lock-later : (s : List ℕ) (n a : ℕ) → a < n → false ≡ framedBy pattern (bitsLeft s n a)
+    → lockFrom (bitsLeft s n (a + 1)) (a + 1) ≡ lockFrom (bitsLeft s n a) a
 lock-later s n a l e =
     sym (lock-on s n a l ∙ ap (λ (b : Bool). pick b (lockAt a) (lockFrom (bitsLeft s n (a + 1)) (a + 1))) (sym e))
 
@@ -111,7 +111,8 @@ pub lock-short : (s : List ℕ) (n a : ℕ) → n - a ≤ 11776 → noLock ≡ l
 lock-short s n a l = lock-past (n - a) s n a (omega arith) (omega arith)
 
 -- ---- lock lies inside
-lock-step : (s : List ℕ) (n a p : ℕ) → a < n → (lockFrom (bitsLeft s n (a + 1)) (a + 1) ≡ lockAt p → p ≤ n) → lockFrom (bitsLeft s n a) a ≡ lockAt p → p ≤ n
+lock-step : (s : List ℕ) (n a p : ℕ) → a < n → (lockFrom (bitsLeft s n (a + 1)) (a + 1) ≡ lockAt p → p ≤ n)
+    → lockFrom (bitsLeft s n a) a ≡ lockAt p → p ≤ n
 lock-step s n a p l more e = go (framedBy pattern (bitsLeft s n a)) (sym (lock-on s n a l) ∙ e)
   where
     go : (b : Bool) → pick b (lockAt a) (lockFrom (bitsLeft s n (a + 1)) (a + 1)) ≡ lockAt p → p ≤ n

@@ -1,18 +1,17 @@
 -- Frame after frame: the data bits and the places so far, and those of the frames that are left, are those of all. Assumes nothing.
-use mathlib.Core.Path.{_≡_, refl, sym, ap, ap₂, subst, _∙_}
-use mathlib.Core.Bool.{Bool, true, false}
+use mathlib.Core.Path.{_≡_, refl, sym, ap, subst, _∙_}
+use mathlib.Core.Bool.{Bool}
 use mathlib.Core.List.{List, [], _∷_, _++_, map, append-nil, append-assoc}
 use Prim.Native.Nat.{ℕ, suc, _+_, _-_, _*_, _/_, _≤_, _<_}
 use native.Mathlib.Nat.{add-zero}
 use native.Mathlib.Omega.{arith}
 use borrow.Author.Tests.{eq-eqb, ne-eqb}
-use lib.Dec.{eqb}
 use lib.ListN.{length, set, take, drop, length-append, length-take, length-set}
 use lib.Seq.{take-all, drop-at, drop-cons, set-at}
 use Rattle.laws.specs.Choice.{pick}
 use Rattle.bits.specs.Bits.{Bit, O, I, bitsFrom, bitsLeft}
 use Rattle.bits.specs.Write.{written, bytesOf}
-use Rattle.bits.proofs.Value.{length-bits, bits-split, left-none, left-drop}
+use Rattle.bits.proofs.Value.{length-bits, bits-split, left-drop}
 use Rattle.bits.proofs.Source.{take-from}
 use Rattle.bits.proofs.Write.{length-written, written-more}
 use Rattle.bch.specs.Code.{Outcome, mended, unmended, corrected, Mends}
@@ -27,11 +26,14 @@ use Rattle.capture.specs.declared.Replayed.the-variants.{Done}
 use Rattle.capture.specs.declared.Tally.{Tally}
 
 -- ---- the frames that are left
+abbrev framesAt : List ℕ → ℕ → ℕ → List LineFrame
+framesAt s n a = framesIn (bitsLeft s n a) a
+
 abbrev lineFrame : ℕ → List Bit → LineFrame
 lineFrame place bits = record { place = place; bits = bits }
 
 module _ (s : List ℕ) (n a : ℕ) where
-  frames-next : a + 512 ≤ n → framesIn (bitsLeft s n a) a ≡ lineFrame a (bitsFrom s a 512) ∷ framesIn (bitsLeft s n (a + 512)) (a + 512)
+  frames-next : a + 512 ≤ n → framesAt s n a ≡ lineFrame a (bitsFrom s a 512) ∷ framesAt s n (a + 512)
   unfolding framesFrom
   frames-next l =
       let e : n - a ≡ 512 + (n - (a + 512)) = omega arith in
@@ -41,14 +43,14 @@ module _ (s : List ℕ) (n a : ℕ) where
       ap (λ (k : ℕ). framesFrom k (bitsLeft s n a) a) count
       ∙ (λ i. lineFrame a (first i) ∷ framesFrom ((length (bitsLeft s n (a + 512)) + 511) / 512) (left-drop s n a 512 i) (a + 512))
 
-  frames-cut : a < n → n < a + 512 → framesIn (bitsLeft s n a) a ≡ lineFrame a (bitsLeft s n a) ∷ []
+  frames-cut : a < n → n < a + 512 → framesAt s n a ≡ lineFrame a (bitsLeft s n a) ∷ []
   unfolding framesFrom
   frames-cut l m =
       let count : (length (bitsLeft s n a) + 511) / 512 ≡ 1 = omega (arith, length-bits s a (n - a)) in
       ap (λ (k : ℕ). framesFrom k (bitsLeft s n a) a) count
       ∙ ap (λ (bs : List Bit). lineFrame a bs ∷ []) (take-all 512 (bitsLeft s n a) (omega (arith, length-bits s a (n - a))))
 
-  frames-none : n ≤ a → framesIn (bitsLeft s n a) a ≡ []
+  frames-none : n ≤ a → framesAt s n a ≡ []
   unfolding framesFrom
   frames-none l =
       let count : (length (bitsLeft s n a) + 511) / 512 ≡ 0 = omega (arith, length-bits s a (n - a)) in
@@ -108,8 +110,8 @@ pub record Going (s : List ℕ) (n lock : ℕ) (out₀ places₀ : List ℕ) (at
   pub out-size : length out ≡ length out₀
   pub places-are : places ≡ told ++ drop (length told) places₀
   pub places-size : length places ≡ length places₀
-  pub all-bits : bits ++ dataBits (framesIn (bitsLeft s n at) at) ≡ dataBits (framesIn (bitsLeft s n lock) lock)
-  pub all-told : told ++ reportPlaces (framesIn (bitsLeft s n at) at) ≡ reportPlaces (framesIn (bitsLeft s n lock) lock)
+  pub all-bits : bits ++ dataBits (framesAt s n at) ≡ dataBits (framesAt s n lock)
+  pub all-told : told ++ reportPlaces (framesAt s n at) ≡ reportPlaces (framesAt s n lock)
 
 pub going-first : (s : List ℕ) (n lock : ℕ) (out places : List ℕ) → lock ≤ n → Going s n lock out places lock (record { bits = 0; places = 0 }) out places
 unfolding written bytesOf
@@ -148,7 +150,8 @@ corrected-size f c size e = subst (Mends f) e (corrected-mends f size) .codeword
 pub unmended-apart : Unmended ≡ Data → ⊥
 unmended-apart e = let z : _≡_ {A = ℕ} 0 1 = cc in omega arith
 
-pub bits-few : {s : List ℕ} {n lock : ℕ} {out₀ places₀ : List ℕ} {at : ℕ} {tally : Tally} {out places : List ℕ} → Going s n lock out₀ places₀ at tally out places → tally .bits ≤ at
+pub bits-few : {s : List ℕ} {n lock : ℕ} {out₀ places₀ : List ℕ} {at : ℕ} {tally : Tally} {out places : List ℕ}
+    → Going s n lock out₀ places₀ at tally out places → tally .bits ≤ at
 bits-few g = omega (arith, ap (λ (t : Tally). t .bits) (g .tally-is), g .few-bits)
 
 module _ {s : List ℕ} {n lock : ℕ} {out₀ places₀ : List ℕ} {at : ℕ} {tally : Tally} {out places : List ℕ} (h : Lockable s n lock out₀ places₀)
@@ -170,17 +173,19 @@ module _ {s : List ℕ} {n lock : ℕ} {out₀ places₀ : List ℕ} {at : ℕ} 
     out-size : length out′ ≡ length out
     places-are : places′ ≡ (g .told ++ ts) ++ drop (length (g .told ++ ts)) places₀
     places-size : length places′ ≡ length places
-    bits-are : dataBits (framesIn (bitsLeft s n at) at) ≡ w ++ dataBits (framesIn (bitsLeft s n next) next)
-    told-are : reportPlaces (framesIn (bitsLeft s n at) at) ≡ ts ++ reportPlaces (framesIn (bitsLeft s n next) next)
+    bits-are : dataBits (framesAt s n at) ≡ w ++ dataBits (framesAt s n next)
+    told-are : reportPlaces (framesAt s n at) ≡ ts ++ reportPlaces (framesAt s n next)
 
   tally-more : (w : List Bit) (ts : List ℕ)
-      → _≡_ {A = Tally} (record { bits = tally .bits + length w; places = tally .places + length ts }) (record { bits = length (g .bits ++ w); places = length (g .told ++ ts) })
+      → _≡_ {A = Tally} (record { bits = tally .bits + length w; places = tally .places + length ts })
+      (record { bits = length (g .bits ++ w); places = length (g .told ++ ts) })
   tally-more w ts =
       let b : tally .bits + length w ≡ length (g .bits ++ w) = ap (λ (t : Tally). t .bits + length w) (g .tally-is) ∙ sym (length-append (g .bits) w) in
       let p : tally .places + length ts ≡ length (g .told ++ ts) = ap (λ (t : Tally). t .places + length ts) (g .tally-is) ∙ sym (length-append (g .told) ts) in
       λ i. record { bits = b i; places = p i }
 
-  going-on : (w : List Bit) (ts : List ℕ) (next : ℕ) (tally′ : Tally) (out′ places′ : List ℕ) → More w ts next tally′ out′ places′ → Going s n lock out₀ places₀ next tally′ out′ places′
+  going-on : (w : List Bit) (ts : List ℕ) (next : ℕ) (tally′ : Tally) (out′ places′ : List ℕ) → More w ts next tally′ out′ places′
+      → Going s n lock out₀ places₀ next tally′ out′ places′
   going-on w ts next tally′ out′ places′ m =
       record {
         bits = g .bits ++ w;
@@ -194,8 +199,8 @@ module _ {s : List ℕ} {n lock : ℕ} {out₀ places₀ : List ℕ} {at : ℕ} 
         out-size = m .out-size ∙ g .out-size;
         places-are = m .places-are;
         places-size = m .places-size ∙ g .places-size;
-        all-bits = append-assoc (g .bits) w (dataBits (framesIn (bitsLeft s n next) next)) ∙ ap (λ (v : List Bit). g .bits ++ v) (sym (m .bits-are)) ∙ g .all-bits;
-        all-told = append-assoc (g .told) ts (reportPlaces (framesIn (bitsLeft s n next) next)) ∙ ap (λ (v : List ℕ). g .told ++ v) (sym (m .told-are)) ∙ g .all-told;
+        all-bits = append-assoc (g .bits) w (dataBits (framesAt s n next)) ∙ ap (λ (v : List Bit). g .bits ++ v) (sym (m .bits-are)) ∙ g .all-bits;
+        all-told = append-assoc (g .told) ts (reportPlaces (framesAt s n next)) ∙ ap (λ (v : List ℕ). g .told ++ v) (sym (m .told-are)) ∙ g .all-told;
       }
 
   no-bits : out ≡ written out₀ 0 (g .bits ++ [])
@@ -217,38 +222,36 @@ module _ {s : List ℕ} {n lock : ℕ} {out₀ places₀ : List ℕ} {at : ℕ} 
       ∙ set-told (g .told) places₀ at (omega (arith, told-room l, ap (λ (t : Tally). t .places) (g .tally-is), g .places-size))
 
   module _ (l : at + 512 ≤ n) where
-    data-of : (o : Outcome) → outcomeAt s at ≡ o → dataBits (framesIn (bitsLeft s n at) at) ≡ dataIn o ++ dataBits (framesIn (bitsLeft s n (at + 512)) (at + 512))
-    data-of o e = ap dataBits (frames-next s n at l) ∙ data-cons (lineFrame at (bitsFrom s at 512)) (framesIn (bitsLeft s n (at + 512)) (at + 512)) o (whole-outcome s n at ∙ e)
+    data-of : (o : Outcome) → outcomeAt s at ≡ o → dataBits (framesAt s n at) ≡ dataIn o ++ dataBits (framesAt s n (at + 512))
+    data-of o e = ap dataBits (frames-next s n at l) ∙ data-cons (lineFrame at (bitsFrom s at 512)) (framesAt s n (at + 512)) o (whole-outcome s n at ∙ e)
 
-    told-of : (o : Outcome) → outcomeAt s at ≡ o → reportPlaces (framesIn (bitsLeft s n at) at) ≡ reported at o ++ reportPlaces (framesIn (bitsLeft s n (at + 512)) (at + 512))
-    told-of o e = ap reportPlaces (frames-next s n at l) ∙ places-cons (lineFrame at (bitsFrom s at 512)) (framesIn (bitsLeft s n (at + 512)) (at + 512)) o (whole-outcome s n at ∙ e)
+    told-of : (o : Outcome) → outcomeAt s at ≡ o → reportPlaces (framesAt s n at) ≡ reported at o ++ reportPlaces (framesAt s n (at + 512))
+    told-of o e =
+        ap reportPlaces (frames-next s n at l) ∙ places-cons (lineFrame at (bitsFrom s at 512)) (framesAt s n (at + 512)) o (whole-outcome s n at ∙ e)
 
-    fill-more : dataBits (framesIn (bitsLeft s n at) at) ≡ dataBits (framesIn (bitsLeft s n (at + 512)) (at + 512))
-        → reportPlaces (framesIn (bitsLeft s n at) at) ≡ reportPlaces (framesIn (bitsLeft s n (at + 512)) (at + 512))
-        → More [] [] (at + 512) tally out places
-    fill-more b t =
-        record {
+    going-fill : (out′ places′ : List ℕ) → out′ ≡ out → places′ ≡ places → dataBits (framesAt s n at) ≡ dataBits (framesAt s n (at + 512))
+        → reportPlaces (framesAt s n at) ≡ reportPlaces (framesAt s n (at + 512)) → Going s n lock out₀ places₀ (at + 512) tally out′ places′
+    going-fill out′ places′ p q b t =
+        going-on [] [] (at + 512) tally out′ places′
+        (record {
           inside = l;
           after = omega arith;
           few-bits = omega arith;
           few-told = omega arith;
           tally-is = same-tally;
-          out-is = no-bits;
-          out-size = refl;
-          places-are = no-places;
-          places-size = refl;
+          out-is = p ∙ no-bits;
+          out-size = ap length p;
+          places-are = q ∙ no-places;
+          places-size = ap length q;
           bits-are = b;
           told-are = t;
-        }
+        })
 
-    going-by : (o : Outcome) → outcomeAt s at ≡ o → (out′ places′ : List ℕ) → out′ ≡ outAfter out (tally .bits) o → places′ ≡ placesAfter (cameOf o) at tally places
+    going-by : (o : Outcome) → outcomeAt s at ≡ o → (out′ places′ : List ℕ) → out′ ≡ outAfter out (tally .bits) o
+        → places′ ≡ placesAfter (cameOf o) at tally places
         → Going s n lock out₀ places₀ (at + 512) (tallyAfter (cameOf o) tally) out′ places′
-    going-by (mended []) e out′ places′ p q =
-        subst (λ (o : List ℕ). Going s n lock out₀ places₀ (at + 512) tally o places′) (sym p)
-        (subst (λ (ps : List ℕ). Going s n lock out₀ places₀ (at + 512) tally out ps) (sym q) (going-on [] [] (at + 512) tally out places (fill-more (data-of (mended []) e) (told-of (mended []) e))))
-    going-by (mended (O ∷ w)) e out′ places′ p q =
-        subst (λ (o : List ℕ). Going s n lock out₀ places₀ (at + 512) tally o places′) (sym p)
-        (subst (λ (ps : List ℕ). Going s n lock out₀ places₀ (at + 512) tally out ps) (sym q) (going-on [] [] (at + 512) tally out places (fill-more (data-of (mended (O ∷ w)) e) (told-of (mended (O ∷ w)) e))))
+    going-by (mended []) e out′ places′ p q = going-fill out′ places′ p q (data-of (mended []) e) (told-of (mended []) e)
+    going-by (mended (O ∷ w)) e out′ places′ p q = going-fill out′ places′ p q (data-of (mended (O ∷ w)) e) (told-of (mended (O ∷ w)) e)
     going-by (mended (I ∷ w)) e out′ places′ p q =
         going-on (take 492 w) [] (at + 512) (tallyAfter (cameOf (mended (I ∷ w))) tally) out′ places′
         (record {
@@ -257,7 +260,9 @@ module _ {s : List ℕ} {n lock : ℕ} {out₀ places₀ : List ℕ} {at : ℕ} 
           few-bits = omega (arith, size);
           few-told = omega arith;
           tally-is = λ i. record { bits = tally .bits + sym size i; places = sym (add-zero (tally .places)) i };
-          out-is = p ∙ (λ i. written (g .out-is i) (bits-so-far i) (take 492 w)) ∙ written-more out₀ 0 (g .bits) (omega (arith, g .few-bits, g .inside, h .room, h .lent)) (take 492 w);
+          out-is =
+              p ∙ (λ i. written (g .out-is i) (bits-so-far i) (take 492 w))
+              ∙ written-more out₀ 0 (g .bits) (omega (arith, g .few-bits, g .inside, h .room, h .lent)) (take 492 w);
           out-size = ap length p ∙ length-written out (tally .bits) (take 492 w) (omega (arith, size, bits-room l));
           places-are = q ∙ no-places;
           places-size = ap length q;
@@ -284,15 +289,17 @@ module _ {s : List ℕ} {n lock : ℕ} {out₀ places₀ : List ℕ} {at : ℕ} 
         })
 
   -- ---- a turn of the loop
-  pub going-next : at + 512 ≤ n → (came : Came) (tally′ : Tally) (out′ places′ : List ℕ) → came ≡ cameOf (outcomeAt s at) → out′ ≡ outAfter out (tally .bits) (outcomeAt s at)
+  pub going-next : at + 512 ≤ n → (came : Came) (tally′ : Tally) (out′ places′ : List ℕ) → came ≡ cameOf (outcomeAt s at)
+      → out′ ≡ outAfter out (tally .bits) (outcomeAt s at)
       → tally′ ≡ tallyAfter came tally → places′ ≡ placesAfter came at tally places → Going s n lock out₀ places₀ (at + 512) tally′ out′ places′
   going-next l came tally′ out′ places′ c o t p =
       subst (λ (t : Tally). Going s n lock out₀ places₀ (at + 512) t out′ places′) (sym (t ∙ ap (λ (k : Came). tallyAfter k tally) c))
       (going-by l (outcomeAt s at) refl out′ places′ o (p ∙ ap (λ (k : Came). placesAfter k at tally places) c))
 
   -- ---- the ends
-  ended : (bits : List Bit) (told : List ℕ) (tally′ : Tally) (out′ places′ : List ℕ) → tally′ ≡ record { bits = length bits; places = length told } → out′ ≡ written out₀ 0 bits
-      → places′ ≡ told ++ drop (length told) places₀ → bits ≡ dataBits (framesIn (bitsLeft s n lock) lock) → told ≡ reportPlaces (framesIn (bitsLeft s n lock) lock)
+  ended : (bits : List Bit) (told : List ℕ) (tally′ : Tally) (out′ places′ : List ℕ) → tally′ ≡ record { bits = length bits; places = length told }
+      → out′ ≡ written out₀ 0 bits
+      → places′ ≡ told ++ drop (length told) places₀ → bits ≡ dataBits (framesAt s n lock) → told ≡ reportPlaces (framesAt s n lock)
       → LockedDoes s n lock out₀ places₀ (Done lock (tally′ .bits) (tally′ .places)) out′ places′
   ended bits told tally′ out′ places′ t o p b r =
       (λ i. record { answer = accepted (record { lock = lock; bits = t i .bits; places = t i .places }); out = o i; places = p i })
@@ -309,7 +316,8 @@ module _ {s : List ℕ} {n lock : ℕ} {out₀ places₀ : List ℕ} {at : ℕ} 
       (sym (append-nil (g .bits)) ∙ ap (λ (v : List Bit). g .bits ++ v) (sym (none-bits (frames-none s n at l))) ∙ g .all-bits)
       (sym (append-nil (g .told)) ∙ ap (λ (v : List ℕ). g .told ++ v) (sym (none-told (frames-none s n at l))) ∙ g .all-told)
 
-  pub going-cut : at < n → n < at + 512 → (tally′ : Tally) (places′ : List ℕ) → tally′ ≡ tallyAfter Unmended tally → places′ ≡ placesAfter Unmended at tally places
+  pub going-cut : at < n → n < at + 512 → (tally′ : Tally) (places′ : List ℕ) → tally′ ≡ tallyAfter Unmended tally
+      → places′ ≡ placesAfter Unmended at tally places
       → LockedDoes s n lock out₀ places₀ (Done lock (tally′ .bits) (tally′ .places)) out places′
   going-cut l m tally′ places′ t p =
       ended (g .bits) (g .told ++ (at ∷ [])) tally′ out places′
@@ -318,10 +326,10 @@ module _ {s : List ℕ} {n lock : ℕ} {out₀ places₀ : List ℕ} {at : ℕ} 
       (sym (append-nil (g .bits)) ∙ ap (λ (v : List Bit). g .bits ++ v) (sym cut-bits) ∙ g .all-bits)
       (ap (λ (v : List ℕ). g .told ++ v) (sym cut-told) ∙ g .all-told)
     where
-      cut-bits : dataBits (framesIn (bitsLeft s n at) at) ≡ []
+      cut-bits : dataBits (framesAt s n at) ≡ []
       cut-bits = ap dataBits (frames-cut s n at l m) ∙ data-cons (lineFrame at (bitsLeft s n at)) [] unmended (cut-outcome s n at m) ∙ none-bits refl
 
-      cut-told : reportPlaces (framesIn (bitsLeft s n at) at) ≡ at ∷ []
+      cut-told : reportPlaces (framesAt s n at) ≡ at ∷ []
       cut-told =
           ap reportPlaces (frames-cut s n at l m) ∙ places-cons (lineFrame at (bitsLeft s n at)) [] unmended (cut-outcome s n at m)
           ∙ ap (λ (v : List ℕ). at ∷ v) (none-told refl)

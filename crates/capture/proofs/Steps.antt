@@ -1,18 +1,17 @@
 -- The ends of a step: what a frame's mended word gives. Assumes nothing.
 use mathlib.Core.Path.{_≡_, refl, sym, ap, _∙_}
 use mathlib.Core.Bool.{true, false}
-use mathlib.Core.List.{List, [], _∷_, _++_}
+use mathlib.Core.List.{List, _∷_}
 use Prim.Native.Nat.{ℕ, zero, suc, _+_}
-use native.Mathlib.Omega.{arith}
 use borrow.Author.Tests.{eqb-true, eqb-false}
 use lib.Dec.{eqb}
 use lib.ListN.{drop}
 use lib.Seq.{drop-at}
 use Rattle.bits.specs.Bits.{Bit, O, I, bitOf, bitNum, bitAt, bitsFrom}
 use Rattle.bits.specs.Write.{written}
-use Rattle.bits.proofs.Value.{bitNum-lt, length-bits, bits-split}
+use Rattle.bits.proofs.Value.{length-bits, bits-split}
 use Rattle.bits.proofs.Source.{take-from}
-use Rattle.bch.specs.Code.{Outcome, mended, unmended, corrected}
+use Rattle.bch.specs.Code.{mended, unmended, corrected}
 use Rattle.bch.specs.Frame.{word, Mend}
 use Rattle.bch.specs.declared.Mending.the-variants.{Mended, Unmended as NotMended}
 use Rattle.capture.specs.Step.{outcomeAt, cameOf, outAfter}

@@ -3,7 +3,7 @@ use mathlib.Core.Path.{_≡_}
 use mathlib.Core.List.{List, [], _∷_}
 use Prim.Native.Nat.{ℕ, _+_, _*_, _≤_, _<_}
 use lib.ListN.{length, set, take}
-use Rattle.bits.specs.Bits.{Bit, O, I, bitsFrom}
+use Rattle.bits.specs.Bits.{O, I, bitsFrom}
 use Rattle.bits.specs.Write.{written}
 use Rattle.bch.specs.Code.{Outcome, mended, unmended, corrected}
 use Rattle.bch.specs.Frame.{byteSteps}

@@ -1,13 +1,11 @@
 // A recording of the raw line, with the error correction frames of H.261 5.4: where they lock, and what each gives.
 ghost use mathlib.Core.Path.{_≡_};
-ghost use mathlib.Core.Bool.{Bool};
 ghost use Prim.Native.Nat.{_+_, _*_, _/_, _≤_, _<_};
 ghost use lib.Dec.{eqb};
 ghost use lib.ListN.{length};
 ghost use Rattle.refusals.specs.Number.{refusal};
 ghost use Rattle.bits.specs.Bits.{bitNum, bitsFrom, bitsLeft};
 ghost use Rattle.bits.specs.Write.{written, started as startedBytes};
-ghost use Rattle.bch.specs.Frame.{byteSteps};
 ghost use Rattle.capture.specs.Capture.{pattern, framedBy, lockFrom};
 ghost use Rattle.capture.specs.Step.{asLock, Steppable, outcomeAt, cameOf, outAfter, tallyAfter, placesAfter};
 ghost use Rattle.capture.specs.Replay.{Lockable, LockedDoes, ReplayDoes};

@@ -187,7 +187,7 @@ pub fn make(seed: u64, count: usize) -> Made {
         let wrong = random.below(80);
         for _ in 0..wrong {
             let place = random.below(bits.len());
-            if (place - before.min(place)) % FRAME != 0 || random.chance(20) {
+            if !(place - before.min(place)).is_multiple_of(FRAME) || random.chance(20) {
                 flip(&mut bits, place);
             }
         }
@@ -352,7 +352,7 @@ fn rough(code: &Code, random: &mut Random) -> Vec<bool> {
     let mut row: Vec<bool> = (0..stream.count)
         .map(|place| bit_of(&stream.bytes, place))
         .collect();
-    while row.len() % 492 != 0 {
+    while !row.len().is_multiple_of(492) {
         row.push(false);
     }
     let mut contents = Vec::new();

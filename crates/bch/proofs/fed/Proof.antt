@@ -1,5 +1,5 @@
 -- `bch::fed` meets its contract: the eight high bits are looked up, the ten low ones move up, and the byte follows.
-use mathlib.Core.Path.{_≡_, sym, subst}
+use mathlib.Core.Path.{sym, subst}
 use Prim.Native.Nat.{ℕ, _<_}
 use borrow.Author.Needs.{needs}
 use Rattle.bch.proofs.Register.{byte-fed, byte-fed-lt}

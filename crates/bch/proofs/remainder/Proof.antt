@@ -1,5 +1,5 @@
 -- `bch::remainder` meets its contract. The loop's invariant: the bytes from i on, fed to the register, give the remainder. The measure is their number.
-use mathlib.Core.Path.{_≡_, refl, sym, ap, _∙_}
+use mathlib.Core.Path.{_≡_, sym, ap, _∙_}
 use Prim.Native.Nat.{ℕ, _+_, _-_, _*_, _%_, _≤_, _<_}
 use native.Mathlib.Omega.{arith}
 use borrow.Author.Needs.{needs}

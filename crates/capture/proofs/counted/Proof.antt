@@ -13,14 +13,17 @@ add-t8 c = omega (arith, c .before .before .pre .1 (c .enum-told .given .1))
 returns : tie.Need-returns
 returns c =
     let a = c .before .before .args in
-    (sym (ap (λ (k : Came). tallyAfter k (a .tally)) (c .enum-told .given .1)), sym (ap (λ (k : Came). placesAfter k (a .at) (a .tally) (a .places .now)) (c .enum-told .given .1)))
+    let e = c .enum-told .given .1 in
+    (sym (ap (λ (k : Came). tallyAfter k (a .tally)) e), sym (ap (λ (k : Came). placesAfter k (a .at) (a .tally) (a .places .now)) e))
 
 returns-3 : tie.Need-returns-3
 returns-3 c =
     let a = c .before .before .args in
-    (sym (ap (λ (k : Came). tallyAfter k (a .tally)) (c .enum-told3 .given .1)), sym (ap (λ (k : Came). placesAfter k (a .at) (a .tally) (a .places .now)) (c .enum-told3 .given .1)))
+    let e = c .enum-told3 .given .1 in
+    (sym (ap (λ (k : Came). tallyAfter k (a .tally)) e), sym (ap (λ (k : Came). placesAfter k (a .at) (a .tally) (a .places .now)) e))
 
 pub counted-spec : {M : Type 1} → statement M
 counted-spec =
     tie.close
-    (tie.spec (λ c. search needs) add-t8 (λ c. search needs) (λ c. search needs) (λ c. search needs) (λ c. search needs) (λ c. search needs) returns (λ c. search needs) (λ c. search needs) returns-3)
+    (tie.spec (λ c. search needs) add-t8 (λ c. search needs) (λ c. search needs) (λ c. search needs) (λ c. search needs) (λ c. search needs)
+    returns (λ c. search needs) (λ c. search needs) returns-3)

@@ -1,6 +1,5 @@
 -- `capture::is_fill` meets its contract: bit 1 of the frame is bit 6 of its first byte.
 use mathlib.Core.Path.{ap}
-use mathlib.Core.Bool.{Bool}
 use Prim.Native.Nat.{ℕ, _/_, _%_}
 use borrow.Author.Needs.{needs}
 use lib.Dec.{eqb}

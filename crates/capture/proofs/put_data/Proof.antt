@@ -67,4 +67,6 @@ returns c =
 pub put-data-spec : {M : Type 1} → statement M
 put-data-spec =
     tie.close
-    (tie.spec Inv-loop μ-loop (λ c κs. search needs) put-requires loop-holds (λ c. search needs) (λ c. search needs) (λ c. search needs) (λ c. search needs) (λ c. search needs) (λ c κs. search needs) put-requires-2 (λ c. search needs) (λ c. search needs) loop-again (λ c. search needs) returns)
+    (tie.spec Inv-loop μ-loop (λ c κs. search needs) put-requires loop-holds (λ c. search needs) (λ c. search needs) (λ c. search needs)
+    (λ c. search needs) (λ c. search needs) (λ c κs. search needs) put-requires-2 (λ c. search needs) (λ c. search needs) loop-again
+    (λ c. search needs) returns)

@@ -15,4 +15,6 @@ slice-aggregate-replay-2 c = sym (length-take-le _ _ (omega arith))
 pub answered-spec : {M : Type 1} → statement M
 answered-spec =
     tie.close
-    (tie.spec (λ c. search needs) slice-aggregate-replay (λ c. search needs) slice-aggregate-replay-2 (λ c κs. search needs) (λ c κs. search needs) (λ c κs. search needs) (λ c κs. search needs) (λ c. search needs) (λ c κs. search needs) (λ c. search needs) (λ c. search needs) (λ c. search needs))
+    (tie.spec (λ c. search needs) slice-aggregate-replay (λ c. search needs) slice-aggregate-replay-2 (λ c κs. search needs)
+    (λ c κs. search needs) (λ c κs. search needs) (λ c κs. search needs) (λ c. search needs) (λ c κs. search needs) (λ c. search needs)
+    (λ c. search needs) (λ c. search needs))
