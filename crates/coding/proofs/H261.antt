@@ -2,13 +2,11 @@
 use mathlib.Core.Path.{_≡_, refl, sym, ap, subst, _∙_}
 use mathlib.Core.List.{List}
 use Prim.Native.Nat.{ℕ, _≤_, zero-le, suc-le-suc}
-use native.Mathlib.Omega.{arith}
 use lib.Dec.{T}
 use lib.ListN.{length}
 use Rattle.laws.proofs.Choice.{T-true, true-T}
-use Rattle.refusals.specs.declared.Reason.the-variants.{Length}
-use Rattle.refusals.specs.declared.Refusal.{Refusal}
-use Rattle.refusals.specs.Number.{refusal}
+use Rattle.refusals.specs.Told.{accepted}
+use Rattle.refusals.proofs.Told.{accepted-once, told-apart}
 use Rattle.bits.specs.Read.{Read, got, endless, refused as unread}
 use Rattle.size.specs.Size.{limit}
 use Rattle.h261_groups.specs.declared.Format.{Format}
@@ -17,7 +15,7 @@ use Rattle.h261_description.specs.Value.{Picture, laid, pictureIn}
 use Rattle.layout.specs.Flat.{Flat}
 use Rattle.h261_description.specs.Valid.{valid}
 use Rattle.h261_description.specs.Fields.{refresh}
-use Rattle.fields.specs.Answer.{mapRead}
+use Rattle.fields.specs.Answer.{mapRead, found}
 use Rattle.h261_layers.specs.Grammar.{reading}
 use Rattle.h261_reader.specs.Described.{described}
 use Rattle.h261_reader.proofs.Verdicts.{accepted-valid}
@@ -28,7 +26,6 @@ use Rattle.h261_readback.specs.ReadBack.{ReadBack}
 use Rattle.h261_readback.proofs.ReadBack.{reads-back}
 use Rattle.h261_render.proofs.Rendered.{rendered-length}
 use Rattle.h261_render.proofs.Reference.{refresh-same}
-use Rattle.coding.specs.Coding.{found, accepted, refused}
 use Rattle.coding.specs.H261.{H261Lawful}
 use Rattle.coding.specs.Kind.{formatOf, codingOf, CodingLawful}
 
@@ -45,19 +42,13 @@ module _ (f : Format) where
   unfolding described
   found-valid bytes n d e = go (reading f bytes n) refl
     where
-      never : (why : Refusal) → refused why ≡ accepted d → ⊥
-      never why q = let z : _≡_ {A = ℕ} 0 1 = cc in omega arith
-
-      inside : (x : Flat) → accepted x ≡ accepted d → x ≡ d
-      inside x q = cc
-
       read-as : (x : Read Picture) → reading f bytes n ≡ x → found (mapRead (laid f) x) ≡ accepted d
       read-as x h = sym (ap (λ (y : Read Picture). found (mapRead (laid f) y)) h) ∙ e
 
       go : (x : Read Picture) → reading f bytes n ≡ x → T (valid f d)
-      go (got p left at) h = subst (λ (x : Flat). T (valid f x)) (inside (laid f p) (read-as (got p left at) h)) (accepted-valid f bytes n p left at h)
-      go (unread why) h = absurd (never why (read-as (unread why) h))
-      go endless h = absurd (never (refusal Length 0) (read-as endless h))
+      go (got p left at) h = subst (λ (x : Flat). T (valid f x)) (accepted-once (read-as (got p left at) h)) (accepted-valid f bytes n p left at h)
+      go (unread why) h = absurd (told-apart (sym (read-as (unread why) h)))
+      go endless h = absurd (told-apart (sym (read-as endless h)))
 
   -- the PSC alone
   some-bits : (d : Flat) → 1 ≤ length (written f d)

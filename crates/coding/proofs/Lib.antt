@@ -1,4 +1,3 @@
 pub mod H261
-pub mod Told
 pub mod Scratch
 mod ByKind

@@ -6,15 +6,12 @@ use Prim.Native.Nat.{ℕ}
 use lib.Dec.{ltb}
 use lib.ListN.{length, drop}
 use Rattle.laws.specs.Choice.{pick}
-use Rattle.refusals.specs.declared.Verdict.{Verdict}
-use Rattle.refusals.specs.declared.Verdict.the-variants.{Accepted, Refused}
 use Rattle.bits.specs.Bits.{Bit}
 use Rattle.bits.specs.Write.{started, bytesOf}
 use Rattle.size.specs.declared.Size.{Size}
 use Rattle.size.specs.Size.{limit, storeLength, outputLength}
 use Rattle.h261_reader.specs.Described.{Blank}
 use Rattle.coding.specs.declared.Kind.{Kind}
-use Rattle.coding.specs.Coding.{Found, accepted, refused}
 use Rattle.layout.specs.Flat.{Flat}
 use Rattle.coding.specs.Kind.{formatOf, kindSize, codingOf}
 
@@ -22,15 +19,6 @@ use Rattle.coding.specs.Kind.{formatOf, kindSize, codingOf}
 -- that are zeros in the kind's lengths
 abbrev pub BlankFor : Kind → List ℕ → List ℕ → List ℕ → Type 0
 BlankFor k head macroblocks levels = Blank (formatOf k) head macroblocks levels
-
-abbrev pub verdictOn : {A : Type 0} → Found A → Verdict
-verdictOn (accepted a) = Accepted
-verdictOn (refused why) = Refused why
-
--- what is found, or what was there before: "A refusal changes no buffer"
-abbrev pub foundOr : {A : Type 0} → A → Found A → A
-foundOr before (accepted a) = a
-foundOr before (refused why) = before
 
 -- ---- writing
 -- "fills the output's last started byte with zeros"

@@ -9,7 +9,8 @@ use Rattle.h261_description.specs.Fields.{refresh}
 use Rattle.h261_reader.specs.Described.{described}
 use Rattle.h261_writer.specs.Output.{written}
 use Rattle.h261_render.specs.Sample.{rendered}
-use Rattle.coding.specs.Coding.{Coding, found}
+use Rattle.fields.specs.Answer.{found}
+use Rattle.coding.specs.Coding.{Coding}
 use Rattle.coding.specs.Lawful.{Lawful}
 
 -- the three slices have the lengths of one format; another than opened is no valid description

@@ -7,7 +7,8 @@ use lib.ListN.{length}
 use Rattle.size.specs.declared.Size.{Size}
 use Rattle.size.specs.Size.{limit, storeLength}
 use Rattle.bits.specs.Write.{Holds}
-use Rattle.coding.specs.Coding.{Coding, accepted}
+use Rattle.refusals.specs.Told.{accepted}
+use Rattle.coding.specs.Coding.{Coding}
 
 pub record Lawful {D : Type 0} (size : Size) (c : Coding D) : Type 0 where
   -- a valid description whose bits are not above the limit is read back from any bytes that hold them first

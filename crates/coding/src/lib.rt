@@ -5,9 +5,10 @@ use size::Size;
 ghost use mathlib.Core.Path.{_≡_};
 ghost use mathlib.Core.Bool.{true};
 ghost use lib.ListN.{length};
+ghost use Rattle.refusals.specs.Told.{toldVerdict, verdictOn, foundOr};
 ghost use Rattle.layout.specs.Flat.{flat};
 ghost use Rattle.coding.specs.Kind.{formatOf, kindOf, kindSize, headLengthOf, macroblocksLengthOf, levelsLengthOf, codingOf};
-ghost use Rattle.coding.specs.Described.{BlankFor, verdictOn, foundOr, outputWith, Writable, Drawable};
+ghost use Rattle.coding.specs.Described.{BlankFor, outputWith, Writable, Drawable};
 
 // A standard, with the size of its pictures.
 pub enum Kind {
@@ -73,7 +74,7 @@ pub fn parse(
     levels: &mut [u8],
 ) -> Verdict
     requires { ⌜ BlankFor kind (now head) (now macroblocks) (now levels) ⌝ }
-    ensures verdict { λ r. ⌜ r ≡ verdictOn (codingOf kind .read (now (bytes .entry)) count) ⌝ }
+    ensures verdict { λ r. ⌜ toldVerdict r ≡ verdictOn (codingOf kind .read (now (bytes .entry)) count) ⌝ }
     ensures buffers { λ _. ⌜ flat (now (head .exit)) (now (macroblocks .exit)) (now (levels .exit)) ≡ foundOr (flat (now (head .entry)) (now (macroblocks .entry)) (now (levels .entry))) (codingOf kind .read (now (bytes .entry)) count) ⌝ }
 {
     let format = format_of(kind);

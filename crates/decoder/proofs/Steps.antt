@@ -4,34 +4,28 @@ use mathlib.Core.List.{List}
 use Prim.Native.Nat.{ℕ}
 use borrow.Author.Tests.{eq-eqb, ne-eqb}
 use lib.ListN.{length}
-use Rattle.refusals.specs.declared.Reason.the-variants.{Length}
-use Rattle.refusals.specs.declared.Refusal.{Refusal}
-use Rattle.refusals.specs.declared.Verdict.the-variants.{Accepted, Refused}
-use Rattle.refusals.specs.Number.{refusal}
+use Rattle.refusals.specs.Told.{Told, accepted, refused, verdictOn, foundOr}
 use Rattle.size.specs.Size.{storeLength}
 use Rattle.coding.specs.declared.Kind.{Kind}
-use Rattle.coding.specs.Coding.{Found, accepted, refused}
 use Rattle.layout.specs.Flat.{Flat}
 use Rattle.coding.specs.Kind.{kindSize, codingOf}
-use Rattle.coding.specs.Described.{verdictOn, foundOr}
 use Rattle.decoder.specs.Decoded.{drawnBy, drawn, decoded}
-use Rattle.bits.specs.Read.{refused}
 
 module _ (k : Kind) (s : List ℕ) (n : ℕ) (reference : List ℕ) where
   -- ---- what is drawn, by what is found
-  drawn-as : {x : Found Flat} → codingOf k .read s n ≡ x → drawn k s n reference ≡ drawnBy (codingOf k) reference x
+  drawn-as : {x : Told Flat} → codingOf k .read s n ≡ x → drawn k s n reference ≡ drawnBy (codingOf k) reference x
   unfolding drawn
   drawn-as e = ap (drawnBy (codingOf k) reference) e
 
   module _ {d : Flat} (e : codingOf k .read s n ≡ accepted d) where
-    pub drawn-verdict : Accepted ≡ verdictOn (drawn k s n reference)
+    pub drawn-verdict : accepted tt ≡ verdictOn (drawn k s n reference)
     drawn-verdict = sym (ap verdictOn (drawn-as e))
 
     pub drawn-store : (old new : List ℕ) → new ≡ codingOf k .render d reference → new ≡ foundOr old (drawn k s n reference)
     drawn-store old new h = h ∙ sym (ap (foundOr old) (drawn-as e))
 
-  module _ {why : Refusal} (e : codingOf k .read s n ≡ refused why) where
-    pub refused-verdict : Refused why ≡ verdictOn (drawn k s n reference)
+  module _ {m place : ℕ} (e : codingOf k .read s n ≡ refused m place) where
+    pub refused-verdict : refused m place ≡ verdictOn (drawn k s n reference)
     refused-verdict = sym (ap verdictOn (drawn-as e))
 
     pub refused-store : (old : List ℕ) → old ≡ foundOr old (drawn k s n reference)
@@ -39,11 +33,11 @@ module _ (k : Kind) (s : List ℕ) (n : ℕ) (reference : List ℕ) where
 
   -- ---- the lengths, with the named one as the code has it
   module _ (room : ℕ) {named : ℕ} (is : named ≡ storeLength (kindSize k)) where
-    pub unfit-reference : (length reference ≡ named → ⊥) → decoded k s n reference room ≡ refused (refusal Length 0)
+    pub unfit-reference : (length reference ≡ named → ⊥) → decoded k s n reference room ≡ refused 1 0
     unfolding decoded
     unfit-reference h = rw (ne-eqb (length reference) (storeLength (kindSize k)) (λ e. h (e ∙ sym is)))
 
-    pub unfit-store : length reference ≡ named → (room ≡ named → ⊥) → decoded k s n reference room ≡ refused (refusal Length 0)
+    pub unfit-store : length reference ≡ named → (room ≡ named → ⊥) → decoded k s n reference room ≡ refused 1 0
     unfolding decoded
     unfit-store e h = rw (eq-eqb (length reference) (storeLength (kindSize k)) (e ∙ is), ne-eqb room (storeLength (kindSize k)) (λ e. h (e ∙ sym is)))
 

@@ -5,34 +5,32 @@ use mathlib.Core.List.{List}
 use lib.Dec.{eqb}
 use lib.ListN.{length}
 use Rattle.laws.specs.Choice.{pick, both}
-use Rattle.refusals.specs.declared.Reason.the-variants.{Length}
-use Rattle.bits.specs.Read.{refused}
 use Rattle.size.specs.Size.{storeLength}
 use Rattle.refusals.specs.declared.Verdict.{Verdict}
-use Rattle.refusals.specs.Number.{refusal}
+use Rattle.refusals.specs.Told.{Told, accepted, refused, toldVerdict, verdictOn, foundOr}
 use Rattle.coding.specs.declared.Kind.{Kind}
-use Rattle.coding.specs.Coding.{Found, accepted, refused, Coding}
+use Rattle.coding.specs.Coding.{Coding}
 use Rattle.coding.specs.Kind.{kindSize, codingOf}
-use Rattle.coding.specs.Described.{BlankFor, verdictOn, foundOr}
+use Rattle.coding.specs.Described.{BlankFor}
 
 -- what is found, drawn over a reference
-abbrev pub drawnBy : {D : Type 0} → Coding D → List ℕ → Found D → Found (List ℕ)
+abbrev pub drawnBy : {D : Type 0} → Coding D → List ℕ → Told D → Told (List ℕ)
 drawnBy c reference (accepted d) = accepted (c .render d reference)
-drawnBy c reference (refused why) = refused why
+drawnBy c reference (refused n place) = refused n place
 
 -- the verdict of the rules and, on acceptance, every sample
-unfoldable pub drawn : Kind → List ℕ → ℕ → List ℕ → Found (List ℕ)
+unfoldable pub drawn : Kind → List ℕ → ℕ → List ℕ → Told (List ℕ)
 drawn k bytes n reference = drawnBy (codingOf k) reference (codingOf k .read bytes n)
 
 -- refusal 1: "a lent buffer hasn't its named length"
-unfoldable pub decoded : Kind → List ℕ → ℕ → List ℕ → ℕ → Found (List ℕ)
+unfoldable pub decoded : Kind → List ℕ → ℕ → List ℕ → ℕ → Told (List ℕ)
 decoded k bytes n reference size =
-    pick (both (eqb (length reference) (storeLength (kindSize k))) (eqb size (storeLength (kindSize k)))) (drawn k bytes n reference) (refused (refusal Length 0))
+    pick (both (eqb (length reference) (storeLength (kindSize k))) (eqb size (storeLength (kindSize k)))) (drawn k bytes n reference) (refused 1 0)
 
 -- ---- what `decode` promises
 -- of its answer, and of the store that it leaves: "no sample store changes by" a refusal
 abbrev pub DecodeSays : Kind → List ℕ → ℕ → List ℕ → List ℕ → Verdict → Type 0
-DecodeSays k bytes n reference store verdict = verdict ≡ verdictOn (decoded k bytes n reference (length store))
+DecodeSays k bytes n reference store verdict = toldVerdict verdict ≡ verdictOn (decoded k bytes n reference (length store))
 
 abbrev pub DecodeLeaves : Kind → List ℕ → ℕ → List ℕ → List ℕ → List ℕ → Type 0
 DecodeLeaves k bytes n reference store left = left ≡ foundOr store (decoded k bytes n reference (length store))

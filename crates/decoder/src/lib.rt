@@ -4,7 +4,7 @@ use refusals::Reason;
 use refusals::Refusal;
 use refusals::Verdict;
 ghost use mathlib.Core.Path.{_≡_};
-ghost use Rattle.coding.specs.Described.{verdictOn, foundOr};
+ghost use Rattle.refusals.specs.Told.{toldVerdict, verdictOn, foundOr};
 ghost use Rattle.decoder.specs.Decoded.{drawn, DecodeSays, DecodeLeaves, Decodable};
 
 // The description is read into lent scratch, then rendered.
@@ -19,7 +19,7 @@ fn decode_in(
     store: &mut [u8],
 ) -> Verdict
     requires { ⌜ Decodable kind (now head) (now macroblocks) (now levels) (now reference) (now store) ⌝ }
-    ensures verdict { λ r. ⌜ r ≡ verdictOn (drawn kind (now (bytes .entry)) count (now (reference .entry))) ⌝ }
+    ensures verdict { λ r. ⌜ toldVerdict r ≡ verdictOn (drawn kind (now (bytes .entry)) count (now (reference .entry))) ⌝ }
     ensures samples { λ _. ⌜ now (store .exit) ≡ foundOr (now (store .entry)) (drawn kind (now (bytes .entry)) count (now (reference .entry))) ⌝ }
 {
     let verdict = coding::parse(kind, bytes, count, head, macroblocks, levels);

@@ -2,37 +2,26 @@
 use Prim.Native.Nat.{ℕ}
 use mathlib.Core.Path.{_≡_, refl, sym, ap, _∙_}
 use mathlib.Core.List.{List}
-use native.Mathlib.Omega.{arith}
 use borrow.Author.Tests.{eq-eqb, lt-ltb}
 use lib.ListN.{length}
-use Rattle.refusals.specs.declared.Refusal.{Refusal}
-use Rattle.refusals.specs.declared.Reason.the-variants.{Length}
-use Rattle.refusals.specs.Number.{refusal}
+use Rattle.refusals.proofs.Told.{accepted-once, told-apart}
 use Rattle.bits.specs.Read.{Read, got, endless, refused as unread}
 use Rattle.h261_groups.specs.Format.{sizeOf}
 use Rattle.size.specs.Size.{limit, storeLength}
 use Rattle.h261_description.specs.Value.{Picture, laid}
 use Rattle.h261_layers.specs.Grammar.{picture, reading}
-use Rattle.fields.specs.Answer.{mapRead}
+use Rattle.fields.specs.Answer.{mapRead, found}
 use Rattle.h261_reader.specs.Described.{described}
 use Rattle.h261_render.specs.Sample.{rendered}
 use Rattle.coding.specs.declared.Kind.{Kind}
-use Rattle.coding.specs.Coding.{accepted, refused, found}
 use Rattle.coding.specs.H261.{h261}
 use Rattle.coding.specs.Kind.{formatOf, kindSize, codingOf}
 use Rattle.decoder.specs.Decoded.{drawnBy, drawn, decoded}
-use Rattle.h261_writer.specs.declared.Written.the-variants.{Bits, Refused}
 use Rattle.h261_writer.specs.Output.{written, writeOf}
 use Rattle.demand2.proofs.WrittenBack.{writes, written-back}
 use Rattle.demand2.specs.Demand2.{decode, Follows, Accepts, DecodeExactly, DecodeSamples, WriteBack, WriteRefused}
 
 -- ---- ours
-pub refused-accepted : {A : Type 0} (why : Refusal) (a : A) → refused why ≡ accepted a → ⊥
-refused-accepted why a e = let z : _≡_ {A = ℕ} 0 1 = cc in omega arith
-
-accepted-same : {A : Type 0} (a b : A) → accepted a ≡ accepted b → a ≡ b
-accepted-same a b e = cc
-
 -- what it answers, by what is read
 decode-is : (k : Kind) (bytes : List ℕ) (n : ℕ) (reference : List ℕ) → length reference ≡ storeLength (kindSize k)
     → decode k bytes n reference ≡ drawnBy (h261 (formatOf k)) reference (found (mapRead (laid (formatOf k)) (reading (formatOf k) bytes n)))
@@ -46,8 +35,8 @@ module _ (k : Kind) (bytes : List ℕ) (n : ℕ) (reference : List ℕ) (e : len
 
   follows-if : (x : Read Picture) → reading (formatOf k) bytes n ≡ x → Accepts (decode k bytes n reference) → Follows k bytes n
   follows-if (got p left at) r a = record { picture = p; left = left; at = at; reads = r }
-  follows-if (unread why) r a = absurd (refused-accepted why (a .store) (sym (by r) ∙ a .is))
-  follows-if endless r a = absurd (refused-accepted (refusal Length 0) (a .store) (sym (by r) ∙ a .is))
+  follows-if (unread why) r a = absurd (told-apart (sym (a .is) ∙ by r))
+  follows-if endless r a = absurd (told-apart (sym (a .is) ∙ by r))
 
 pub decode-exactly : DecodeExactly
 decode-exactly = record {
@@ -57,13 +46,10 @@ decode-exactly = record {
 
 pub decode-samples : DecodeSamples
 decode-samples = record {
-  samples = λ k bytes n reference store h e a. accepted-same store _ (sym a ∙ by k bytes n reference e (h .reads));
+  samples = λ k bytes n reference store h e a. accepted-once (sym a ∙ by k bytes n reference e (h .reads));
 }
 
 -- ---- ours
-bits-refused : (n : ℕ) (why : Refusal) → Bits n ≡ Refused why → ⊥
-bits-refused n why e = let z : _≡_ {A = ℕ} 0 1 = cc in omega arith
-
 pub write-back : WriteBack
 write-back = record { back = λ f d out n t l e. written-back f d out n e .read }
 
@@ -72,5 +58,5 @@ unfolding writeOf
 write-refused = record {
   invalid = λ f d out l v. rw (l, v) refl;
   above = λ f d out l v m. rw (l, v, lt-ltb (limit (sizeOf f)) (length (written f d)) m) refl;
-  else = λ f d out why t l e q. bits-refused (length (written f d)) why (sym (writes f d out t l e) ∙ q);
+  else = λ f d out number place t l e q. told-apart (sym (writes f d out t l e) ∙ q);
 }

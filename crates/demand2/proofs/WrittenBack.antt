@@ -9,7 +9,8 @@ use lib.Dec.{T, ltb, eqb}
 use lib.ListN.{length, drop}
 use Rattle.laws.specs.Choice.{pick, either}
 use Rattle.laws.proofs.Choice.{both-left, both-right, T-true, true-T}
-use Rattle.refusals.specs.declared.Refusal.{Refusal}
+use Rattle.refusals.specs.Told.{Told, accepted, refused}
+use Rattle.refusals.proofs.Told.{accepted-once, told-apart}
 use Rattle.bits.specs.Bits.{Bit, bitsFrom}
 use Rattle.bits.specs.Read.{got}
 use Rattle.bits.proofs.Source.{source-left}
@@ -24,14 +25,11 @@ use Rattle.h261_layers.specs.Grammar.{reading}
 use Rattle.fields.specs.Answer.{mapRead}
 use Rattle.h261_reader.specs.Described.{described}
 use Rattle.h261_reader.specs.ReadOf.{readOf}
-use Rattle.h261_writer.specs.declared.Written.{Written}
-use Rattle.h261_writer.specs.declared.Written.the-variants.{Bits, Refused}
 use Rattle.h261_writer.specs.Output.{written, lengths, writeOf, leaves, outputOf}
 use Rattle.bits.specs.Write.{Holds}
 use Rattle.h261_readback.specs.ReadBack.{ReadBack}
 use Rattle.h261_readback.proofs.ReadBack.{reads-back}
 use Rattle.h261_render.specs.Sample.{rendered}
-use Rattle.coding.specs.Coding.{accepted}
 use Rattle.coding.specs.Kind.{kindOf, codingOf}
 use Rattle.decoder.specs.Decoded.{drawn, decoded}
 use Rattle.demand2.specs.WrittenBack.{WrittenBack, WritesValid}
@@ -59,17 +57,14 @@ pub record Wrote (f : Format) (d : Flat) (room n : ℕ) : Type 0 where
   pub named : room ≡ outputLength (sizeOf f)
   pub count : n ≡ length (written f d)
 
-refused-bits : (why : Refusal) (n : ℕ) → Refused why ≡ Bits n → ⊥
-refused-bits why n q = let k : _≡_ {A = ℕ} 0 1 = cc in omega arith
-
-bits-only : (a b c : Bool) (m n : ℕ) (x y z : Refusal) → pick a (pick b (pick c (Refused x) (Bits m)) (Refused y)) (Refused z) ≡ Bits n
+bits-only : (a b c : Bool) (m n : ℕ) (x y z : ℕ) → pick a (pick b (pick c (refused x 0) (accepted m)) (refused y 0)) (refused z 0) ≡ accepted n
     → (a ≡ true) × (b ≡ true) × (c ≡ false) × (n ≡ m)
-bits-only true true false m n x y z e = (refl, refl, refl, cc)
-bits-only true true true m n x y z e = absurd (refused-bits x n e)
-bits-only true false c m n x y z e = absurd (refused-bits y n e)
-bits-only false b c m n x y z e = absurd (refused-bits z n e)
+bits-only true true false m n x y z e = (refl, refl, refl, sym (accepted-once e))
+bits-only true true true m n x y z e = absurd (told-apart (sym e))
+bits-only true false c m n x y z e = absurd (told-apart (sym e))
+bits-only false b c m n x y z e = absurd (told-apart (sym e))
 
-pub wrote : (f : Format) (d : Flat) (room n : ℕ) → writeOf f d room ≡ Bits n → Wrote f d room n
+pub wrote : (f : Format) (d : Flat) (room n : ℕ) → writeOf f d room ≡ accepted n → Wrote f d room n
 unfolding writeOf
 wrote f d room n e =
     let said = bits-only (lengths f d room) (valid f d) (ltb (limit (sizeOf f)) (length (written f d))) (length (written f d)) n _ _ _ e in
@@ -95,12 +90,12 @@ writes f d out t l e =
     rw (one-of f d (both-left (lengthsOf f d) _ t), eq-eqb (length out) (outputLength (sizeOf f)) e, T-true (valid f d) t, le-ltb (limit (sizeOf f)) (length (written f d)) l) refl
 
 -- what `write` left holds the bits first, whenever it answers N
-pub written-held : (f : Format) (d : Flat) (out : List ℕ) (n : ℕ) → writeOf f d (length out) ≡ Bits n → Holds (outputOf f d out) (written f d)
+pub written-held : (f : Format) (d : Flat) (out : List ℕ) (n : ℕ) → writeOf f d (length out) ≡ accepted n → Holds (outputOf f d out) (written f d)
 unfolding leaves
 written-held f d out n e =
     let w = written f d in
     let w-is = wrote f d (length out) n e in
-    subst (λ (x : Written). Holds (leaves out w x) w) (sym e) (output-holds out w (fits f (length w) (length out) (w-is .below) (w-is .named)))
+    subst (λ (x : Told ℕ). Holds (leaves out w x) w) (sym e) (output-holds out w (fits f (length w) (length out) (w-is .below) (w-is .named)))
   where
     fits : (f : Format) (bits room : ℕ) → bits ≤ limit (sizeOf f) → room ≡ outputLength (sizeOf f) → bits ≤ 8 * room
     fits Qcif bits room l e = omega arith

@@ -6,9 +6,7 @@ use mathlib.Core.Bool.{true, false}
 use mathlib.Core.List.{List, []}
 use lib.Dec.{T}
 use lib.ListN.{length}
-use Rattle.refusals.specs.declared.Refusal.{Refusal}
-use Rattle.refusals.specs.declared.Reason.the-variants.{Length, Invalid, AboveLimit}
-use Rattle.refusals.specs.Number.{refusal}
+use Rattle.refusals.specs.Told.{Told, accepted, refused}
 use Rattle.bits.specs.Bits.{Bit}
 use Rattle.bits.specs.Read.{got}
 use Rattle.h261_groups.specs.declared.Format.{Format}
@@ -21,16 +19,13 @@ use Rattle.h261_layers.specs.Grammar.{picture, reading}
 use Rattle.h261_reader.specs.Described.{described}
 use Rattle.h261_render.specs.Sample.{rendered}
 use Rattle.coding.specs.declared.Kind.{Kind}
-use Rattle.coding.specs.Coding.{Found, accepted}
 use Rattle.coding.specs.Kind.{formatOf, kindSize}
 use Rattle.decoder.specs.Decoded.{decoded}
-use Rattle.h261_writer.specs.declared.Written.{Written}
-use Rattle.h261_writer.specs.declared.Written.the-variants.{Bits, Refused}
 use Rattle.h261_writer.specs.Output.{written, lengths, writeOf, outputOf}
 
 -- ---- a decoder: the first N bits of bytes and a reference store to a store, or a refusal
 abbrev pub Decoder : Type 0
-Decoder = Kind → List ℕ → ℕ → List ℕ → Found (List ℕ)
+Decoder = Kind → List ℕ → ℕ → List ℕ → Told (List ℕ)
 
 -- what `decode`'s promise says, for stores of their length
 abbrev pub decode : Decoder
@@ -43,7 +38,7 @@ pub record Follows (k : Kind) (bytes : List ℕ) (n : ℕ) : Type 0 where
   pub at : ℕ
   pub reads : reading (formatOf k) bytes n ≡ got picture left at
 
-pub record Accepts (x : Found (List ℕ)) : Type 0 where
+pub record Accepts (x : Told (List ℕ)) : Type 0 where
   pub store : List ℕ
   pub is : x ≡ accepted store
 
@@ -65,7 +60,7 @@ DecodeSamples = EverySample decode
 
 -- ---- a writer: a description and what the output holds before, to the answer and what it holds after
 pub record Output : Type 0 where
-  pub answer : Written
+  pub answer : Told ℕ
   pub output : List ℕ
 
 abbrev pub Writer : Type 0
@@ -77,13 +72,13 @@ write f d out = record { answer = writeOf f d (length out); output = outputOf f 
 
 -- "What our writer writes for a valid description is read back as that description"; "reading back takes exactly N bits"
 pub record ReadsBack (w : Writer) : Type 0 where
-  pub back : (f : Format) (d : Flat) (out : List ℕ) (n : ℕ) → T (valid f d) → length out ≡ outputLength (sizeOf f) → w f d out .answer ≡ Bits n → described f (w f d out .output) n ≡ got d [] n
+  pub back : (f : Format) (d : Flat) (out : List ℕ) (n : ℕ) → T (valid f d) → length out ≡ outputLength (sizeOf f) → w f d out .answer ≡ accepted n → described f (w f d out .output) n ≡ got d [] n
 
 -- "31 and 32, given exactly then"
 pub record RefusedExactly (w : Writer) : Type 0 where
-  pub invalid : (f : Format) (d : Flat) (out : List ℕ) → lengths f d (length out) ≡ true → valid f d ≡ false → w f d out .answer ≡ Refused (refusal Invalid 0)
-  pub above : (f : Format) (d : Flat) (out : List ℕ) → lengths f d (length out) ≡ true → valid f d ≡ true → limit (sizeOf f) < length (written f d) → w f d out .answer ≡ Refused (refusal AboveLimit 0)
-  pub else : (f : Format) (d : Flat) (out : List ℕ) (why : Refusal) → T (valid f d) → length (written f d) ≤ limit (sizeOf f) → length out ≡ outputLength (sizeOf f) → w f d out .answer ≡ Refused why → ⊥
+  pub invalid : (f : Format) (d : Flat) (out : List ℕ) → lengths f d (length out) ≡ true → valid f d ≡ false → w f d out .answer ≡ refused 31 0
+  pub above : (f : Format) (d : Flat) (out : List ℕ) → lengths f d (length out) ≡ true → valid f d ≡ true → limit (sizeOf f) < length (written f d) → w f d out .answer ≡ refused 32 0
+  pub else : (f : Format) (d : Flat) (out : List ℕ) (number place : ℕ) → T (valid f d) → length (written f d) ≤ limit (sizeOf f) → length out ≡ outputLength (sizeOf f) → w f d out .answer ≡ refused number place → ⊥
 
 abbrev pub WriteBack : Type 0
 WriteBack = ReadsBack write

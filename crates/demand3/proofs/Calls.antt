@@ -7,20 +7,17 @@ use mathlib.Core.Option.{some}
 use Prim.Native.Nat.{ℕ, suc, _<_}
 use lib.ListN.{length, getElem?}
 use Rattle.laws.specs.Choice.{pick, alike}
-use Rattle.refusals.specs.declared.Reason.the-variants.{Length, UntrueMark}
-use Rattle.refusals.specs.Number.{refusal}
+use Rattle.refusals.specs.Told.{Told, accepted, refused}
 use Rattle.size.specs.declared.Size.{Size}
 use Rattle.coding.specs.declared.Kind.{Kind}
 use Rattle.vault.specs.declared.Header.{Header}
-use Rattle.vault.specs.declared.Checked.{Checked}
-use Rattle.vault.specs.declared.Checked.the-variants.{Good}
-use Rattle.vault.specs.Block.{judgeOf, refusedBy}
+use Rattle.vault.specs.Block.{judgeOf}
 use Rattle.vault.specs.Parts.{partCount, placed}
 use Rattle.standing.specs.declared.Receiver.{Receiver}
 use Rattle.standing.specs.declared.Standing.{Standing}
 use Rattle.standing.specs.declared.Line.{Line}
 use Rattle.standing.specs.declared.Line.the-variants.{Earlier, Next, Anew, Otherwise}
-use Rattle.coding.specs.Coding.{Found, accepted, refused, Coding}
+use Rattle.coding.specs.Coding.{Coding}
 use Rattle.coding.specs.Kind.{kindSize, AllLawful}
 use Rattle.standing.specs.Receive.{lineOf, Event, refusing, old, taken, lost, failed, finished, countOf, markOf, Buffers, lengths, judged, ended, tookOf, byLine, byJudgement, decide, Outcome}
 use Rattle.standing.specs.Run.{World}
@@ -78,20 +75,20 @@ module _ (receive : Receive) where
 -- a part that is taken leaves the standing or begins to catch up; a finished picture is the block's own
 module _ {D : Type 0} (coding : Kind → Coding D) where
   abbrev pub Within : Receiver → Header → Event D → Type 0
-  Within r header (refusing why) = Unit {0}
+  Within r header (refusing n place) = Unit {0}
   Within r header (old h) = Unit {0}
   Within r header (taken h standing) = (standing ≡ r .progress .standing) ⊎ (standing ≡ T.Catching)
   Within r header lost = Unit {0}
-  Within r header (failed h why) = Unit {0}
+  Within r header (failed h n place) = Unit {0}
   Within r header (finished h d) = h ≡ header
 
   module _ (r : Receiver) (header : Header) where
-    ended-within : (found : Found D) → Within r header (ended coding r header found)
+    ended-within : (found : Told D) → Within r header (ended coding r header found)
     unfolding ended
-    ended-within (refused why) = tt
+    ended-within (refused n place) = tt
     ended-within (accepted d) = go (alike (coding (r .kind) .refresh d) (markOf (r .progress) header))
       where
-        go : (t : Bool) → Within r header (pick t (finished header d) (failed header (refusal UntrueMark 0)))
+        go : (t : Bool) → Within r header (pick t (finished header d) (failed header 24 0))
         go true = refl
         go false = tt
 
@@ -110,19 +107,19 @@ module _ {D : Type 0} (coding : Kind → Coding D) where
     line-within Anew block collection = took-within T.Catching (placed block (header .part) collection) (inr refl)
     line-within Otherwise block collection = tt
 
-  pub decide-within : (r : Receiver) (block : List ℕ) (b : Buffers) (header : Header) → judgeOf (kindSize (r .kind)) (r .clip) block ≡ Good header → Within r header (decide coding r block b)
+  pub decide-within : (r : Receiver) (block : List ℕ) (b : Buffers) (header : Header) → judgeOf (kindSize (r .kind)) (r .clip) block ≡ accepted header → Within r header (decide coding r block b)
   unfolding decide judged byJudgement
   decide-within r block b header g =
-      subst (λ (c : Checked). Within r header (byJudgement coding (pick (lengths (kindSize (r .kind)) b) c (refusedBy Length)) r block (b .collection))) (sym g) (go (lengths (kindSize (r .kind)) b))
+      subst (λ (c : Told Header). Within r header (byJudgement coding (pick (lengths (kindSize (r .kind)) b) c (refused 1 0)) r block (b .collection))) (sym g) (go (lengths (kindSize (r .kind)) b))
     where
-      go : (t : Bool) → Within r header (byJudgement coding (pick t (Good header) (refusedBy Length)) r block (b .collection))
+      go : (t : Bool) → Within r header (byJudgement coding (pick t (accepted header) (refused 1 0)) r block (b .collection))
       go true = line-within r header (lineOf (r .progress) header) block (b .collection)
       go false = tt
 
 -- ---- the blocks of a picture, by their headers
 pub record Heads (size : Size) (clip : ℕ) (P : Header → Type 0) (block : List ℕ) : Type 0 where
   pub header : Header
-  pub judged-as : judgeOf size clip block ≡ Good header
+  pub judged-as : judgeOf size clip block ≡ accepted header
   pub is : P header
 
 every-from : (Q : List ℕ → Type 0) (blocks : List (List ℕ)) → ((i : ℕ) (block : List ℕ) → getElem? blocks i ≡ some block → Q block) → Every Q blocks

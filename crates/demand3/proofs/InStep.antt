@@ -11,16 +11,16 @@ use borrow.Author.Tests.{eqb-false}
 use lib.Dec.{eqb}
 use lib.ListN.{getElem?}
 use Rattle.laws.specs.Choice.{pick}
-use Rattle.refusals.specs.declared.Reason.the-variants.{Length, BlockField}
-use Rattle.refusals.specs.Number.{refusal, number}
+use Rattle.refusals.specs.Told.{accepted, refused}
+use Rattle.refusals.proofs.Told.{accepted-once, told-apart}
 use Rattle.coding.specs.declared.Kind.{Kind}
-use Rattle.vault.specs.Block.{judgeOf, refusedBy}
+use Rattle.vault.specs.Block.{judgeOf}
 use Rattle.standing.specs.declared.Holder.the-variants.{Neither}
 use Rattle.standing.specs.Stores.{Stores, reference, shown}
 use Rattle.sender.specs.declared.Sender.{Sender}
 use Rattle.sender.specs.Run.{Call, clipOf}
 use Rattle.standing.specs.declared.Receiver.{Receiver}
-use Rattle.standing.specs.declared.Answer.{Answer}
+use Rattle.standing.specs.Answered.{Said}
 use Rattle.coding.specs.Coding.{Coding}
 use Rattle.coding.specs.Kind.{kindSize, AllLawful}
 use Rattle.standing.specs.Receive.{place, Buffers, lengths, judged, byJudgement, decide, fresh, opened, Outcome, cameTo, step}
@@ -33,27 +33,25 @@ use Rattle.demand3.proofs.Finished.{none-shown}
 use Rattle.demand3.proofs.Sent.{Row, row, row-whole, row-drawn, row-onward, Part, clip-part}
 use Rattle.demand3.proofs.Step.{Moment, worldAt, outcomeAt}
 use Rattle.demand3.proofs.Held.{Sound, Held, Goes, step-held, Parts, Runs, run-held}
-use Rattle.sender.specs.declared.Opened.the-variants as SO
 use Rattle.sender.specs.Send as N
 use Rattle.sender.specs.Run as SR
 use Rattle.standing.specs.declared.Standing.the-variants as T
-use Rattle.standing.specs.declared.Opened.the-variants as RO
-use Rattle.standing.specs.declared.Answer.the-variants as A
+use Rattle.standing.specs.Answered as A
 
 -- ---- opened for a clip
-pub sender-opened : (clip : ℕ) (kind : Kind) (s : Sender) → N.opened clip kind ≡ SO.Open s → (1 ≤ clip) × (N.fresh clip kind ≡ s)
+pub sender-opened : (clip : ℕ) (kind : Kind) (s : Sender) → N.opened clip kind ≡ accepted s → (1 ≤ clip) × (N.fresh clip kind ≡ s)
 sender-opened clip kind s e = go (eqb clip 0) refl e
   where
-    go : (t : Bool) → eqb clip 0 ≡ t → pick t (SO.Refused (refusal BlockField 0)) (SO.Open (N.fresh clip kind)) ≡ SO.Open s → (1 ≤ clip) × (N.fresh clip kind ≡ s)
-    go true q h = let z : _≡_ {A = ℕ} 0 1 = cc in absurd (omega arith)
-    go false q h = (pos-of-ne-zero (eqb-false clip 0 q), cc)
+    go : (t : Bool) → eqb clip 0 ≡ t → pick t (refused 22 0) (accepted (N.fresh clip kind)) ≡ accepted s → (1 ≤ clip) × (N.fresh clip kind ≡ s)
+    go true q h = absurd (told-apart (sym h))
+    go false q h = (pos-of-ne-zero (eqb-false clip 0 q), accepted-once h)
 
-pub receiver-opened : (clip : ℕ) (kind : Kind) (r : Receiver) → opened clip kind ≡ RO.Open r → fresh clip kind ≡ r
+pub receiver-opened : (clip : ℕ) (kind : Kind) (r : Receiver) → opened clip kind ≡ accepted r → fresh clip kind ≡ r
 receiver-opened clip kind r e = go (eqb clip 0) e
   where
-    go : (t : Bool) → pick t (RO.Refused (refusal BlockField 0)) (RO.Open (fresh clip kind)) ≡ RO.Open r → fresh clip kind ≡ r
-    go true h = let z : _≡_ {A = ℕ} 0 1 = cc in absurd (omega arith)
-    go false h = cc
+    go : (t : Bool) → pick t (refused 22 0) (accepted (fresh clip kind)) ≡ accepted r → fresh clip kind ≡ r
+    go true h = absurd (told-apart (sym h))
+    go false h = accepted-once h
 
 abbrev pub start : Buffers → Moment
 start lent = record { wanted = place 0 0; standing = T.Lost; holder = Neither; mark = false; lent = lent }
@@ -90,7 +88,7 @@ module _ {D : Type 0} {coding : Kind → Coding D} (lawful : AllLawful coding) w
     start-held lent e = record { named = e; collecting = λ q. absurd (true≢false q); shows = none-shown (kindSize kind) (lent .both) }
 
     -- a receiver of which this holds is right
-    held-right : (answer : Answer) (m : Moment) → refusedLength answer ≡ false → Held lawful sound m → Right shownBy sent (outcomeAt clip kind answer m)
+    held-right : (answer : Said) (m : Moment) → refusedLength answer ≡ false → Held lawful sound m → Right shownBy sent (outcomeAt clip kind answer m)
     unfolding shownBy
     held-right answer m e h =
         subst (λ (t : Bool). Shows sent (m .standing) (shown (kindSize kind) (pick t Neither (whereShown (m .standing) (m .holder))) (m .lent .both))) (sym e) (h .shows)
@@ -105,18 +103,18 @@ module _ {D : Type 0} {coding : Kind → Coding D} (lawful : AllLawful coding) w
 
     -- ---- where a lent buffer hasn't its named length, each call is refused by 1
     module _ (lent : Buffers) (e : lengths (kindSize kind) lent ≡ false) where
-      short : (block : List ℕ) → step coding (fresh clip kind) block lent ≡ outcomeAt clip kind (A.Refused (refusal Length 0)) (start lent)
+      short : (block : List ℕ) → step coding (fresh clip kind) block lent ≡ outcomeAt clip kind (A.refused 1 0) (start lent)
       unfolding step decide judged byJudgement cameTo
       short block =
-          ap (λ (t : Bool). cameTo coding (fresh clip kind) block lent (byJudgement coding (pick t (judgeOf (kindSize kind) clip block) (refusedBy Length)) (fresh clip kind) block (lent .collection))) e
+          ap (λ (t : Bool). cameTo coding (fresh clip kind) block lent (byJudgement coding (pick t (judgeOf (kindSize kind) clip block) (refused 1 0)) (fresh clip kind) block (lent .collection))) e
 
       short-run : (blocks : List (List ℕ)) → given (step coding) (worldAt clip kind (start lent)) blocks ≡ worldAt clip kind (start lent)
       unfolding given
       short-run [] = refl
       short-run (block ∷ blocks) = ap (λ (x : Outcome). given (step coding) (record { receiver = x .gave .next; lent = x .left }) blocks) (short block) ∙ short-run blocks
 
-      none : Right shownBy sent (outcomeAt clip kind (A.Refused (refusal Length 0)) (start lent))
-      unfolding shownBy number
+      none : Right shownBy sent (outcomeAt clip kind (A.refused 1 0) (start lent))
+      unfolding shownBy
       none = none-shown (kindSize kind) (lent .both)
 
       short-right : (blocks : List (List ℕ)) (block : List ℕ) → Right shownBy sent (upon (step coding) (worldAt clip kind (start lent)) blocks block)

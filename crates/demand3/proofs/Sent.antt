@@ -13,7 +13,7 @@ use lib.ListN.{length, getElem?, take, drop}
 use lib.Seq.{drop-drop}
 use Rattle.laws.specs.Choice.{pick, both, either, opposite}
 use Rattle.laws.proofs.Choice.{two-of, if-so}
-use Rattle.refusals.specs.declared.Reason.{Reason}
+use Rattle.refusals.specs.Told.{Told, accepted, refused}
 use Rattle.coding.specs.declared.Kind.{Kind}
 use Rattle.size.specs.Size.{limit, storeLength}
 use Rattle.vault.specs.Block.{pictures as mostPictures}
@@ -21,7 +21,6 @@ use Rattle.vault.specs.Parts.{partCount, blockAt}
 use Rattle.vault.proofs.Collected.{nth}
 use Rattle.standing.specs.Stores.{goesInto, reference, kept, shown}
 use Rattle.sender.specs.declared.Sender.{Sender}
-use Rattle.sender.specs.declared.Answer.{Answer}
 use Rattle.coding.specs.Coding.{Coding}
 use Rattle.coding.specs.Kind.{kindSize}
 use Rattle.coding.specs.Described.{bytesIn}
@@ -29,7 +28,6 @@ use Rattle.sender.specs.Send.{Buffers, Judgement, sends, refuses, Outcome, leng
 use Rattle.sender.specs.Run.{Call, World, cut, added, called, after, clipOf}
 use Rattle.demand3.specs.Clip.{Picture, sentAs, pictures, PartOf}
 use Rattle.demand3.proofs.Finished.{kept-reference, kept-shown}
-use Rattle.sender.specs.declared.Answer.the-variants as A
 
 -- ---- of lists
 pub member-at : {A : Type 0} {a : A} {l : List A} → List·Memᴰ a l → (i : ℕ) × (getElem? l i ≡ some a)
@@ -56,13 +54,13 @@ cut-at (suc n) out (suc i) block e =
     (omega arith, ap (take 512) (sym (drop-drop (512 * i) 512 out ∙ ap (λ (k : ℕ). drop k out) next)) ∙ rest .1)
 
 -- ---- one call
-never : (reason : Reason) → refuses reason ≡ sends → ⊥
-never reason e = let z : _≡_ {A = ℕ} 0 1 = cc in omega arith
+never : (n : ℕ) → refuses n ≡ sends → ⊥
+never n e = let z : _≡_ {A = ℕ} 0 1 = cc in omega arith
 
 -- a test whose failure refuses
-passed : (t : Bool) (x : Judgement) (reason : Reason) → pick t x (refuses reason) ≡ sends → (t ≡ true) × (x ≡ sends)
-passed true x reason e = (refl, e)
-passed false x reason e = absurd (never reason e)
+passed : (t : Bool) (x : Judgement) (n : ℕ) → pick t x (refuses n) ≡ sends → (t ≡ true) × (x ≡ sends)
+passed true x n e = (refl, e)
+passed false x n e = absurd (never n e)
 
 module _ {D : Type 0} (coding : Kind → Coding D) where
   -- what is known of a picture that was sent
@@ -112,7 +110,7 @@ module _ {D : Type 0} (coding : Kind → Coding D) where
         Row (x .gave .next .clip) (x .gave .next .kind) (x .gave .next .picture) (reference (x .gave .next .holder) (x .left .both)) rest
         → Row (w .sender .clip) (w .sender .kind) (w .sender .picture) (reference (w .sender .holder) (w .both)) (sentAs (x .gave .answer) call x ++ rest))
     unfolding cameTo blocksSent
-    sent-row w call (refuses reason) rest e h = h
+    sent-row w call (refuses n) rest e h = h
     sent-row w call sends rest e h =
         let s : Sender = w .sender in
         let b : Buffers = record { out = call .out; both = w .both } in
@@ -176,15 +174,15 @@ module _ {D : Type 0} (coding : Kind → Coding D) where
     pub part : ℕ
     pub is : PartOf sent p part block
 
-  added-part : (a : Answer) (call : Call D) (x : Outcome) (rest : List (Picture D)) (block : List ℕ) → List·Memᴰ block (added a (x .left .out)) → Part (sentAs a call x ++ rest) block
-  added-part (A.Refused why) call x rest block m = absurd (List·Memᴰ·not-nil m)
-  added-part (A.Blocks n) call x rest block m =
+  added-part : (a : Told ℕ) (call : Call D) (x : Outcome) (rest : List (Picture D)) (block : List ℕ) → List·Memᴰ block (added a (x .left .out)) → Part (sentAs a call x ++ rest) block
+  added-part (refused n place) call x rest block m = absurd (List·Memᴰ·not-nil m)
+  added-part (accepted n) call x rest block m =
       let found = member-at m in
       record { p = 0; part = found .0; is = record { picture = _; at = refl; has = found .1 } }
 
-  later-part : (a : Answer) (call : Call D) (x : Outcome) (rest : List (Picture D)) (block : List ℕ) → Part rest block → Part (sentAs a call x ++ rest) block
-  later-part (A.Refused why) call x rest block h = h
-  later-part (A.Blocks n) call x rest block h = record { p = suc (h .p); part = h .part; is = record { picture = h .is .picture; at = h .is .at; has = h .is .has } }
+  later-part : (a : Told ℕ) (call : Call D) (x : Outcome) (rest : List (Picture D)) (block : List ℕ) → Part rest block → Part (sentAs a call x ++ rest) block
+  later-part (refused n place) call x rest block h = h
+  later-part (accepted n) call x rest block h = record { p = suc (h .p); part = h .part; is = record { picture = h .is .picture; at = h .is .at; has = h .is .has } }
 
   -- each block of the clip is a part of a picture that was sent
   pub clip-part : (w : World) (calls : List (Call D)) (block : List ℕ) → List·Memᴰ block (clipOf coding w calls) → Part (pictures coding w calls) block

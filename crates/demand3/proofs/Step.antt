@@ -15,8 +15,7 @@ use Rattle.size.specs.declared.Size.{Size}
 use Rattle.size.specs.declared.Size.the-variants.{SubQcif, Qcif, Cif}
 use Rattle.size.specs.Size.{limit, collectionLength}
 use Rattle.vault.specs.declared.Header.{Header}
-use Rattle.vault.specs.declared.Checked.{Checked}
-use Rattle.vault.specs.declared.Checked.the-variants.{Good}
+use Rattle.refusals.specs.Told.{Told, accepted}
 use Rattle.vault.specs.Block.{payloadOf, judgeOf}
 use Rattle.vault.specs.Parts.{partCount, usedAt, payloadAt, headerAt, blockAt, placed}
 use Rattle.vault.proofs.Cut.{at-length}
@@ -30,10 +29,10 @@ use Rattle.standing.specs.declared.Progress.{Progress}
 use Rattle.standing.specs.declared.Receiver.{Receiver}
 use Rattle.standing.specs.declared.Line.{Line}
 use Rattle.standing.specs.declared.Line.the-variants.{Earlier, Next, Anew, Otherwise}
-use Rattle.standing.specs.declared.Answer.{Answer}
-use Rattle.coding.specs.Coding.{Coding, accepted}
+use Rattle.standing.specs.Answered.{Said, reply}
+use Rattle.coding.specs.Coding.{Coding}
 use Rattle.coding.specs.Kind.{kindSize, AllLawful}
-use Rattle.standing.specs.Receive.{place, progress, lastIn, Event, old, taken, lost, finished, Buffers, lengths, judged, lineOf, ended, tookOf, byLine, byJudgement, decide, received, Outcome, cameTo, step}
+use Rattle.standing.specs.Receive.{place, progress, lastIn, Event, old, taken, lost, finished, Buffers, lengths, judged, lineOf, ended, tookOf, byLine, byJudgement, decide, Outcome, cameTo, step}
 use Rattle.standing.specs.Shown.{refusedLength}
 use Rattle.standing.specs.Run.{World}
 use Rattle.coding.specs.Described.{bytesIn}
@@ -42,7 +41,7 @@ use Rattle.demand3.proofs.Filled.{collected-holds}
 use Rattle.demand3.proofs.Finished.{bothSized}
 use Rattle.vault.specs.Collected as K
 use Rattle.standing.specs.declared.Standing.the-variants as T
-use Rattle.standing.specs.declared.Answer.the-variants as A
+use Rattle.standing.specs.Answered as A
 
 -- ---- a receiver of the clip, with what it is lent
 pub record Moment : Type 0 where
@@ -63,8 +62,8 @@ module _ (clip : ℕ) (kind : Kind) where
   abbrev pub worldAt : Moment → World
   worldAt m = record { receiver = receiverAt m; lent = m .lent }
 
-  abbrev pub outcomeAt : Answer → Moment → Outcome
-  outcomeAt answer m = record { gave = received answer (receiverAt m); left = m .lent }
+  abbrev pub outcomeAt : Said → Moment → Outcome
+  outcomeAt answer m = record { gave = reply answer (receiverAt m); left = m .lent }
 
 -- the mark, once this block is taken
 abbrev pub marked : Moment → Header → Bool
@@ -110,7 +109,7 @@ module _ {D : Type 0} (coding : Kind → Coding D) (kind : Kind) (x : Picture D)
     pub is : blockAt clip p refreshOf (bytesIn bitsOf) (length bitsOf) part ≡ block
 
   module _ {clip p part : ℕ} {block : List ℕ} (b : Block clip p part block) where
-    pub block-judged : judgeOf (kindSize kind) clip block ≡ Good (headerOf clip p part)
+    pub block-judged : judgeOf (kindSize kind) clip block ≡ accepted (headerOf clip p part)
     block-judged = ap (judgeOf (kindSize kind) clip) (sym (b .is)) ∙ at-judged clip p refreshOf (bytesIn bitsOf) (length bitsOf) (kindSize kind) part (b .part-is)
 
     pub block-payload : payloadOf block ≡ payloadAt (bytesIn bitsOf) (length bitsOf) part
@@ -138,7 +137,7 @@ room-in Cif count part l p = (omega arith, omega arith)
 module _ {D : Type 0} {coding : Kind → Coding D} (lawful : AllLawful coding) (clip : ℕ) (kind : Kind) where
   -- the call gives back and leaves the receiver and its buffers so
   pub record Comes (m : Moment) (block : List ℕ) (n : Moment) : Type 0 where
-    pub answer : Answer
+    pub answer : Said
     pub long : refusedLength answer ≡ false
     pub is : step coding (receiverAt clip kind m) block (m .lent) ≡ outcomeAt clip kind answer n
 
@@ -164,18 +163,18 @@ module _ {D : Type 0} {coding : Kind → Coding D} (lawful : AllLawful coding) (
     pub after-long : length after ≡ collectionLength (kindSize kind)
     after-long = placed-length block part (m .lent .collection) (block-long coding kind x b) (has-room .0) ∙ collection-is (kindSize kind) (m .lent) named
 
-    judged-good : judged r block (m .lent) ≡ Good header
+    judged-good : judged r block (m .lent) ≡ accepted header
     unfolding judged
     judged-good = rw named (block-judged coding kind x b)
 
     decided : (e : Event D) → byLine coding (lineOf (progressAt m) header) r header block (m .lent .collection) ≡ e → step coding r block (m .lent) ≡ cameTo coding r block (m .lent) e
     unfolding step decide byJudgement
-    decided e q = ap (cameTo coding r block (m .lent)) (ap (λ (c : Checked). byJudgement coding c r block (m .lent .collection)) judged-good ∙ q)
+    decided e q = ap (cameTo coding r block (m .lent)) (ap (λ (c : Told Header). byJudgement coding c r block (m .lent .collection)) judged-good ∙ q)
 
     pub comes-old : lineOf (progressAt m) header ≡ Earlier → Comes m block m
     unfolding byLine cameTo
     comes-old q = record {
-      answer = A.Old p part;
+      answer = A.old p part;
       long = refl;
       is = decided (old header) (ap (λ (l : Line). byLine coding l r header block (m .lent .collection)) q);
     }
@@ -183,7 +182,7 @@ module _ {D : Type 0} {coding : Kind → Coding D} (lawful : AllLawful coding) (
     pub comes-lost : lineOf (progressAt m) header ≡ Otherwise → Comes m block (astray m)
     unfolding byLine cameTo
     comes-lost q = record {
-      answer = A.Lost;
+      answer = A.lost;
       long = refl;
       is = decided lost (ap (λ (l : Line). byLine coding l r header block (m .lent .collection)) q);
     }
@@ -203,7 +202,7 @@ module _ {D : Type 0} {coding : Kind → Coding D} (lawful : AllLawful coding) (
     pub comes-further : (standing : Standing) → Takes standing → eqb (part + 1) (partCount count) ≡ false → Comes m block (further m header standing block)
     unfolding tookOf cameTo
     comes-further standing t e = record {
-      answer = A.Taken p part;
+      answer = A.taken p part;
       long = refl;
       is = decided (taken header standing) (t .by ∙ ap (λ (z : Bool). pick z (ended coding r header (coding kind .read after (4000 * part + usedAt count part))) (taken header standing)) e);
     }
@@ -241,7 +240,7 @@ module _ {D : Type 0} {coding : Kind → Coding D} (lawful : AllLawful coding) (
           → Comes m block (arrived m header block (coding kind .render (x .description) (reference (m .holder) (m .lent .both))))
       unfolding tookOf cameTo
       comes-arrived standing t e = record {
-        answer = A.Picture p;
+        answer = A.picture p;
         long = refl;
         is =
             decided (finished header (x .description))

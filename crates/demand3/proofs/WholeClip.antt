@@ -9,7 +9,7 @@ use native.Mathlib.Nat.{add-zero, zero-add}
 use native.Mathlib.Omega.{arith}
 use lib.ListN.{length, getElem?}
 use Rattle.coding.specs.declared.Kind.{Kind}
-use Rattle.sender.specs.declared.Answer.{Answer}
+use Rattle.refusals.specs.Told.{Told, accepted, refused}
 use Rattle.sender.specs.Send.{Outcome}
 use Rattle.sender.specs.Run.{Call, World, added, called, after, clipOf}
 use Rattle.standing.specs.declared.Receiver.{Receiver}
@@ -19,7 +19,6 @@ use Rattle.demand3.specs.Clip.{Picture, sentAs, pictures, Clip, opening,
 use Rattle.demand3.specs.Arrives.{Arrives, all, next, Follow, inTurn, InStepAt}
 use Rattle.demand3.specs.Theorems.{WholeClipInStep}
 use Rattle.demand3.proofs.InStep.{receiver-opened, sound-clip}
-use Rattle.sender.specs.declared.Answer.the-variants as A
 
 shift : (p i : ℕ) → p + suc i ≡ p + 1 + i
 shift p i = omega arith
@@ -51,10 +50,10 @@ module _ {D : Type 0} where
       (own-arrive sent p x (ap (getElem? sent) (sym (add-zero p)) ∙ sym (h 0)), own-follow sent (p + 1) xs (λ i. h (suc i) ∙ ap (getElem? sent) (shift p i)))
 
   -- ---- the clip is the pictures' blocks in turn
-  in-turn : (a : Answer) (call : Call D) (x : Outcome) (rest : List (Picture D)) (blocks : List (List ℕ)) → blocks ≡ inTurn (blocksEach rest)
+  in-turn : (a : Told ℕ) (call : Call D) (x : Outcome) (rest : List (Picture D)) (blocks : List (List ℕ)) → blocks ≡ inTurn (blocksEach rest)
       → added a (x .left .out) ++ blocks ≡ inTurn (blocksEach (sentAs a call x ++ rest))
-  in-turn (A.Blocks n) call x rest blocks e = ap (λ (l : List (List ℕ)). added (A.Blocks n) (x .left .out) ++ l) e
-  in-turn (A.Refused why) call x rest blocks e = e
+  in-turn (accepted n) call x rest blocks e = ap (λ (l : List (List ℕ)). added (accepted n) (x .left .out) ++ l) e
+  in-turn (refused n place) call x rest blocks e = e
 
   pub clip-in-turn : (coding : Kind → Coding D) (w : World) (calls : List (Call D)) → clipOf coding w calls ≡ inTurn (blocksEach (pictures coding w calls))
   unfolding clipOf pictures

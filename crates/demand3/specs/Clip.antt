@@ -7,16 +7,13 @@ use lib.ListN.{getElem?}
 use Rattle.coding.specs.declared.Kind.{Kind}
 use Rattle.standing.specs.Stores.{Stores}
 use Rattle.sender.specs.declared.Sender.{Sender}
-use Rattle.sender.specs.declared.Answer.{Answer}
+use Rattle.refusals.specs.Told.{Told, accepted, refused}
 use Rattle.coding.specs.Coding.{Coding}
 use Rattle.sender.specs.Send.{opened, Outcome, shownBy}
 use Rattle.sender.specs.Run.{Call, World, cut, called, after, clipOf}
 use Rattle.standing.specs.declared.Receiver.{Receiver}
-use Rattle.standing.specs.declared.Received.{Received}
+use Rattle.standing.specs.Answered.{Reply}
 use Rattle.standing.specs.declared.Standing.{Standing}
-use Rattle.sender.specs.declared.Opened.the-variants as SO
-use Rattle.sender.specs.declared.Answer.the-variants as A
-use Rattle.standing.specs.declared.Opened.the-variants as RO
 use Rattle.standing.specs.declared.Standing.the-variants as T
 use Rattle.standing.specs.Receive as R
 use Rattle.standing.specs.Run as W
@@ -30,10 +27,10 @@ pub record Picture (D : Type 0) : Type 0 where
 
 module _ {D : Type 0} where
   -- the picture that a call sent: a refused call sends none
-  abbrev pub sentAs : Answer → Call D → Outcome → List (Picture D)
-  sentAs (A.Blocks n) call x =
+  abbrev pub sentAs : Told ℕ → Call D → Outcome → List (Picture D)
+  sentAs (accepted n) call x =
       record { description = call .description; blocks = cut n (x .left .out); store = shownBy (x .gave .next) (x .left .both) } ∷ []
-  sentAs (A.Refused why) call x = []
+  sentAs (refused n place) call x = []
 
   -- all pictures, in order: the first is picture 0
   unfoldable pub pictures : (Kind → Coding D) → World → List (Call D) → List (Picture D)
@@ -51,7 +48,7 @@ pub record Clip (D : Type 0) : Type 0 where
   pub number : ℕ
   pub kind : Kind
   pub sender : Sender
-  pub is-open : opened number kind ≡ SO.Open sender
+  pub is-open : opened number kind ≡ accepted sender
   pub stores : Stores
   pub calls : List (Call D)
 
@@ -69,7 +66,7 @@ module _ {D : Type 0} (coding : Kind → Coding D) (c : Clip D) where
 -- "A fresh receiver": one opened for the clip's number and kind, with buffers of any contents
 pub record Fresh (number : ℕ) (kind : Kind) : Type 0 where
   pub receiver : Receiver
-  pub is-open : R.opened number kind ≡ RO.Open receiver
+  pub is-open : R.opened number kind ≡ accepted receiver
   pub lent : R.Buffers
 
 abbrev pub begin : {number : ℕ} {kind : Kind} → Fresh number kind → W.World
@@ -85,7 +82,7 @@ abbrev pub Receive : Type 0
 Receive = Receiver → List ℕ → R.Buffers → R.Outcome
 
 abbrev pub Show : Type 0
-Show = Received → Stores → List ℕ
+Show = Reply → Stores → List ℕ
 
 module _ (receive : Receive) where
   -- "each call .. gets the last state back .. and the same stores and collection buffer, untouched since"

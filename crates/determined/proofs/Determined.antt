@@ -12,6 +12,10 @@ use lib.IntN.{ℤ, pos, natAbs, _+ℤ_, -ℤ-+ℤ-cancel}
 use Rattle.laws.proofs.Rows.{rows-same, lt-or-ge}
 use Rattle.refusals.specs.declared.Reason.the-variants.{Length}
 use Rattle.refusals.specs.Number.{refusal}
+use Rattle.refusals.proofs.Told.{verdict-told-once}
+use Rattle.h261_writer.proofs.WriteSteps.{written-told-once}
+use Rattle.standing.proofs.Told.{received-told-once}
+use Rattle.sender.proofs.Told.{sent-told-once}
 use Rattle.bits.specs.Bits.{Bit, bitsOf}
 use Rattle.bits.specs.Read.{Read, got, endless, refused, field}
 use Rattle.bits.proofs.Fields.{field-back}
@@ -43,8 +47,10 @@ use Rattle.h261_words.specs.declared.CoefficientRead.the-variants as C
 use Rattle.h261_layers.specs.declared.MbaRead.the-variants as M
 use Rattle.h261_layers.specs.declared.MacroblockRead.the-variants as BR
 use Rattle.fields.specs.declared.PlaceRead.the-variants as P
-use Rattle.determined.specs.Determined.{EquationOnce, ReadSaysOnce, ReadLeavesOnce, DecodeSaysOnce, DecodeLeavesOnce, WriteSaysOnce, WriteLeavesOnce, ReceiveOnce, SendOnce, FieldOnce, WordOnce, CoefficientOnce, HeaderOnce, MbaOnce, VectorOnce, MacroblockReadOnce, MacroblockLeftOnce, PlaceOnce, LeftOnce, BlockOnce, CodewordOnce, BitsWroteOnce, BlockWroteOnce, MacroblockOnce, RowsOnce, TextOnce}
+use Rattle.determined.specs.Determined.{EquationOnce, ReadSaysOnce, ReadLeavesOnce, DecodeSaysOnce, DecodeLeavesOnce, WriteSaysOnce, WriteLeavesOnce, ReceiveOnce, SendOnce, HandsBackOnce, FieldOnce, WordOnce, CoefficientOnce, HeaderOnce, MbaOnce, VectorOnce, MacroblockReadOnce, MacroblockLeftOnce, PlaceOnce, LeftOnce, BlockOnce, CodewordOnce, BitsWroteOnce, BlockWroteOnce, MacroblockOnce, RowsOnce, TextOnce}
 use Rattle.fields.specs.declared.PairRead.the-variants as PR
+use Rattle.standing.specs.Receive as R
+use Rattle.sender.specs.Send as S
 
 -- ---- an equation with the answer, with a buffer, or with both
 same-as : {A : Type 0} {a x y : A} → x ≡ a → y ≡ a → x ≡ y
@@ -55,28 +61,35 @@ once A a x y = same-as
 
 -- ---- the entry points: what each promises of its answer, of the buffers that it leaves, or of both at once
 pub read-says-once : ReadSaysOnce
-read-says-once f bytes n before x y = same-as
+read-says-once f bytes n before x y e d = verdict-told-once x y (same-as e d)
 
 pub read-leaves-once : ReadLeavesOnce
 read-leaves-once f bytes n before x y = same-as
 
 pub decode-says-once : DecodeSaysOnce
-decode-says-once k bytes n reference store x y = same-as
+decode-says-once k bytes n reference store x y e d = verdict-told-once x y (same-as e d)
 
 pub decode-leaves-once : DecodeLeavesOnce
 decode-leaves-once k bytes n reference store x y = same-as
 
 pub write-says-once : WriteSaysOnce
-write-says-once f d out x y = same-as
+write-says-once f d out x y a b = written-told-once x y (same-as a b)
 
 pub write-leaves-once : WriteLeavesOnce
 write-leaves-once f d out x y = same-as
 
 pub receive-once : ReceiveOnce
-receive-once r block b x y = same-as
+receive-once r block b x y left after e d =
+    let same = same-as e d in
+    (received-told-once x y (ap (λ (o : R.Outcome). o .gave) same), ap (λ (o : R.Outcome). o .left) same)
 
 pub send-once : SendOnce
-send-once s d b x y = same-as
+send-once s d b x y left after e f =
+    let same = same-as e f in
+    (sent-told-once x y (ap (λ (o : S.Outcome). o .gave) same), ap (λ (o : S.Outcome). o .left) same)
+
+pub hands-back-once : HandsBackOnce
+hands-back-once size holder first second x y h k = (same-as (h .begins) (k .begins), same-as (h .bytes) (k .bytes))
 
 -- ---- an equation with what the answer says: nothing of the answer is lost by that
 through : {A B : Type 0} (says : A → B) (of : B → A) → ((x : A) → of (says x) ≡ x) → {b : B} {x y : A} → says x ≡ b → says y ≡ b → x ≡ y

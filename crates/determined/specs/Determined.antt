@@ -4,6 +4,7 @@ use Prim.Native.Nat.{ℕ, _≤_, _<_}
 use mathlib.Core.Path.{_≡_}
 use mathlib.Core.List.{List}
 use lib.ListN.{length}
+use denote.Ref.{RefT, ptr, now}
 use Rattle.laws.specs.Block.{Is}
 use Rattle.laws.specs.Rows.{Put}
 use Rattle.bits.specs.Bits.{Bit}
@@ -37,9 +38,13 @@ use Rattle.samples.specs.Content.{Values}
 use Rattle.samples.specs.Wrote.{Wrote, Macroblock}
 use Rattle.coding.specs.declared.Kind.{Kind}
 use Rattle.decoder.specs.Decoded.{DecodeSays, DecodeLeaves}
+use Rattle.standing.specs.declared.Holder.{Holder}
+use Rattle.standing.specs.Stores.{HandsBack}
 use Rattle.standing.specs.declared.Receiver.{Receiver}
+use Rattle.standing.specs.declared.Received.{Received}
 use Rattle.receiver.specs.Receiving.{ReceiveDoes}
 use Rattle.sender.specs.declared.Sender.{Sender}
+use Rattle.sender.specs.declared.Sent.{Sent as SentBack}
 use Rattle.sender.specs.Sending.{SendDoes}
 use Rattle.text.specs.Puts.{Puts}
 use Rattle.standing.specs.Receive as R
@@ -73,10 +78,17 @@ abbrev pub WriteLeavesOnce : Type 0
 WriteLeavesOnce = (f : Format) (d : Flat) (out : List ℕ) → Once (WriteLeaves f d out)
 
 abbrev pub ReceiveOnce : Type 0
-ReceiveOnce = (r : Receiver) (block : List ℕ) (b : R.Buffers) → Once (ReceiveDoes r block b)
+ReceiveOnce = (r : Receiver) (block : List ℕ) (b : R.Buffers) (x y : Received) (left after : R.Buffers) → ReceiveDoes r block b x left → ReceiveDoes r block b y after
+    → (x ≡ y) × (left ≡ after)
 
 abbrev pub SendOnce : Type 0
-SendOnce = (s : Sender) (d : Flat) (b : S.Buffers) → Once (SendDoes s d b)
+SendOnce = (s : Sender) (d : Flat) (b : S.Buffers) (x y : SentBack) (left after : S.Buffers) → SendDoes s d b x left → SendDoes s d b y after
+    → (x ≡ y) × (left ≡ after)
+
+-- which part `show` hands back of the two lent stores: where it begins, and its bytes
+abbrev pub HandsBackOnce : Type 0
+HandsBackOnce = (size : Size) (holder : Holder) (first second x y : RefT (List ℕ)) → HandsBack size holder first second x → HandsBack size holder first second y
+    → (ptr x ≡ ptr y) × (now x ≡ now y)
 
 -- ---- an equation with what the answer says: nothing of the answer is lost by that
 abbrev pub FieldOnce : Type 0

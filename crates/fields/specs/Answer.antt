@@ -4,6 +4,7 @@ use mathlib.Core.List.{List}
 use Rattle.refusals.specs.declared.Reason.the-variants.{BitsEnd}
 use Rattle.refusals.specs.declared.Refusal.{Refusal}
 use Rattle.refusals.specs.Number.{refusal}
+use Rattle.refusals.specs.Told.{Told, accepted, byTable, refused as unread}
 use Rattle.bits.specs.Bits.{bitsLeft}
 use Rattle.bits.specs.Read.{Read, got, refused, endless}
 use Rattle.fields.specs.declared.PlaceRead.{PlaceRead}
@@ -16,6 +17,12 @@ abbrev pub mapRead : {A B : Type 0} → (A → B) → Read A → Read B
 mapRead g (got a bs at) = got (g a) bs at
 mapRead g (refused r) = refused r
 mapRead g endless = endless
+
+-- what is found by reading, or the refusal. No reading is endless, so what stands there is never given
+abbrev pub found : {A : Type 0} → Read A → Told A
+found (got a left at) = accepted a
+found (refused why) = byTable unread why
+found endless = unread 1 0
 
 -- a layer's answer, with what it left in the buffers; on a refusal that is not said
 abbrev pub leaving : {A : Type 0} → List ℕ → ℕ → PlaceRead → A → Read A

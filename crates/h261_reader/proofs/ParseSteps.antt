@@ -14,6 +14,7 @@ use denote.Enum.Declared.{tagOf}
 use Rattle.laws.specs.Choice.{either}
 use Rattle.refusals.specs.declared.Reason.the-variants.{Count}
 use Rattle.refusals.specs.declared.Refusal.{Refusal}
+use Rattle.refusals.specs.Told.{toldVerdict, verdictOn}
 use Rattle.bits.specs.Bits.{bitsLeft}
 use Rattle.bits.proofs.Source.{source-left}
 use Rattle.bits.specs.Read.{Read, got, refused, bad}
@@ -22,10 +23,10 @@ use Rattle.h261_groups.specs.Format.{formatBit, groupCount, groupNumbers, sizeO
 use Rattle.h261_groups.specs.declared.Format.{Format}
 use Rattle.layout.specs.Flat.{Flat, putGroups, flat}
 use Rattle.h261_description.specs.Value.{laid, shape}
-use Rattle.fields.specs.Answer.{mapRead, leaving, placeRefusal, pairRefusal}
+use Rattle.fields.specs.Answer.{mapRead, found, leaving, placeRefusal, pairRefusal}
 use Rattle.h261_layers.specs.Answer.{asHeader}
 use Rattle.h261_layers.specs.Grammar.{header, groupsRead, picture, reading}
-use Rattle.h261_reader.specs.Described.{described, verdictOf, laidOr}
+use Rattle.h261_reader.specs.Described.{described, laidOr}
 use Rattle.fields.specs.declared.PairRead.{PairRead}
 use Rattle.fields.specs.declared.PairRead.the-variants.{Got, Refused as NoHeader}
 use Rattle.fields.proofs.PairRead.{the-type as pair-type}
@@ -128,18 +129,18 @@ zeroed-all l₀ l i h m =
 
 -- ---- the answers
 module _ (f : Format) (x : Read Flat) where
-  pub refused-verdict : (r : Refusal) → x ≡ refused r → Unread r ≡ verdictOf x
+  pub refused-verdict : (r : Refusal) → x ≡ refused r → toldVerdict (Unread r) ≡ verdictOn (found x)
   refused-verdict r e = rw e
 
   pub refused-buffers : (r : Refusal) (a b c : List ℕ) → x ≡ refused r → a ≡ replicate (3 + groupCount f) 0 → b ≡ replicate (groupCount f * 132) 0 → c ≡ replicate (groupCount f * 12672) 0 → flat a b c ≡ laidOr f x
   refused-buffers r a b c e p q w = (λ i. flat (p i) (q i) (w i)) ∙ sym (ap (laidOr f) e)
 
   module _ (s : List ℕ) (n : ℕ) (r : PlaceRead) (d : Flat) (v : leaving s n r d ≡ x) where
-    pub read-verdict : tagOf place-type r ≡ 0 → Accepted ≡ verdictOf x
+    pub read-verdict : tagOf place-type r ≡ 0 → toldVerdict Accepted ≡ verdictOn (found x)
     read-verdict t = yes r t v
       where
-        yes : (r : PlaceRead) → tagOf place-type r ≡ 0 → leaving s n r d ≡ x → Accepted ≡ verdictOf x
-        yes (At p) t v = ap verdictOf v
+        yes : (r : PlaceRead) → tagOf place-type r ≡ 0 → leaving s n r d ≡ x → toldVerdict Accepted ≡ verdictOn (found x)
+        yes (At p) t v = ap (λ (y : Read Flat). verdictOn (found y)) v
         yes (Refused r) t v = absurd (omega arith)
 
     pub read-buffers : tagOf place-type r ≡ 0 → d ≡ laidOr f x

@@ -12,14 +12,17 @@ use Rattle.laws.specs.Choice.{pick, both}
 use Rattle.laws.proofs.Choice.{both-left, both-right, true-T}
 use Rattle.refusals.specs.declared.Reason.the-variants.{Length}
 use Rattle.refusals.specs.declared.Refusal.{Refusal}
-use Rattle.refusals.specs.Number.{refusal}
-use Rattle.bits.specs.Read.{Read, got, refused, endless, bad}
+use Rattle.refusals.specs.Number.{refusal, number}
+use Rattle.refusals.specs.Told.{Told, toldVerdict, verdictOn, foundOr, refused as unread}
+use Rattle.refusals.proofs.Told.{told-apart}
+use Rattle.bits.specs.Read.{Read, got, refused, endless}
+use Rattle.fields.specs.Answer.{found}
 use Rattle.h261_groups.specs.Format.{groupCount}
 use Rattle.h261_groups.specs.declared.Format.{Format}
 use Rattle.layout.specs.Flat.{Flat, flat}
 use Rattle.h261_description.specs.Valid.{lengthsOf}
-use Rattle.h261_reader.specs.Described.{Lengths, described, verdictOf, laidOr}
-use Rattle.h261_reader.specs.ReadOf.{readOf, flatAfter}
+use Rattle.h261_reader.specs.Described.{Lengths, described, laidOr}
+use Rattle.h261_reader.specs.ReadOf.{readOf}
 use Rattle.refusals.specs.declared.Verdict.{Verdict}
 use Rattle.refusals.specs.declared.Verdict.the-variants.{Accepted, Refused}
 use Rattle.refusals.proofs.Verdict.{the-type as verdict-type}
@@ -35,22 +38,22 @@ copied from to out e c =
     c ∙ rw (take-length, drop-of-length-le to short, append-nil)
 
 -- ---- what the three buffers are in the end
-module _ (f : Format) (s : List ℕ) (n : ℕ) {v : Verdict} (w : v ≡ verdictOf (described f s n)) where
-  taken : (x : Read Flat) (d before : Flat) → v ≡ Accepted → v ≡ verdictOf x → d ≡ laidOr f x → d ≡ flatAfter before x
+module _ (f : Format) (s : List ℕ) (n : ℕ) {v : Verdict} (w : toldVerdict v ≡ verdictOn (found (described f s n))) where
+  taken : (x : Read Flat) (d before : Flat) → v ≡ Accepted → toldVerdict v ≡ verdictOn (found x) → d ≡ laidOr f x → d ≡ foundOr before (found x)
   taken (got e bs at) d before a w b = b
-  taken (refused r) d before a w b = let z : Accepted ≡ Refused r = sym a ∙ w in let o : _≡_ {A = ℕ} 0 1 = cc in absurd (omega arith)
-  taken endless d before a w b = let z : Accepted ≡ Refused (refusal Length 0) = sym a ∙ w in let o : _≡_ {A = ℕ} 0 1 = cc in absurd (omega arith)
+  taken (refused r) d before a w b = absurd (told-apart (sym (ap toldVerdict a) ∙ w))
+  taken endless d before a w b = absurd (told-apart (sym (ap toldVerdict a) ∙ w))
 
-  kept : (x : Read Flat) (r : Refusal) (before : Flat) → v ≡ Refused r → v ≡ verdictOf x → before ≡ flatAfter before x
-  kept (got e bs at) r before a w = let z : Refused r ≡ Accepted = sym a ∙ w in let o : _≡_ {A = ℕ} 0 1 = cc in absurd (omega arith)
+  kept : (x : Read Flat) (r : Refusal) (before : Flat) → v ≡ Refused r → toldVerdict v ≡ verdictOn (found x) → before ≡ foundOr before (found x)
+  kept (got e bs at) r before a w = absurd (told-apart (sym w ∙ ap toldVerdict a))
   kept (refused q) r before a w = refl
   kept endless r before a w = refl
 
   pub accepted-buffers : {head macroblocks levels : List ℕ} → flat head macroblocks levels ≡ laidOr f (described f s n) → v ≡ Accepted → (before : Flat) (h m l : List ℕ)
-      → h ≡ head → m ≡ macroblocks → l ≡ levels → flat h m l ≡ flatAfter before (described f s n)
+      → h ≡ head → m ≡ macroblocks → l ≡ levels → flat h m l ≡ foundOr before (found (described f s n))
   accepted-buffers b a before h m l eh em el = (λ i. flat (eh i) (em i) (el i)) ∙ taken (described f s n) _ before a w b
 
-  pub refused-unchanged : (r : Refusal) → v ≡ Refused r → (before : Flat) → before ≡ flatAfter before (described f s n)
+  pub refused-unchanged : (r : Refusal) → v ≡ Refused r → (before : Flat) → before ≡ foundOr before (found (described f s n))
   refused-unchanged r a before = kept (described f s n) r before a w
 
 -- ---- the lengths
@@ -67,13 +70,14 @@ lengths-are f before e h =
     }
 
 module _ (f : Format) (s : List ℕ) (n : ℕ) (before : Flat) {o : Bool} (e : o ≡ lengthsOf f before) where
-  on : (b : Bool) → o ≡ b → readOf f s n before ≡ pick b (described f s n) (bad Length 0)
+  on : (b : Bool) → o ≡ b → readOf f s n before ≡ pick b (found (described f s n)) (unread 1 0)
   unfolding readOf
-  on b h = ap (λ (b : Bool). pick b (described f s n) (bad Length 0)) (sym e ∙ h)
+  on b h = ap (λ (b : Bool). pick b (found (described f s n)) (unread 1 0)) (sym e ∙ h)
 
-  pub unfit : o ≡ false → (Refused (refusal Length 0) ≡ verdictOf (readOf f s n before)) × (before ≡ flatAfter before (readOf f s n before))
-  unfit h = (sym (ap verdictOf (on false h)), sym (ap (flatAfter before) (on false h)))
+  pub unfit : o ≡ false → (toldVerdict (Refused (refusal Length 0)) ≡ verdictOn (readOf f s n before)) × (before ≡ foundOr before (readOf f s n before))
+  unfolding number
+  unfit h = (sym (ap verdictOn (on false h)), sym (ap (foundOr before) (on false h)))
 
-  pub fit : o ≡ true → {v : Verdict} {after : Flat} → v ≡ verdictOf (described f s n) → after ≡ flatAfter before (described f s n)
-      → (v ≡ verdictOf (readOf f s n before)) × (after ≡ flatAfter before (readOf f s n before))
-  fit h w b = (w ∙ sym (ap verdictOf (on true h)), b ∙ sym (ap (flatAfter before) (on true h)))
+  pub fit : o ≡ true → (v : Verdict) {after : Flat} → toldVerdict v ≡ verdictOn (found (described f s n)) → after ≡ foundOr before (found (described f s n))
+      → (toldVerdict v ≡ verdictOn (readOf f s n before)) × (after ≡ foundOr before (readOf f s n before))
+  fit h v w b = (w ∙ sym (ap verdictOn (on true h)), b ∙ sym (ap (foundOr before) (on true h)))

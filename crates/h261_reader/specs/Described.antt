@@ -3,8 +3,6 @@ use Prim.Native.Nat.{ℕ, _+_, _*_}
 use mathlib.Core.Path.{_≡_}
 use mathlib.Core.List.{List}
 use lib.ListN.{length, replicate}
-use Rattle.refusals.specs.declared.Reason.the-variants.{Length}
-use Rattle.refusals.specs.Number.{refusal}
 use Rattle.bits.specs.Read.{Read, got, refused, endless}
 use Rattle.h261_groups.specs.Format.{groupCount}
 use Rattle.h261_groups.specs.declared.Format.{Format}
@@ -12,8 +10,6 @@ use Rattle.layout.specs.Flat.{Flat, flat}
 use Rattle.h261_description.specs.Value.{laid}
 use Rattle.fields.specs.Answer.{mapRead}
 use Rattle.h261_layers.specs.Grammar.{reading}
-use Rattle.refusals.specs.declared.Verdict.{Verdict}
-use Rattle.refusals.specs.declared.Verdict.the-variants.{Accepted, Refused}
 
 -- the three slices have the lengths of the format
 pub record Lengths (f : Format) (head macroblocks levels : List ℕ) : Type 0 where
@@ -30,12 +26,6 @@ pub record Blank (f : Format) (head macroblocks levels : List ℕ) : Type 0 wher
 -- the description of the picture that N bits of a slice are
 unfoldable pub described : Format → List ℕ → ℕ → Read Flat
 described f bytes n = mapRead (laid f) (reading f bytes n)
-
--- reading is never endless (never-endless, Verdict.antt), so what stands there is never given
-abbrev pub verdictOf : {A : Type 0} → Read A → Verdict
-verdictOf (got a bs at) = Accepted
-verdictOf (refused r) = Refused r
-verdictOf endless = Refused (refusal Length 0)
 
 -- zeros in the format's lengths
 abbrev pub zeros : Format → Flat

@@ -4,8 +4,10 @@ use refusals::Reason;
 use refusals::Refusal;
 use refusals::Verdict;
 ghost use mathlib.Core.Path.{_≡_};
-ghost use Rattle.h261_reader.specs.Described.{Lengths, Blank, described, verdictOf};
-ghost use Rattle.h261_reader.specs.ReadOf.{flatAfter, ReadSays, ReadLeaves};
+ghost use Rattle.refusals.specs.Told.{toldVerdict, verdictOn, foundOr};
+ghost use Rattle.fields.specs.Answer.{found};
+ghost use Rattle.h261_reader.specs.Described.{Lengths, Blank, described};
+ghost use Rattle.h261_reader.specs.ReadOf.{ReadSays, ReadLeaves};
 ghost use Rattle.layout.specs.Flat.{flat};
 
 pub mod parse;
@@ -24,8 +26,8 @@ fn read_in(
     levels: &mut [u8],
 ) -> Verdict
     requires { ⌜ (Blank format (now header) (now fields) (now coefficients)) × (Lengths format (now head) (now macroblocks) (now levels)) ⌝ }
-    ensures verdict { λ r. ⌜ r ≡ verdictOf (described format (now (bytes .entry)) count) ⌝ }
-    ensures buffers { λ _. ⌜ flat (now (head .exit)) (now (macroblocks .exit)) (now (levels .exit)) ≡ flatAfter (flat (now (head .entry)) (now (macroblocks .entry)) (now (levels .entry))) (described format (now (bytes .entry)) count) ⌝ }
+    ensures verdict { λ r. ⌜ toldVerdict r ≡ verdictOn (found (described format (now (bytes .entry)) count)) ⌝ }
+    ensures buffers { λ _. ⌜ flat (now (head .exit)) (now (macroblocks .exit)) (now (levels .exit)) ≡ foundOr (flat (now (head .entry)) (now (macroblocks .entry)) (now (levels .entry))) (found (described format (now (bytes .entry)) count)) ⌝ }
 {
     let verdict = parse::parse(bytes, count, format, header, fields, coefficients);
     match verdict {

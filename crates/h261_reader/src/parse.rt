@@ -13,11 +13,13 @@ ghost use mathlib.Core.Path.{_≡_};
 ghost use Prim.Native.Nat.{_+_, _*_};
 ghost use lib.Dec.{ltb};
 ghost use lib.ListN.{length, replicate};
+ghost use Rattle.refusals.specs.Told.{toldVerdict, verdictOn};
+ghost use Rattle.fields.specs.Answer.{found};
 ghost use Rattle.laws.specs.Choice.{either};
 ghost use Rattle.size.specs.Size.{limit};
 ghost use Rattle.h261_groups.specs.Format.{sizeOf};
 ghost use Rattle.layout.specs.Flat.{flat};
-ghost use Rattle.h261_reader.specs.Described.{Blank, described, verdictOf, laidOr};
+ghost use Rattle.h261_reader.specs.Described.{Blank, described, laidOr};
 
 // Whether N is above 8 times the slice, or above the format's limit.
 fn above(length: usize, count: usize, format: Format) -> bool
@@ -50,7 +52,7 @@ pub fn parse(
     levels: &mut [u8],
 ) -> Verdict
     requires { ⌜ Blank format (now head) (now macroblocks) (now levels) ⌝ }
-    ensures verdict { λ r. ⌜ r ≡ verdictOf (described format (now (bytes .entry)) count) ⌝ }
+    ensures verdict { λ r. ⌜ toldVerdict r ≡ verdictOn (found (described format (now (bytes .entry)) count)) ⌝ }
     ensures buffers { λ _. ⌜ flat (now (head .exit)) (now (macroblocks .exit)) (now (levels .exit)) ≡ laidOr format (described format (now (bytes .entry)) count) ⌝ }
 {
     if above(bytes.len(), count, format) {

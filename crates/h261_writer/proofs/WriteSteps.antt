@@ -11,7 +11,9 @@ use lib.Dec.{eqb, ltb}
 use lib.ListN.{length, getD, take, drop, set, replicate, length-set, length-replicate}
 use lib.Seq.{take-suc, append-snoc, set-at, take-at, length-take-le}
 use Rattle.laws.specs.Choice.{pick, both, either}
-use Rattle.refusals.specs.Number.{refusal}
+use Rattle.refusals.specs.Number.{refusal, number}
+use Rattle.refusals.specs.Told.{Told, accepted, refused}
+use Rattle.refusals.proofs.Told.{accepted-once, refused-once, told-apart}
 use Rattle.refusals.specs.declared.Reason.the-variants.{Length, Invalid, AboveLimit}
 use Rattle.refusals.specs.declared.Refusal.{Refusal}
 use Rattle.bits.specs.Bits.{Bit, bitsFrom}
@@ -27,7 +29,7 @@ use Rattle.h261_description.specs.Valid.{lengthsOf, valid}
 use Rattle.h261_writer.specs.declared.Written.{Written}
 use Rattle.h261_writer.specs.declared.Written.the-variants.{Bits, Refused}
 use Rattle.h261_writer.specs.Put.{appended, Wrote, Room}
-use Rattle.h261_writer.specs.Output.{written, filled, filledWithin, writeOf, leaves, outputOf}
+use Rattle.h261_writer.specs.Output.{written, filled, filledWithin, toldWritten, WrittenToldOnce, writeOf, leaves, outputOf}
 
 -- ---- the copy
 pub record CopiedSoFar (from : List ℕ) (count : ℕ) (before after : List ℕ) (i : ℕ) : Type 0 where
@@ -91,9 +93,9 @@ module _ (f : Format) (head macroblocks levels out : List ℕ) where
   abbrev d : Flat
   d = flat head macroblocks levels
 
-  abbrev answer : Bool → Bool → Bool → Bool → ℕ → Written
+  abbrev answer : Bool → Bool → Bool → Bool → ℕ → Told ℕ
   answer one fits good past count =
-      pick (both one fits) (pick good (pick past (Refused (refusal AboveLimit 0)) (Bits count)) (Refused (refusal Invalid 0))) (Refused (refusal Length 0))
+      pick (both one fits) (pick good (pick past (refused 32 0) (accepted count)) (refused 31 0)) (refused 1 0)
 
   abbrev one : Bool
   one = either (lengthsOf Qcif d) (lengthsOf Cif d)
@@ -108,34 +110,37 @@ module _ (f : Format) (head macroblocks levels out : List ℕ) where
   unfolding writeOf
   answer-is = refl
 
-  leaves-refused : (r : Refusal) → leaves out (written f d) (Refused r) ≡ out
+  leaves-refused : (n place : ℕ) → leaves out (written f d) (refused n place) ≡ out
   unfolding leaves
-  leaves-refused r = refl
+  leaves-refused n place = refl
 
-  leaves-bits : (n : ℕ) → leaves out (written f d) (Bits n) ≡ filled out (written f d)
+  leaves-bits : (n : ℕ) → leaves out (written f d) (accepted n) ≡ filled out (written f d)
   unfolding leaves
   leaves-bits n = refl
 
-  pub refuses : (r : Refusal) (w : Written) → w ≡ Refused r → Refused r ≡ writeOf f d (length out) → (w ≡ writeOf f d (length out)) × (out ≡ outputOf f d out)
-  refuses r w e a = (e ∙ a, sym (ap (leaves out (written f d)) (sym a) ∙ leaves-refused r))
+  pub refuses : (r : Refusal) (w : Written) → w ≡ Refused r → toldWritten (Refused r) ≡ writeOf f d (length out) → (toldWritten w ≡ writeOf f d (length out)) × (out ≡ outputOf f d out)
+  refuses r w e a = (ap toldWritten e ∙ a, sym (ap (leaves out (written f d)) (sym a) ∙ leaves-refused _ _))
 
   module _ (o : Bool) (oe : o ≡ one) where
-    pub short : o ≡ false → Refused (refusal Length 0) ≡ writeOf f d (length out)
+    pub short : o ≡ false → toldWritten (Refused (refusal Length 0)) ≡ writeOf f d (length out)
+    unfolding number
     short n = sym (answer-is ∙ ap (λ (b : Bool). answer b fits (valid f d) past (length (written f d))) (sym oe ∙ n))
 
     module _ (ot : o ≡ true) (m : ℕ) (me : m ≡ outputLength (sizeOf f)) where
-      pub unfit : (length out ≡ m → ⊥) → Refused (refusal Length 0) ≡ writeOf f d (length out)
+      pub unfit : (length out ≡ m → ⊥) → toldWritten (Refused (refusal Length 0)) ≡ writeOf f d (length out)
+      unfolding number
       unfit n = sym (answer-is ∙ (λ i. answer ((sym oe ∙ ot) i) (ne-eqb (length out) (outputLength (sizeOf f)) (λ x. n (x ∙ sym me)) i) (valid f d) past (length (written f d))))
 
       module _ (mt : length out ≡ m) (v : Bool) (ve : v ≡ valid f d) where
         fitting : fits ≡ true
         fitting = eq-eqb (length out) (outputLength (sizeOf f)) (mt ∙ me)
 
-        pub invalid : v ≡ false → Refused (refusal Invalid 0) ≡ writeOf f d (length out)
+        pub invalid : v ≡ false → toldWritten (Refused (refusal Invalid 0)) ≡ writeOf f d (length out)
+        unfolding number
         invalid n = sym (answer-is ∙ (λ i. answer ((sym oe ∙ ot) i) (fitting i) ((sym ve ∙ n) i) past (length (written f d))))
 
         module _ (vt : v ≡ true) (c : ℕ) (ce : c ≡ length (written f d)) (l : ℕ) (le : l ≡ limit (sizeOf f)) where
-          on : (b : Bool) → past ≡ b → writeOf f d (length out) ≡ pick b (Refused (refusal AboveLimit 0)) (Bits (length (written f d)))
+          on : (b : Bool) → past ≡ b → writeOf f d (length out) ≡ pick b (refused 32 0) (accepted (length (written f d)))
           on b e = answer-is ∙ (λ i. answer ((sym oe ∙ ot) i) (fitting i) ((sym ve ∙ vt) i) (e i) (length (written f d)))
 
           is-past : l < c → past ≡ true
@@ -145,14 +150,22 @@ module _ (f : Format) (head macroblocks levels out : List ℕ) where
           not-past h = le-ltb (limit (sizeOf f)) (length (written f d)) (omega arith)
 
           -- what `write_valid` leaves is what a picture of that many bits leaves
-          pub above : l < c → (w : Written) (u : List ℕ) → w ≡ Refused (refusal AboveLimit 0) → u ≡ filledWithin f d out → (w ≡ writeOf f d (length out)) × (u ≡ outputOf f d out)
-          above h w u a e = (a ∙ sym (on true (is-past h)), e ∙ rw (is-past h) (sym (ap (leaves out (written f d)) (on true (is-past h)) ∙ leaves-refused (refusal AboveLimit 0))))
+          pub above : l < c → (w : Written) (u : List ℕ) → w ≡ Refused (refusal AboveLimit 0) → u ≡ filledWithin f d out → (toldWritten w ≡ writeOf f d (length out)) × (u ≡ outputOf f d out)
+          unfolding number
+          above h w u a e = (ap toldWritten a ∙ sym (on true (is-past h)), e ∙ rw (is-past h) (sym (ap (leaves out (written f d)) (on true (is-past h)) ∙ leaves-refused 32 0)))
 
-          pub below : c ≤ l → (u : List ℕ) → u ≡ filledWithin f d out → (Bits c ≡ writeOf f d (length out)) × (u ≡ outputOf f d out)
+          pub below : c ≤ l → (u : List ℕ) → u ≡ filledWithin f d out → (toldWritten (Bits c) ≡ writeOf f d (length out)) × (u ≡ outputOf f d out)
           below h u e = (
-            ap Bits ce ∙ sym (on false (not-past h)),
+            ap accepted ce ∙ sym (on false (not-past h)),
             e ∙ rw (not-past h) (sym (ap (leaves out (written f d)) (on false (not-past h)) ∙ leaves-bits (length (written f d)))),
           )
+
+-- ---- an answer is one that is told as it is
+pub written-told-once : WrittenToldOnce
+written-told-once (Bits m) (Bits n) e = ap Bits (accepted-once e)
+written-told-once (Refused a) (Refused b) e = ap Refused (refused-once a b e)
+written-told-once (Bits m) (Refused b) e = absurd (told-apart e)
+written-told-once (Refused a) (Bits n) e = absurd (told-apart (sym e))
 
 -- ---- a valid description's bits, copied where they are not above the limit
 module _ (f : Format) (d : Flat) (out : List ℕ) {s t : List ℕ} {c : ℕ} (w : Wrote 3821856 (written f d) s 0 t c) {l : ℕ} (le : l ≡ limit (sizeOf f)) where

@@ -6,8 +6,7 @@ use mathlib.Core.List.{List, _++_}
 use lib.Dec.{ltb, eqb}
 use lib.ListN.{length, drop}
 use Rattle.laws.specs.Choice.{pick, both, either}
-use Rattle.refusals.specs.Number.{refusal}
-use Rattle.refusals.specs.declared.Reason.the-variants.{Length, Invalid, AboveLimit}
+use Rattle.refusals.specs.Told.{Told, accepted, refused, byTable}
 use Rattle.bits.specs.Bits.{Bit}
 use Rattle.bits.specs.Write.{started, bytesOf}
 use Rattle.h261_groups.specs.Format.{sizeOf}
@@ -25,18 +24,27 @@ use Rattle.h261_writer.specs.declared.Written.the-variants.{Bits, Refuse
 unfoldable pub written : Format → Flat → List Bit
 written f d = pictureOf f (pictureIn d)
 
--- "1: a lent buffer hasn't its named length": the three slices those of one format's description, the output its own of the opened format
+-- the named lengths: the three slices those of one format's description, the output its own of the opened format
 abbrev pub lengths : Format → Flat → ℕ → Bool
 lengths f d room = both (either (lengthsOf Qcif d) (lengthsOf Cif d)) (eqb room (outputLength (sizeOf f)))
 
--- 1, then 31, then 32; else the number of bits
-unfoldable pub writeOf : Format → Flat → ℕ → Written
+-- ---- what `write` answers: N, or the refusal's number and place
+abbrev pub toldWritten : Written → Told ℕ
+toldWritten (Bits n) = accepted n
+toldWritten (Refused why) = byTable refused why
+
+-- nothing of the answer is lost by that
+abbrev pub WrittenToldOnce : Type 0
+WrittenToldOnce = (a b : Written) → toldWritten a ≡ toldWritten b → a ≡ b
+
+-- 1: "a lent buffer hasn't its named length"; 31: "invalid description, or one of another format than opened"; 32: "written picture above the limit"
+unfoldable pub writeOf : Format → Flat → ℕ → Told ℕ
 writeOf f d room =
     pick (lengths f d room)
     (pick (valid f d)
-    (pick (ltb (limit (sizeOf f)) (length (written f d))) (Refused (refusal AboveLimit 0)) (Bits (length (written f d))))
-    (Refused (refusal Invalid 0)))
-    (Refused (refusal Length 0))
+    (pick (ltb (limit (sizeOf f)) (length (written f d))) (refused 32 0) (accepted (length (written f d))))
+    (refused 31 0))
+    (refused 1 0)
 
 -- "It fills the output's last started byte with zeros and touches nothing after."
 abbrev pub filled : List ℕ → List Bit → List ℕ
@@ -47,16 +55,16 @@ abbrev pub filledWithin : Format → Flat → List ℕ → List ℕ
 filledWithin f d out = pick (ltb (limit (sizeOf f)) (length (written f d))) out (filled out (written f d))
 
 -- a refusal touches nothing at all
-unfoldable pub leaves : List ℕ → List Bit → Written → List ℕ
-leaves out bits (Bits n) = filled out bits
-leaves out bits (Refused r) = out
+unfoldable pub leaves : List ℕ → List Bit → Told ℕ → List ℕ
+leaves out bits (accepted n) = filled out bits
+leaves out bits (refused n place) = out
 
 abbrev pub outputOf : Format → Flat → List ℕ → List ℕ
 outputOf f d out = leaves out (written f d) (writeOf f d (length out))
 
 -- what `write` promises of its answer, and of what it leaves in the output
 abbrev pub WriteSays : Format → Flat → List ℕ → Written → Type 0
-WriteSays f d out answer = answer ≡ writeOf f d (length out)
+WriteSays f d out answer = toldWritten answer ≡ writeOf f d (length out)
 
 abbrev pub WriteLeaves : Format → Flat → List ℕ → List ℕ → Type 0
 WriteLeaves f d out left = left ≡ outputOf f d out

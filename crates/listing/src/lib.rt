@@ -1,5 +1,7 @@
 // The vault lister's work but reading and writing: the clip that is listed, what each block comes to, and its line.
 use coding::Kind;
+use refusals::Reason;
+use refusals::Refusal;
 use standing::Answer;
 use standing::Opened;
 use standing::Receiver;
@@ -10,12 +12,12 @@ ghost use Prim.Native.Nat.{_+_, _≤_};
 ghost use lib.ListN.{length};
 ghost use Rattle.io.specs.Counts.{Counts};
 ghost use Rattle.coding.specs.Kind.{codingOf};
-ghost use Rattle.standing.specs.Answered.{said};
+ghost use Rattle.standing.specs.Answered.{toldOpened, said};
 ghost use Rattle.standing.specs.Receive.{buffers, step};
 ghost use Rattle.text.specs.Text.{over};
 ghost use Rattle.text.specs.Puts.{Puts};
 ghost use Rattle.listing.specs.Lines.{tickOf, placeText, pictureText, textOf, lineText, shortText, standingText};
-ghost use Rattle.listing.specs.Listed.{foundBy, came, stepped, listed as listedOf, endText};
+ghost use Rattle.listing.specs.Listed.{foundBy, unknownBy, came, stepped, listed as listedOf, endText};
 
 // The clip that is listed, once it is found.
 pub enum Clip {
@@ -30,9 +32,9 @@ pub struct Listed {
 
 // ---- what a block comes to
 
-// A receiver for the block's clip, or 21 or 22.
+// A receiver for the block's clip, or 1, 21 or 22.
 pub fn find(kind: Kind, block: &[u8]) -> Opened
-    ensures { λ r. ⌜ r ≡ foundBy kind (now (block .entry)) ⌝ }
+    ensures { λ r. ⌜ toldOpened r ≡ foundBy kind (now (block .entry)) ⌝ }
 {
     let size = coding::size_of(kind);
     match vault::check(size, block) {
@@ -48,7 +50,7 @@ fn go_on(
     first: &mut [u8],
     second: &mut [u8],
 ) -> Listed
-    ensures { λ r. ⌜ came r (now (collection .exit)) (now (first .exit)) (now (second .exit)) ≡ stepped (step codingOf receiver (now (block .entry)) (buffers (now (collection .entry)) (now (first .entry)) (now (second .entry)))) ⌝ }
+    ensures { λ r. ⌜ came r (buffers (now (collection .exit)) (now (first .exit)) (now (second .exit))) ≡ stepped (step codingOf receiver (now (block .entry)) (buffers (now (collection .entry)) (now (first .entry)) (now (second .entry)))) ⌝ }
 {
     let received = receiver::receive(receiver, block, collection, first, second);
     let answer = received.answer;
@@ -59,7 +61,17 @@ fn go_on(
     }
 }
 
-// A block comes: the answer, and the clip afterwards. The first good block opens its clip's receiver.
+// No clip is known by a refusal.
+fn refused(why: Refusal) -> Listed
+    ensures { λ r. ⌜ r ≡ unknownBy why ⌝ }
+{
+    Listed {
+        answer: Answer::Refused(why),
+        next: Clip::Unknown,
+    }
+}
+
+// A block comes: the answer, and the clip afterwards. The first good block opens its clip's receiver, unless a lent buffer hasn't its named length.
 pub fn list(
     kind: Kind,
     clip: Clip,
@@ -68,17 +80,24 @@ pub fn list(
     first: &mut [u8],
     second: &mut [u8],
 ) -> Listed
-    ensures { λ r. ⌜ came r (now (collection .exit)) (now (first .exit)) (now (second .exit)) ≡ listedOf kind clip (now (block .entry)) (buffers (now (collection .entry)) (now (first .entry)) (now (second .entry))) ⌝ }
+    ensures { λ r. ⌜ came r (buffers (now (collection .exit)) (now (first .exit)) (now (second .exit))) ≡ listedOf kind clip (now (block .entry)) (buffers (now (collection .entry)) (now (first .entry)) (now (second .entry))) ⌝ }
 {
     match clip {
         Clip::Known(receiver) => go_on(receiver, block, collection, first, second),
-        Clip::Unknown => match find(kind, block) {
-            Opened::Open(receiver) => go_on(receiver, block, collection, first, second),
-            Opened::Refused(why) => Listed {
-                answer: Answer::Refused(why),
-                next: Clip::Unknown,
-            },
-        },
+        Clip::Unknown => {
+            let size = coding::size_of(kind);
+            if standing::named(size, collection.len(), first.len(), second.len()) {
+                match find(kind, block) {
+                    Opened::Open(receiver) => go_on(receiver, block, collection, first, second),
+                    Opened::Refused(why) => refused(why),
+                }
+            } else {
+                refused(Refusal {
+                    reason: Reason::Length,
+                    place: 0,
+                })
+            }
+        }
     }
 }
 

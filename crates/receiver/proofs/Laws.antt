@@ -9,16 +9,14 @@ use lib.Dec.{eqb}
 use lib.ListN.{length}
 use Rattle.laws.specs.Choice.{pick, alike}
 use Rattle.laws.proofs.Choice.{two-of}
-use Rattle.refusals.specs.declared.Reason.the-variants.{UntrueMark}
-use Rattle.refusals.specs.Number.{refusal}
+use Rattle.refusals.specs.Told.{Told, accepted, refused}
 use Rattle.size.specs.declared.Size.{Size}
 use Rattle.size.specs.declared.Size.the-variants.{SubQcif, Qcif, Cif}
 use Rattle.size.specs.Size.{storeLength, collectionLength}
 use Rattle.coding.specs.declared.Kind.{Kind}
-use Rattle.coding.specs.Coding.{Found, accepted, refused, Coding}
+use Rattle.coding.specs.Coding.{Coding}
 use Rattle.coding.specs.Kind.{kindSize}
 use Rattle.vault.specs.declared.Header.{Header}
-use Rattle.vault.specs.declared.Checked.the-variants.{Good}
 use Rattle.vault.specs.Block.{greatestPart, judgeOf}
 use Rattle.vault.proofs.Judged.{Sound, judged-good, good-sound}
 use Rattle.vault.specs.Parts.{placed}
@@ -32,7 +30,7 @@ greatest Qcif part l = (omega arith, omega arith)
 greatest Cif part l = (omega arith, omega arith)
 
 pub ready : {size : Size} (kind : Kind) (clip : ℕ) (header : Header) (block collection first second : List ℕ) → size ≡ kindSize kind
-    → named size (length collection) (length first) (length second) ≡ true → judgeOf size clip block ≡ Good header → Ready kind header block collection first second
+    → named size (length collection) (length first) (length second) ≡ true → judgeOf size clip block ≡ accepted header → Ready kind header block collection first second
 ready {size} kind clip header block collection first second is l g =
     let sound : Sound size block header = good-sound size block header (judged-good size clip block header g .0) in
     let longs = two-of (eqb (length collection) (collectionLength size)) _ l in
@@ -54,12 +52,12 @@ ready {size} kind clip header block collection first second is l g =
 
 module _ {D : Type 0} (coding : Kind → Coding D) where
   -- a last part is collected, whatever is found
-  pub ended-collects : (r : Receiver) (header : Header) (block collection : List ℕ) (found : Found D)
+  pub ended-collects : (r : Receiver) (header : Header) (block collection : List ℕ) (found : Told D)
       → collected block collection (ended coding r header found) ≡ placed block (header .part) collection
   unfolding ended
-  ended-collects r header block collection (refused why) = refl
+  ended-collects r header block collection (refused n place) = refl
   ended-collects r header block collection (accepted d) = either-way (alike (coding (r .kind) .refresh d) (markOf (r .progress) header))
     where
-      either-way : (b : Bool) → collected block collection (pick b (finished header d) (failed header (refusal UntrueMark 0))) ≡ placed block (header .part) collection
+      either-way : (b : Bool) → collected block collection (pick b (finished header d) (failed header 24 0)) ≡ placed block (header .part) collection
       either-way true = refl
       either-way false = refl

@@ -14,11 +14,12 @@ use Rattle.vault.specs.declared.Header.{Header}
 use Rattle.standing.specs.Stores.{Stores}
 use Rattle.standing.specs.declared.Receiver.{Receiver}
 use Rattle.standing.specs.declared.Received.{Received}
-use Rattle.standing.specs.Receive.{Event, Buffers, Outcome, answerOf, advance, storedBy, received, step}
+use Rattle.standing.specs.Answered.{reply, toldReceived}
+use Rattle.standing.specs.Receive.{Event, Buffers, outcome, answerOf, advance, storedBy, step}
 
 -- what `receive` promises of a call: what it gives back and leaves in the buffers
-abbrev pub ReceiveDoes : Receiver → List ℕ → Buffers → Outcome → Type 0
-ReceiveDoes r block b x = x ≡ step codingOf r block b
+abbrev pub ReceiveDoes : Receiver → List ℕ → Buffers → Received → Buffers → Type 0
+ReceiveDoes r block b gave left = outcome gave left ≡ step codingOf r block b
 
 -- the header of a good block, and two stores of their named length
 pub record Fitting (kind : Kind) (header : Header) (first second : List ℕ) : Type 0 where
@@ -47,5 +48,5 @@ pub record Settleable (kind : Kind) (header : Header) (d : Flat) (first second :
 module _ {D : Type 0} (coding : Kind → Coding D) where
   -- what a last part gives back and leaves in the stores
   pub record Settles (r : Receiver) (s : Stores) (e : Event D) (x : Received) (t : Stores) : Type 0 where
-    pub gave : x ≡ received (answerOf e) (advance r e)
+    pub gave : toldReceived x ≡ reply (answerOf e) (advance r e)
     pub left : t ≡ storedBy coding r s e

@@ -9,7 +9,7 @@ use standing::Standing;
 use vault::Checked;
 use vault::Header;
 ghost use mathlib.Core.Path.{_≡_};
-ghost use Rattle.coding.specs.Coding.{accepted};
+ghost use Rattle.refusals.specs.Told.{accepted};
 ghost use Rattle.layout.specs.Flat.{flat};
 ghost use Rattle.coding.specs.Kind.{codingOf};
 ghost use Rattle.vault.specs.Parts.{placed};
@@ -117,7 +117,7 @@ fn collect(
     second: &mut [u8],
 ) -> Received
     requires { ⌜ Ready (receiver .kind) header (now block) (now collection) (now first) (now second) ⌝ }
-    ensures { λ r. ⌜ outcome r (now (collection .exit)) (now (first .exit)) (now (second .exit)) ≡ cameTo codingOf receiver (now (block .entry)) (buffers (now (collection .entry)) (now (first .entry)) (now (second .entry))) (tookOf codingOf receiver header standing (placed (now (block .entry)) (header .part) (now (collection .entry)))) ⌝ }
+    ensures { λ r. ⌜ outcome r (buffers (now (collection .exit)) (now (first .exit)) (now (second .exit))) ≡ cameTo codingOf receiver (now (block .entry)) (buffers (now (collection .entry)) (now (first .entry)) (now (second .entry))) (tookOf codingOf receiver header standing (placed (now (block .entry)) (header .part) (now (collection .entry)))) ⌝ }
 {
     let part = header.part;
     vault::place(block, part, collection);
@@ -137,7 +137,7 @@ fn act(
     second: &mut [u8],
 ) -> Received
     requires { ⌜ Ready (receiver .kind) header (now block) (now collection) (now first) (now second) ⌝ }
-    ensures { λ r. ⌜ outcome r (now (collection .exit)) (now (first .exit)) (now (second .exit)) ≡ cameTo codingOf receiver (now (block .entry)) (buffers (now (collection .entry)) (now (first .entry)) (now (second .entry))) (byLine codingOf (lineOf (receiver .progress) header) receiver header (now (block .entry)) (now (collection .entry))) ⌝ }
+    ensures { λ r. ⌜ outcome r (buffers (now (collection .exit)) (now (first .exit)) (now (second .exit))) ≡ cameTo codingOf receiver (now (block .entry)) (buffers (now (collection .entry)) (now (first .entry)) (now (second .entry))) (byLine codingOf (lineOf (receiver .progress) header) receiver header (now (block .entry)) (now (collection .entry))) ⌝ }
 {
     let progress = receiver.progress;
     let line = standing::first_line(progress, header);
@@ -168,7 +168,7 @@ pub fn receive(
     first: &mut [u8],
     second: &mut [u8],
 ) -> Received
-    ensures { λ r. ⌜ ReceiveDoes receiver (now (block .entry)) (buffers (now (collection .entry)) (now (first .entry)) (now (second .entry))) (outcome r (now (collection .exit)) (now (first .exit)) (now (second .exit))) ⌝ }
+    ensures { λ r. ⌜ ReceiveDoes receiver (now (block .entry)) (buffers (now (collection .entry)) (now (first .entry)) (now (second .entry))) r (buffers (now (collection .exit)) (now (first .exit)) (now (second .exit))) ⌝ }
 {
     let kind = receiver.kind;
     let clip = receiver.clip;

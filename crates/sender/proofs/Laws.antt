@@ -9,9 +9,7 @@ use lib.Dec.{eqb, leb, eqb→eq}
 use lib.ListN.{length, drop}
 use Rattle.laws.specs.Choice.{pick, both, either, opposite}
 use Rattle.laws.proofs.Choice.{both-left, both-right, true-T}
-use Rattle.refusals.specs.declared.Reason.{Reason}
-use Rattle.refusals.specs.declared.Reason.the-variants.{Length, AllSent, Invalid, NotRefresh, AboveLimit}
-use Rattle.refusals.specs.Number.{refusal}
+use Rattle.refusals.specs.Told.{accepted, refused}
 use Rattle.size.specs.declared.Size.{Size}
 use Rattle.size.specs.declared.Size.the-variants.{SubQcif, Qcif, Cif}
 use Rattle.size.specs.Size.{limit, storeLength, blocksLength}
@@ -23,10 +21,8 @@ use Rattle.vault.specs.Block.{pictures}
 use Rattle.vault.specs.Parts.{partCount, blocksOf}
 use Rattle.standing.specs.Stores.{Stores, reference, kept}
 use Rattle.sender.specs.declared.Sender.{Sender}
-use Rattle.sender.specs.declared.Sent.{Sent}
-use Rattle.sender.specs.Send.{Buffers, lengths, Judgement, sends, refuses, sent, Outcome, onward, judge, blocksSent, cameTo, step}
+use Rattle.sender.specs.Send.{Buffers, lengths, Judgement, sends, refuses, Reply, reply, Outcome, onward, judge, blocksSent, cameTo, step}
 use Rattle.sender.specs.Sending.{Encoded, Passed}
-use Rattle.sender.specs.declared.Answer.the-variants as A
 
 -- the output has room for the blocks of a picture that isn't above the limit
 room-for : (size : Size) (count room : ℕ) → count ≤ limit size → room ≡ blocksLength size → (count ≤ 262144) × (512 * partCount count ≤ room)
@@ -37,36 +33,36 @@ room-for Cif count room l e = (omega arith, omega arith)
 module _ {D : Type 0} (coding : Kind → Coding D) where
   module _ (s : Sender) (d : D) (b : Buffers) where
     -- ---- the judgements, in their order
-    pub unnamed : both (coding (s .kind) .named d) (lengths (kindSize (s .kind)) b) ≡ false → judge coding s d b ≡ refuses Length
+    pub unnamed : both (coding (s .kind) .named d) (lengths (kindSize (s .kind)) b) ≡ false → judge coding s d b ≡ refuses 1
     unfolding judge
     unnamed e = rw e
 
     module _ (n : both (coding (s .kind) .named d) (lengths (kindSize (s .kind)) b) ≡ true) where
-      pub all-sent : pictures ≤ s .picture → judge coding s d b ≡ refuses AllSent
+      pub all-sent : pictures ≤ s .picture → judge coding s d b ≡ refuses 34
       unfolding judge
       all-sent l = rw (n, le-ltb (s .picture) pictures l)
 
       module _ (p : s .picture < pictures) where
-        pub invalid : coding (s .kind) .valid d ≡ false → judge coding s d b ≡ refuses Invalid
+        pub invalid : coding (s .kind) .valid d ≡ false → judge coding s d b ≡ refuses 31
         unfolding judge
         invalid e = rw (n, lt-ltb (s .picture) pictures p, e)
 
         pub not-refresh : coding (s .kind) .valid d ≡ true → either (opposite (eqb (s .picture) 0)) (coding (s .kind) .refresh d) ≡ false
-            → judge coding s d b ≡ refuses NotRefresh
+            → judge coding s d b ≡ refuses 33
         unfolding judge
         not-refresh v e = rw (n, lt-ltb (s .picture) pictures p, v, e)
 
     module _ {refreshed : Bool} (p : Passed coding s refreshed d b) where
-      by-limit : judge coding s d b ≡ pick (leb (length (coding (s .kind) .written d)) (limit (kindSize (s .kind)))) sends (refuses AboveLimit)
+      by-limit : judge coding s d b ≡ pick (leb (length (coding (s .kind) .written d)) (limit (kindSize (s .kind)))) sends (refuses 32)
       unfolding judge
       by-limit =
           rw (p .named-is, lt-ltb (s .picture) pictures (p .counted), p .valid-is, ap (either (opposite (eqb (s .picture) 0))) (sym (p .refresh-is)) ∙ p .begins)
 
-      pub above : limit (kindSize (s .kind)) < length (coding (s .kind) .written d) → judge coding s d b ≡ refuses AboveLimit
-      above l = by-limit ∙ ap (λ (t : Bool). pick t sends (refuses AboveLimit)) (lt-leb (length (coding (s .kind) .written d)) (limit (kindSize (s .kind))) l)
+      pub above : limit (kindSize (s .kind)) < length (coding (s .kind) .written d) → judge coding s d b ≡ refuses 32
+      above l = by-limit ∙ ap (λ (t : Bool). pick t sends (refuses 32)) (lt-leb (length (coding (s .kind) .written d)) (limit (kindSize (s .kind))) l)
 
       pub below : length (coding (s .kind) .written d) ≤ limit (kindSize (s .kind)) → judge coding s d b ≡ sends
-      below l = by-limit ∙ ap (λ (t : Bool). pick t sends (refuses AboveLimit)) (le-leb (length (coding (s .kind) .written d)) (limit (kindSize (s .kind))) l)
+      below l = by-limit ∙ ap (λ (t : Bool). pick t sends (refuses 32)) (le-leb (length (coding (s .kind) .written d)) (limit (kindSize (s .kind))) l)
 
       -- what is written not above the limit
       pub encoded : {bytes : List ℕ} {count : ℕ} → count ≡ length (coding (s .kind) .written d) → count ≤ limit (kindSize (s .kind))
@@ -96,20 +92,20 @@ module _ {D : Type 0} (coding : Kind → Coding D) where
     unfolding step
     came e h = h ∙ sym (ap (cameTo coding s d b) e)
 
-    pub came-refused : {reason : Reason} {x : Sent} → x ≡ sent (A.Refused (refusal reason 0)) s → judge coding s d b ≡ refuses reason
+    pub came-refused : {n : ℕ} {x : Reply} → x ≡ reply (refused n 0) s → judge coding s d b ≡ refuses n
         → record { gave = x; left = b } ≡ step coding s d b
     unfolding cameTo
-    came-refused {reason} h e = came e (ap (λ (y : Sent). record { gave = y; left = b }) h)
+    came-refused h e = came e (ap (λ (y : Reply). record { gave = y; left = b }) h)
 
     -- the blocks in the output, the picture in a store, the next state
     pub came-sent : {refreshed : Bool} {bytes out : List ℕ} {count blocks : ℕ} {after : Stores} {next : Sender} → Encoded coding s refreshed d b bytes count
         → blocks ≡ partCount count → out ≡ blocksOf (s .clip) (s .picture) refreshed bytes count ++ drop (512 * partCount count) (b .out)
         → after ≡ kept (s .holder) (coding (s .kind) .render d (reference (s .holder) (b .both))) (b .both) → next ≡ onward s
-        → record { gave = sent (A.Blocks blocks) next; left = record { out = out; both = after } } ≡ cameTo coding s d b sends
+        → record { gave = reply (accepted blocks) next; left = record { out = out; both = after } } ≡ cameTo coding s d b sends
     unfolding cameTo blocksSent
     came-sent {refreshed} {bytes} {out} {count} {blocks} {after} {next} k n o w t =
         λ i. record {
-          gave = sent (A.Blocks ((n ∙ ap partCount (k .count-is)) i)) (t i);
+          gave = reply (accepted ((n ∙ ap partCount (k .count-is)) i)) (t i);
           left = record { out = (o ∙ as-sent) i; both = w i };
         }
       where

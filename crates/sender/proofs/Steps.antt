@@ -7,8 +7,7 @@ use native.Mathlib.Omega.{arith}
 use borrow.Author.Tests.{le-ltb}
 use lib.ListN.{length, take, drop}
 use lib.Seq.{take-at, length-take-le}
-use Rattle.refusals.specs.declared.Reason.the-variants.{AboveLimit}
-use Rattle.refusals.specs.Number.{refusal}
+use Rattle.refusals.specs.Told.{refused}
 use Rattle.bits.specs.Bits.{Bit}
 use Rattle.bits.specs.Write.{started}
 use Rattle.bits.proofs.Write.{length-bytesOf}
@@ -19,9 +18,7 @@ use Rattle.layout.specs.Flat.{Flat}
 use Rattle.coding.specs.Kind.{kindSize, codingOf}
 use Rattle.coding.specs.Described.{bytesIn, outputWith}
 use Rattle.sender.specs.declared.Sender.{Sender}
-use Rattle.sender.specs.declared.Sent.{Sent}
-use Rattle.sender.specs.declared.Answer.the-variants as A
-use Rattle.sender.specs.Send.{Buffers, sends, sent, Outcome, cameTo, step}
+use Rattle.sender.specs.Send.{Buffers, sends, Reply, reply, Outcome, cameTo, step}
 use Rattle.sender.specs.Sending.{Passed, Encoded}
 use Rattle.sender.proofs.Laws.{above, below, encoded, came, came-refused}
 
@@ -81,5 +78,5 @@ module _ {refreshed : Bool} {s : Sender} {d : Flat} {lent : Buffers} (p : Passed
     pub sent-comes : {x : Outcome} → x ≡ cameTo codingOf s d lent sends → x ≡ step codingOf s d lent
     sent-comes h = came codingOf s d lent (below codingOf s d lent p (subst (λ (n : ℕ). n ≤ limit (kindSize (s .kind))) counted within)) h
 
-  pub above-comes : most < count → {x : Sent} → x ≡ sent (A.Refused (refusal AboveLimit 0)) s → record { gave = x; left = lent } ≡ step codingOf s d lent
+  pub above-comes : most < count → {x : Reply} → x ≡ reply (refused 32 0) s → record { gave = x; left = lent } ≡ step codingOf s d lent
   above-comes l h = came-refused codingOf s d lent h (above codingOf s d lent p (subst (λ (n : ℕ). limit (kindSize (s .kind)) < n) counted (omega (arith, limited))))

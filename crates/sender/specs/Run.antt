@@ -6,9 +6,8 @@ use Rattle.coding.specs.declared.Kind.{Kind}
 use Rattle.coding.specs.Coding.{Coding}
 use Rattle.standing.specs.Stores.{Stores}
 use Rattle.sender.specs.declared.Sender.{Sender}
-use Rattle.sender.specs.declared.Answer.{Answer}
+use Rattle.refusals.specs.Told.{Told, accepted, refused}
 use Rattle.sender.specs.Send.{Outcome, step}
-use Rattle.sender.specs.declared.Answer.the-variants as A
 
 -- a call: a description, and what the lent output holds before it
 pub record Call (D : Type 0) : Type 0 where
@@ -26,9 +25,9 @@ cut zero out = []
 cut (suc n) out = take 512 out ∷ cut n (drop 512 out)
 
 -- the blocks that a call wrote: a refused one adds none
-abbrev pub added : Answer → List ℕ → List (List ℕ)
-added (A.Blocks n) out = cut n out
-added (A.Refused why) out = []
+abbrev pub added : Told ℕ → List ℕ → List (List ℕ)
+added (accepted n) out = cut n out
+added (refused n place) out = []
 
 module _ {D : Type 0} (coding : Kind → Coding D) where
   unfoldable pub called : World → Call D → Outcome

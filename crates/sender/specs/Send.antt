@@ -1,14 +1,14 @@
 -- Document 01: "The sender starts at picture 0, numbers on by one, writes a picture's blocks into 8,704 or 33,792 bytes (the rest untouched), and keeps its store by the
 -- rules above, in two lent ones used as the receiver's are. Picture 0 must be a refresh." Assumes nothing.
 use Prim.Native.Nat.{ℕ, _+_, _*_}
+use mathlib.Core.Path.{_≡_}
 use mathlib.Core.Bool.{Bool}
 use mathlib.Core.List.{List, _++_}
 use lib.Dec.{eqb, leb, ltb}
 use lib.ListN.{length, drop}
+use denote.Ref.{RefT}
 use Rattle.laws.specs.Choice.{pick, both, either, opposite}
-use Rattle.refusals.specs.declared.Reason.{Reason}
-use Rattle.refusals.specs.declared.Reason.the-variants.{Length, BlockField, AllSent, Invalid, NotRefresh, AboveLimit}
-use Rattle.refusals.specs.Number.{refusal, number}
+use Rattle.refusals.specs.Told.{Told, accepted, refused, byTable}
 use Rattle.size.specs.declared.Size.{Size}
 use Rattle.size.specs.Size.{limit, blocksLength}
 use Rattle.coding.specs.declared.Kind.{Kind}
@@ -18,7 +18,7 @@ use Rattle.coding.specs.Described.{bytesIn}
 use Rattle.vault.specs.Block.{pictures}
 use Rattle.vault.specs.Parts.{partCount, blocksOf}
 use Rattle.standing.specs.declared.Holder.the-variants.{Neither}
-use Rattle.standing.specs.Stores.{Stores, stores, sized, goesInto, reference, kept, shown}
+use Rattle.standing.specs.Stores.{Stores, stores, sized, goesInto, reference, kept, shown, HandsBack}
 use Rattle.sender.specs.declared.Sender.{Sender}
 use Rattle.sender.specs.declared.Opened.{Opened}
 use Rattle.sender.specs.declared.Answer.{Answer}
@@ -30,8 +30,13 @@ use Rattle.sender.specs.declared.Answer.the-variants as A
 abbrev pub fresh : ℕ → Kind → Sender
 fresh clip kind = record { clip = clip; kind = kind; picture = 0; holder = Neither }
 
-abbrev pub opened : ℕ → Kind → Opened
-opened clip kind = pick (eqb clip 0) (O.Refused (refusal BlockField 0)) (O.Open (fresh clip kind))
+abbrev pub opened : ℕ → Kind → Told Sender
+opened clip kind = pick (eqb clip 0) (refused 22 0) (accepted (fresh clip kind))
+
+-- a sender, or the refusal's number and place
+abbrev pub toldOpened : Opened → Told Sender
+toldOpened (O.Open sender) = accepted sender
+toldOpened (O.Refused why) = byTable refused why
 
 -- ---- the lent buffers but the description
 pub record Buffers : Type 0 where
@@ -45,19 +50,34 @@ abbrev pub lengths : Size → Buffers → Bool
 lengths size b = both (eqb (length (b .out)) (blocksLength size)) (sized size (length (b .both .first)) (length (b .both .second)))
 
 -- ---- what a description comes to
+-- the refusals by their numbers; their place is 0
 pub data Judgement : Type 0 where
   sends : Judgement
-  refuses : Reason → Judgement
+  refuses : ℕ → Judgement
 
-abbrev pub sent : Answer → Sender → Sent
-sent answer next = record { answer = answer; next = next }
+-- how many blocks were written, or the refusal's number and place
+abbrev pub toldAnswer : Answer → Told ℕ
+toldAnswer (A.Blocks n) = accepted n
+toldAnswer (A.Refused why) = byTable refused why
+
+-- with the state that a call gives back
+pub record Reply : Type 0 where
+  pub answer : Told ℕ
+  pub next : Sender
+
+abbrev pub reply : Told ℕ → Sender → Reply
+reply answer next = record { answer = answer; next = next }
+
+abbrev pub toldSent : Sent → Reply
+toldSent x = reply (toldAnswer (x .answer)) (x .next)
 
 pub record Outcome : Type 0 where
-  pub gave : Sent
+  pub gave : Reply
   pub left : Buffers
 
-abbrev pub outcome : Sent → List ℕ → List ℕ → List ℕ → Outcome
-outcome gave out first second = record { gave = gave; left = buffers out first second }
+-- of what the code gives back and leaves
+abbrev pub outcome : Sent → Buffers → Outcome
+outcome gave left = record { gave = toldSent gave; left = left }
 
 -- "numbers on by one"
 abbrev pub onward : Sender → Sender
@@ -77,8 +97,8 @@ module _ {D : Type 0} (coding : Kind → Coding D) where
       -- 33: "picture 0 not a refresh"
       (pick (either (opposite (eqb (s .picture) 0)) (c .refresh d))
       -- 32: "written picture above the limit"
-      (pick (leb (length (c .written d)) (limit (kindSize (s .kind)))) sends (refuses AboveLimit))
-      (refuses NotRefresh)) (refuses Invalid)) (refuses AllSent)) (refuses Length)
+      (pick (leb (length (c .written d)) (limit (kindSize (s .kind)))) sends (refuses 32))
+      (refuses 33)) (refuses 31)) (refuses 34)) (refuses 1)
 
   -- the blocks of the described picture, one after another
   unfoldable pub blocksSent : Sender → D → List ℕ
@@ -92,26 +112,31 @@ module _ {D : Type 0} (coding : Kind → Coding D) where
   -- "A refusal changes no buffer and no state"
   unfoldable pub cameTo : Sender → D → Buffers → Judgement → Outcome
   cameTo s d b sends = record {
-    gave = sent (A.Blocks (countSent s d)) (onward s);
+    gave = reply (accepted (countSent s d)) (onward s);
     left = record {
       out = blocksSent s d ++ drop (512 * countSent s d) (b .out);
       both = kept (s .holder) (coding (s .kind) .render d (reference (s .holder) (b .both))) (b .both);
     };
   }
-  cameTo s d b (refuses reason) = record { gave = sent (A.Refused (refusal reason 0)) s; left = b }
+  cameTo s d b (refuses n) = record { gave = reply (refused n 0) s; left = b }
 
   unfoldable pub step : Sender → D → Buffers → Outcome
   step s d b = cameTo s d b (judge s d b)
 
--- ---- document 01's number and values for each answer: how many blocks; the refusal's number and place
-pub data Said : Type 0 where
-  blocks : ℕ → Said
-  refused : ℕ → ℕ → Said
+-- ---- nothing of an answer is lost by what it is told as
+abbrev pub OpenedToldOnce : Type 0
+OpenedToldOnce = (a b : Opened) → toldOpened a ≡ toldOpened b → a ≡ b
 
-unfoldable pub said : Answer → Said
-said (A.Blocks n) = blocks n
-said (A.Refused why) = refused (number (why .reason)) (why .place)
+abbrev pub AnswerToldOnce : Type 0
+AnswerToldOnce = (a b : Answer) → toldAnswer a ≡ toldAnswer b → a ≡ b
+
+abbrev pub SentToldOnce : Type 0
+SentToldOnce = (a b : Sent) → toldSent a ≡ toldSent b → a ≡ b
 
 -- ---- the store of the last picture sent
 abbrev pub shownBy : Sender → Stores → List ℕ
 shownBy s both = shown (kindSize (s .kind)) (s .holder) both
+
+-- what `show` promises: the part that it hands back of the two lent stores; its bytes are `shownBy`
+abbrev pub ShowHands : Sender → RefT (List ℕ) → RefT (List ℕ) → RefT (List ℕ) → Type 0
+ShowHands s first second part = HandsBack (kindSize (s .kind)) (s .holder) first second part

@@ -15,11 +15,12 @@ use Rattle.coding.specs.Described.{bytesIn}
 use Rattle.vault.specs.Block.{pictures}
 use Rattle.vault.specs.Parts.{partCount}
 use Rattle.sender.specs.declared.Sender.{Sender}
-use Rattle.sender.specs.Send.{Buffers, lengths, Outcome, step}
+use Rattle.sender.specs.declared.Sent.{Sent}
+use Rattle.sender.specs.Send.{Buffers, lengths, outcome, step}
 
 -- what `send` promises of a call: what it gives back and leaves in the buffers
-abbrev pub SendDoes : Sender → Flat → Buffers → Outcome → Type 0
-SendDoes s d b x = x ≡ step codingOf s d b
+abbrev pub SendDoes : Sender → Flat → Buffers → Sent → Buffers → Type 0
+SendDoes s d b gave left = outcome gave left ≡ step codingOf s d b
 
 module _ {D : Type 0} (coding : Kind → Coding D) where
   -- judged by 1, 34, 31 and 33: only 32 is left

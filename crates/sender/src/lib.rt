@@ -8,14 +8,14 @@ ghost use Prim.Native.Nat.{_<_};
 ghost use lib.Dec.{eqb};
 ghost use lib.ListN.{length};
 ghost use Rattle.laws.specs.Choice.{both, either, opposite};
-ghost use Rattle.refusals.specs.Number.{refusal};
+ghost use Rattle.refusals.specs.Number.{number};
+ghost use Rattle.refusals.specs.Told.{refused};
 ghost use Rattle.size.specs.Size.{outputLength};
 ghost use Rattle.layout.specs.Flat.{flat};
 ghost use Rattle.coding.specs.Kind.{kindSize, codingOf};
 ghost use Rattle.vault.specs.Block.{pictures};
-ghost use Rattle.standing.specs.Stores.{stores};
 ghost use Rattle.sender.specs.Sending.{SendDoes, Passed, Encoded};
-ghost use Rattle.sender.specs.Send.{opened, buffers, lengths, sent, sends, onward, outcome, cameTo, shownBy};
+ghost use Rattle.sender.specs.Send.{opened, toldOpened, buffers, lengths, reply, toldSent, sends, onward, outcome, cameTo, ShowHands};
 
 pub struct Sender {
     pub clip: u16,
@@ -43,7 +43,7 @@ pub struct Sent {
 }
 
 pub fn open(clip: u16, kind: Kind) -> Opened
-    ensures { λ r. ⌜ r ≡ opened clip kind ⌝ }
+    ensures { λ r. ⌜ toldOpened r ≡ opened clip kind ⌝ }
 {
     if clip == 0 {
         return Opened::Refused(Refusal {
@@ -94,7 +94,7 @@ fn begins(picture: u32, refresh: bool) -> bool
 }
 
 fn refused(sender: Sender, reason: Reason) -> Sent
-    ensures { λ r. ⌜ r ≡ sent (Answer.Refused (refusal reason 0)) sender ⌝ }
+    ensures { λ r. ⌜ toldSent r ≡ reply (refused (number reason) 0) sender ⌝ }
 {
     Sent {
         answer: Answer::Refused(Refusal { reason, place: 0 }),
@@ -133,7 +133,7 @@ fn put(
     second: &mut [u8],
 ) -> Sent
     requires { ⌜ Encoded codingOf sender refresh (flat (now head) (now macroblocks) (now levels)) (buffers (now out) (now first) (now second)) (now bytes) count ⌝ }
-    ensures { λ r. ⌜ outcome r (now (out .exit)) (now (first .exit)) (now (second .exit)) ≡ cameTo codingOf sender (flat (now (head .entry)) (now (macroblocks .entry)) (now (levels .entry))) (buffers (now (out .entry)) (now (first .entry)) (now (second .entry))) sends ⌝ }
+    ensures { λ r. ⌜ outcome r (buffers (now (out .exit)) (now (first .exit)) (now (second .exit))) ≡ cameTo codingOf sender (flat (now (head .entry)) (now (macroblocks .entry)) (now (levels .entry))) (buffers (now (out .entry)) (now (first .entry)) (now (second .entry))) sends ⌝ }
 {
     let kind = sender.kind;
     let holder = sender.holder;
@@ -159,7 +159,7 @@ fn send_in(
     second: &mut [u8],
 ) -> Sent
     requires { ⌜ (Passed codingOf sender refresh (flat (now head) (now macroblocks) (now levels)) (buffers (now out) (now first) (now second))) × (length (now scratch) ≡ outputLength (kindSize (sender .kind))) ⌝ }
-    ensures { λ r. ⌜ SendDoes sender (flat (now (head .entry)) (now (macroblocks .entry)) (now (levels .entry))) (buffers (now (out .entry)) (now (first .entry)) (now (second .entry))) (outcome r (now (out .exit)) (now (first .exit)) (now (second .exit))) ⌝ }
+    ensures { λ r. ⌜ SendDoes sender (flat (now (head .entry)) (now (macroblocks .entry)) (now (levels .entry))) (buffers (now (out .entry)) (now (first .entry)) (now (second .entry))) r (buffers (now (out .exit)) (now (first .exit)) (now (second .exit))) ⌝ }
 {
     let kind = sender.kind;
     let count = coding::write(kind, head, macroblocks, levels, scratch);
@@ -192,7 +192,7 @@ pub fn send(
     first: &mut [u8],
     second: &mut [u8],
 ) -> Sent
-    ensures { λ r. ⌜ SendDoes sender (flat (now (head .entry)) (now (macroblocks .entry)) (now (levels .entry))) (buffers (now (out .entry)) (now (first .entry)) (now (second .entry))) (outcome r (now (out .exit)) (now (first .exit)) (now (second .exit))) ⌝ }
+    ensures { λ r. ⌜ SendDoes sender (flat (now (head .entry)) (now (macroblocks .entry)) (now (levels .entry))) (buffers (now (out .entry)) (now (first .entry)) (now (second .entry))) r (buffers (now (out .exit)) (now (first .exit)) (now (second .exit))) ⌝ }
 {
     let kind = sender.kind;
     if !named(kind, head, macroblocks, levels, out, first, second) {
@@ -226,7 +226,7 @@ pub fn send(
 
 // The store of the last picture sent, not copied; before the first, or where a store hasn't its named length, an empty part of the first.
 pub fn show<'a>(sender: Sender, first: &'a [u8], second: &'a [u8]) -> &'a [u8]
-    ensures { λ r. ⌜ now r ≡ shownBy sender (stores (now (first .entry)) (now (second .entry))) ⌝ }
+    ensures { λ r. ⌜ ShowHands sender (first .entry) (second .entry) r ⌝ }
 {
     let kind = sender.kind;
     let holder = sender.holder;

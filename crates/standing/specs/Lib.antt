@@ -1,5 +1,5 @@
 pub mod Stores
-pub mod Receive
 pub mod Answered
+pub mod Receive
 pub mod Shown
 pub mod Run

@@ -5,17 +5,14 @@ use mathlib.Core.List.{List}
 use lib.Dec.{eqb, ltb}
 use lib.ListN.{length}
 use Rattle.laws.specs.Choice.{pick, both, either, opposite, alike}
-use Rattle.refusals.specs.declared.Reason.the-variants.{UntrueMark, BlockField}
-use Rattle.refusals.specs.declared.Refusal.{Refusal}
-use Rattle.refusals.specs.Number.{refusal}
+use Rattle.refusals.specs.Told.{Told, accepted, refused}
 use Rattle.size.specs.declared.Size.{Size}
 use Rattle.size.specs.Size.{collectionLength}
 use Rattle.coding.specs.declared.Kind.{Kind}
-use Rattle.coding.specs.Coding.{Found, accepted, refused, Coding}
+use Rattle.coding.specs.Coding.{Coding}
 use Rattle.coding.specs.Kind.{kindSize}
 use Rattle.vault.specs.declared.Header.{Header}
-use Rattle.vault.specs.declared.Checked.{Checked}
-use Rattle.vault.specs.Block.{refusedBy, judgeOf}
+use Rattle.vault.specs.Block.{judgeOf}
 use Rattle.vault.specs.Parts.{placed}
 use Rattle.standing.specs.declared.Holder.{Holder}
 use Rattle.standing.specs.declared.Holder.the-variants.{Neither}
@@ -25,16 +22,12 @@ use Rattle.standing.specs.declared.Standing.{Standing}
 use Rattle.standing.specs.declared.Progress.{Progress}
 use Rattle.standing.specs.declared.Last.{Last}
 use Rattle.standing.specs.declared.Receiver.{Receiver}
-use Rattle.standing.specs.declared.Opened.{Opened}
 use Rattle.standing.specs.declared.Line.{Line}
 use Rattle.standing.specs.declared.Line.the-variants.{Earlier, Next, Anew, Otherwise}
-use Rattle.standing.specs.declared.Answer.{Answer}
 use Rattle.standing.specs.declared.Received.{Received}
-use Rattle.refusals.specs.declared.Reason.the-variants as R
-use Rattle.vault.specs.declared.Checked.the-variants as C
+use Rattle.standing.specs.Answered.{Said, Reply, reply, toldReceived}
 use Rattle.standing.specs.declared.Standing.the-variants as S
-use Rattle.standing.specs.declared.Opened.the-variants as O
-use Rattle.standing.specs.declared.Answer.the-variants as A
+use Rattle.standing.specs.Answered as A
 
 abbrev pub place : ℕ → ℕ → Place
 place picture part = record { picture = picture; part = part }
@@ -50,8 +43,8 @@ lastIn holder = record { holder = holder }
 abbrev pub fresh : ℕ → Kind → Receiver
 fresh clip kind = record { clip = clip; kind = kind; progress = progress (place 0 0) S.Lost false; last = lastIn Neither }
 
-abbrev pub opened : ℕ → Kind → Opened
-opened clip kind = pick (eqb clip 0) (O.Refused (refusal BlockField 0)) (O.Open (fresh clip kind))
+abbrev pub opened : ℕ → Kind → Told Receiver
+opened clip kind = pick (eqb clip 0) (refused 22 0) (accepted (fresh clip kind))
 
 -- ---- the four lines
 -- "Places compare by picture, then part."
@@ -79,13 +72,13 @@ lineOf p header =
     -- "3. Part 0 with refresh"; "4. Otherwise"
     (pick (both (eqb (header .part) 0) (header .refresh)) Anew Otherwise))
 
--- ---- what a block comes to. A finished picture is its header, which has its number and N (`countOf`), and its description
+-- ---- what a block comes to. A refusal is its number and its place; a finished picture is its header, which has its number and N (`countOf`), and its description
 pub data Event (D : Type 0) : Type 0 where
-  refusing : Refusal → Event D
+  refusing : ℕ → ℕ → Event D
   old : Header → Event D
   taken : Header → Standing → Event D
   lost : Event D
-  failed : Header → Refusal → Event D
+  failed : Header → ℕ → ℕ → Event D
   finished : Header → D → Event D
 
 -- N, by the last part: all parts before it have 4000 bits
@@ -112,14 +105,14 @@ abbrev pub lengths : Size → Buffers → Bool
 lengths size b = named size (length (b .collection)) (length (b .both .first)) (length (b .both .second))
 
 -- "Blocks: 1, 21, 22, 23."
-unfoldable pub judged : Receiver → List ℕ → Buffers → Checked
-judged r block b = pick (lengths (kindSize (r .kind)) b) (judgeOf (kindSize (r .kind)) (r .clip) block) (refusedBy R.Length)
+unfoldable pub judged : Receiver → List ℕ → Buffers → Told Header
+judged r block b = pick (lengths (kindSize (r .kind)) b) (judgeOf (kindSize (r .kind)) (r .clip) block) (refused 1 0)
 
 module _ {D : Type 0} (coding : Kind → Coding D) where
   -- "A last part is read at once". Refusal 24: "accepted picture, untrue refresh mark"
-  unfoldable pub ended : Receiver → Header → Found D → Event D
-  ended r header (accepted d) = pick (alike (coding (r .kind) .refresh d) (markOf (r .progress) header)) (finished header d) (failed header (refusal UntrueMark 0))
-  ended r header (refused why) = failed header why
+  unfoldable pub ended : Receiver → Header → Told D → Event D
+  ended r header (accepted d) = pick (alike (coding (r .kind) .refresh d) (markOf (r .progress) header)) (finished header d) (failed header 24 0)
+  ended r header (refused n place) = failed header n place
 
   -- a block that is taken, into this collection, while the receiver stands so
   unfoldable pub tookOf : Receiver → Header → Standing → List ℕ → Event D
@@ -133,9 +126,9 @@ module _ {D : Type 0} (coding : Kind → Coding D) where
   byLine Anew r header block collection = tookOf r header S.Catching (placed block (header .part) collection)
   byLine Otherwise r header block collection = lost
 
-  unfoldable pub byJudgement : Checked → Receiver → List ℕ → List ℕ → Event D
-  byJudgement (C.Good header) r block collection = byLine (lineOf (r .progress) header) r header block collection
-  byJudgement (C.Refused why) r block collection = refusing why
+  unfoldable pub byJudgement : Told Header → Receiver → List ℕ → List ℕ → Event D
+  byJudgement (accepted header) r block collection = byLine (lineOf (r .progress) header) r header block collection
+  byJudgement (refused n place) r block collection = refusing n place
 
   unfoldable pub decide : Receiver → List ℕ → Buffers → Event D
   decide r block b = byJudgement (judged r block b) r block (b .collection)
@@ -172,56 +165,54 @@ finishing r header = record {
 
 module _ {D : Type 0} where
   abbrev pub advance : Receiver → Event D → Receiver
-  advance r (refusing why) = r
+  advance r (refusing n place) = r
   advance r (old header) = r
   advance r (taken header standing) = withProgress r (taking (r .progress) header standing)
   advance r lost = withProgress r (losing (r .progress))
-  advance r (failed header why) = failing r header
+  advance r (failed header n place) = failing r header
   advance r (finished header d) = finishing r header
 
   -- ---- the answer
-  abbrev pub answerOf : Event D → Answer
-  answerOf (refusing why) = A.Refused why
-  answerOf (old header) = A.Old (header .picture) (header .part)
-  answerOf (taken header standing) = A.Taken (header .picture) (header .part)
-  answerOf lost = A.Lost
-  answerOf (failed header why) = A.Refused why
-  answerOf (finished header d) = A.Picture (header .picture)
+  abbrev pub answerOf : Event D → Said
+  answerOf (refusing n place) = A.refused n place
+  answerOf (old header) = A.old (header .picture) (header .part)
+  answerOf (taken header standing) = A.taken (header .picture) (header .part)
+  answerOf lost = A.lost
+  answerOf (failed header n place) = A.refused n place
+  answerOf (finished header d) = A.picture (header .picture)
 
   -- ---- the lent buffers
   -- "Taken copies 500 payload bytes to 500 times part in the collection buffer"; "a dropped collection's bytes stay as they lie"
   abbrev pub collected : List ℕ → List ℕ → Event D → List ℕ
-  collected block collection (refusing why) = collection
+  collected block collection (refusing n place) = collection
   collected block collection (old header) = collection
   collected block collection (taken header standing) = placed block (header .part) collection
   collected block collection lost = collection
-  collected block collection (failed header why) = placed block (header .part) collection
+  collected block collection (failed header n place) = placed block (header .part) collection
   collected block collection (finished header d) = placed block (header .part) collection
 
   -- "Old, taken and lost change no store"
   abbrev pub storedBy : (Kind → Coding D) → Receiver → Stores → Event D → Stores
-  storedBy coding r s (refusing why) = s
+  storedBy coding r s (refusing n place) = s
   storedBy coding r s (old header) = s
   storedBy coding r s (taken header standing) = s
   storedBy coding r s lost = s
-  storedBy coding r s (failed header why) = s
+  storedBy coding r s (failed header n place) = s
   storedBy coding r s (finished header d) = kept (r .last .holder) (coding (r .kind) .render d (reference (r .last .holder) s)) s
-
-abbrev pub received : Answer → Receiver → Received
-received answer next = record { answer = answer; next = next }
 
 -- ---- a call: what it gives back and leaves in the buffers
 pub record Outcome : Type 0 where
-  pub gave : Received
+  pub gave : Reply
   pub left : Buffers
 
-abbrev pub outcome : Received → List ℕ → List ℕ → List ℕ → Outcome
-outcome gave collection first second = record { gave = gave; left = buffers collection first second }
+-- of what the code gives back and leaves
+abbrev pub outcome : Received → Buffers → Outcome
+outcome gave left = record { gave = toldReceived gave; left = left }
 
 module _ {D : Type 0} (coding : Kind → Coding D) where
   unfoldable pub cameTo : Receiver → List ℕ → Buffers → Event D → Outcome
   cameTo r block b e = record {
-    gave = received (answerOf e) (advance r e);
+    gave = reply (answerOf e) (advance r e);
     left = record { collection = collected block (b .collection) e; both = storedBy coding r (b .both) e };
   }
 

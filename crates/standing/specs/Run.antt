@@ -5,7 +5,7 @@ use Rattle.coding.specs.declared.Kind.{Kind}
 use Rattle.standing.specs.declared.Receiver.{Receiver}
 use Rattle.coding.specs.Coding.{Coding}
 use Rattle.standing.specs.Receive.{Event, decide, Buffers, step}
-use Rattle.standing.specs.Answered.{Said, said}
+use Rattle.standing.specs.Answered.{Said}
 
 -- a receiver with what it is lent at each call: "each call .. gets the last state back .. and the same stores and collection buffer, untouched since"
 pub record World : Type 0 where
@@ -31,4 +31,4 @@ module _ {D : Type 0} (coding : Kind → Coding D) where
   -- and what is said of each
   unfoldable pub answers : World → List (List ℕ) → List Said
   answers w [] = []
-  answers w (block ∷ blocks) = said (step coding (w .receiver) block (w .lent) .gave .answer) ∷ answers (after w block) blocks
+  answers w (block ∷ blocks) = step coding (w .receiver) block (w .lent) .gave .answer ∷ answers (after w block) blocks

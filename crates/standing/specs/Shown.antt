@@ -3,17 +3,16 @@ use Prim.Native.Nat.{ℕ}
 use mathlib.Core.Bool.{Bool, false}
 use mathlib.Core.List.{List}
 use lib.Dec.{eqb}
+use denote.Ref.{RefT}
 use Rattle.laws.specs.Choice.{pick}
-use Rattle.refusals.specs.Number.{number}
 use Rattle.coding.specs.Kind.{kindSize}
 use Rattle.standing.specs.declared.Holder.{Holder}
 use Rattle.standing.specs.declared.Holder.the-variants.{Neither}
-use Rattle.standing.specs.Stores.{Stores, shown}
+use Rattle.standing.specs.Stores.{Stores, shown, HandsBack}
 use Rattle.standing.specs.declared.Standing.{Standing}
-use Rattle.standing.specs.declared.Answer.{Answer}
-use Rattle.standing.specs.declared.Received.{Received}
+use Rattle.standing.specs.Answered.{Said, Reply}
 use Rattle.standing.specs.declared.Standing.the-variants as S
-use Rattle.standing.specs.declared.Answer.the-variants as A
+use Rattle.standing.specs.Answered as A
 
 -- the store to show, by how the receiver stands
 abbrev pub whereShown : Standing → Holder → Holder
@@ -21,15 +20,20 @@ whereShown S.Lost holder = Neither
 whereShown S.Catching holder = Neither
 whereShown (S.InStep k) holder = holder
 
-abbrev pub refusedLength : Answer → Bool
-refusedLength (A.Old picture part) = false
-refusedLength (A.Taken picture part) = false
-refusedLength A.Lost = false
-refusedLength (A.Picture picture) = false
-refusedLength (A.Refused why) = eqb (number (why .reason)) 1
+-- "with refusal 1"
+abbrev pub refusedLength : Said → Bool
+refusedLength (A.old picture part) = false
+refusedLength (A.taken picture part) = false
+refusedLength A.lost = false
+refusedLength (A.picture picture) = false
+refusedLength (A.refused n place) = eqb n 1
 
-abbrev pub holderShown : Received → Holder
+abbrev pub holderShown : Reply → Holder
 holderShown x = pick (refusedLength (x .answer)) Neither (whereShown (x .next .progress .standing) (x .next .last .holder))
 
-unfoldable pub shownBy : Received → Stores → List ℕ
+unfoldable pub shownBy : Reply → Stores → List ℕ
 shownBy x s = shown (kindSize (x .next .kind)) (holderShown x) s
+
+-- what `show` promises: the part that it hands back of the two lent stores; its bytes are `shownBy`
+abbrev pub ShowHands : Reply → RefT (List ℕ) → RefT (List ℕ) → RefT (List ℕ) → Type 0
+ShowHands x first second part = HandsBack (kindSize (x .next .kind)) (holderShown x) first second part

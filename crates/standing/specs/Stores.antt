@@ -1,10 +1,12 @@
 -- The two lent stores of a receiver or a sender. Document 01: "A finished picture goes into the store that doesn't hold the last finished one, at first into the first
 -- store; the other is the reference." Assumes nothing.
 use Prim.Native.Nat.{ℕ}
+use mathlib.Core.Path.{_≡_}
 use mathlib.Core.Bool.{Bool}
 use mathlib.Core.List.{List, []}
 use lib.Dec.{eqb}
 use lib.ListN.{length}
+use denote.Ref.{RefT, ptr, now}
 use Rattle.laws.specs.Choice.{pick, both}
 use Rattle.size.specs.declared.Size.{Size}
 use Rattle.size.specs.Size.{storeLength}
@@ -46,6 +48,18 @@ last Neither s = []
 last First s = s .first
 last Second s = s .second
 
+-- where it begins
+abbrev pub startOf : {P : Type 0} → Holder → P → P → P
+startOf Neither first second = first
+startOf First first second = first
+startOf Second first second = second
+
 -- what is handed back of it: nothing where a store hasn't its named length
 abbrev pub shown : Size → Holder → Stores → List ℕ
 shown size holder s = pick (sized size (length (s .first)) (length (s .second))) (last holder s) []
+
+-- ---- "the picture to show is a part of one of the two lent stores, handed back and not copied; otherwise .. an empty part of the first"
+-- which part of them is handed back: where in memory it begins, and its bytes
+pub record HandsBack (size : Size) (holder : Holder) (first second part : RefT (List ℕ)) : Type 0 where
+  pub begins : ptr part ≡ pick (sized size (length (now first)) (length (now second))) (startOf holder (ptr first) (ptr second)) (ptr first)
+  pub bytes : now part ≡ shown size holder (stores (now first) (now second))

@@ -9,9 +9,11 @@ ghost use Prim.Native.Nat.{_<_, _≤_};
 ghost use lib.Dec.{eqb};
 ghost use Rattle.laws.specs.Choice.{both, opposite, alike};
 ghost use Rattle.refusals.specs.Number.{number};
-ghost use Rattle.standing.specs.Stores.{stores, sized as sizedOf, goesInto, shown};
-ghost use Rattle.standing.specs.Receive.{opened, earlier as earlierOf, same as sameOf, isLost, placeOf, lineOf, markOf, named as namedOf, losing, taking, ending, withProgress, failing, finishing, received as receivedOf};
-ghost use Rattle.standing.specs.Shown.{whereShown, refusedLength, shownBy};
+ghost use Rattle.refusals.specs.Told.{byTable};
+ghost use Rattle.standing.specs.Answered.{toldOpened, old, taken, lost, picture, refused, said, reply, toldReceived};
+ghost use Rattle.standing.specs.Stores.{sized as sizedOf, goesInto, HandsBack};
+ghost use Rattle.standing.specs.Receive.{opened, earlier as earlierOf, same as sameOf, isLost, placeOf, lineOf, markOf, named as namedOf, losing, taking, ending, withProgress, failing, finishing};
+ghost use Rattle.standing.specs.Shown.{whereShown, refusedLength, ShowHands};
 
 // Which store holds the last finished picture.
 pub enum Holder {
@@ -116,7 +118,7 @@ pub fn goes_into(holder: Holder) -> Holder
 
 // The store that holds the last finished picture, not copied; an empty part of the first where neither does, or where one hasn't its named length.
 pub fn store_shown<'a>(size: Size, holder: Holder, first: &'a [u8], second: &'a [u8]) -> &'a [u8]
-    ensures { λ r. ⌜ now r ≡ shown size holder (stores (now (first .entry)) (now (second .entry))) ⌝ }
+    ensures { λ r. ⌜ HandsBack size holder (first .entry) (second .entry) r ⌝ }
 {
     if sized(size, first.len(), second.len()) {
         match holder {
@@ -132,7 +134,7 @@ pub fn store_shown<'a>(size: Size, holder: Holder, first: &'a [u8], second: &'a 
 // ---- opening
 
 pub fn open(clip: u16, kind: Kind) -> Opened
-    ensures { λ r. ⌜ r ≡ opened clip kind ⌝ }
+    ensures { λ r. ⌜ toldOpened r ≡ opened clip kind ⌝ }
 {
     if clip == 0 {
         return Opened::Refused(Refusal {
@@ -310,7 +312,7 @@ fn with_progress(receiver: Receiver, progress: Progress) -> Receiver
 
 // A block that is refused.
 pub fn refuse(receiver: Receiver, why: Refusal) -> Received
-    ensures { λ r. ⌜ r ≡ receivedOf (Answer.Refused why) receiver ⌝ }
+    ensures { λ r. ⌜ toldReceived r ≡ reply (byTable refused why) receiver ⌝ }
 {
     Received {
         answer: Answer::Refused(why),
@@ -320,7 +322,7 @@ pub fn refuse(receiver: Receiver, why: Refusal) -> Received
 
 // "old, nothing changes"
 pub fn pass_over(receiver: Receiver, header: Header) -> Received
-    ensures { λ r. ⌜ r ≡ receivedOf (Answer.Old (header .picture) (header .part)) receiver ⌝ }
+    ensures { λ r. ⌜ toldReceived r ≡ reply (old (header .picture) (header .part)) receiver ⌝ }
 {
     Received {
         answer: Answer::Old(header.picture, header.part),
@@ -330,7 +332,7 @@ pub fn pass_over(receiver: Receiver, header: Header) -> Received
 
 // "lost, collection dropped, wanted place kept"
 pub fn lose(receiver: Receiver) -> Received
-    ensures { λ r. ⌜ r ≡ receivedOf Answer.Lost (withProgress receiver (losing (receiver .progress))) ⌝ }
+    ensures { λ r. ⌜ toldReceived r ≡ reply lost (withProgress receiver (losing (receiver .progress))) ⌝ }
 {
     let progress = receiver.progress;
     let wanted = progress.wanted;
@@ -352,7 +354,7 @@ pub fn lose(receiver: Receiver) -> Received
 // A part that isn't the last is taken.
 pub fn take(receiver: Receiver, header: Header, standing: Standing) -> Received
     requires { ⌜ header .part ≤ 65 ⌝ }
-    ensures { λ r. ⌜ r ≡ receivedOf (Answer.Taken (header .picture) (header .part)) (withProgress receiver (taking (receiver .progress) header standing)) ⌝ }
+    ensures { λ r. ⌜ toldReceived r ≡ reply (taken (header .picture) (header .part)) (withProgress receiver (taking (receiver .progress) header standing)) ⌝ }
 {
     let progress = receiver.progress;
     let ahead = next_part(progress, header, standing);
@@ -366,7 +368,7 @@ pub fn take(receiver: Receiver, header: Header, standing: Standing) -> Received
 // A last part, whose picture is refused: "refused means lost".
 pub fn fail(receiver: Receiver, header: Header, why: Refusal) -> Received
     requires { ⌜ header .picture < 4096 ⌝ }
-    ensures { λ r. ⌜ r ≡ receivedOf (Answer.Refused why) (failing receiver header) ⌝ }
+    ensures { λ r. ⌜ toldReceived r ≡ reply (byTable refused why) (failing receiver header) ⌝ }
 {
     let progress = receiver.progress;
     let onward = next_picture(progress, header, Standing::Lost);
@@ -380,7 +382,7 @@ pub fn fail(receiver: Receiver, header: Header, why: Refusal) -> Received
 // A last part, whose picture is accepted: "accepted means in step at that picture".
 pub fn succeed(receiver: Receiver, header: Header) -> Received
     requires { ⌜ header .picture < 4096 ⌝ }
-    ensures { λ r. ⌜ r ≡ receivedOf (Answer.Picture (header .picture)) (finishing receiver header) ⌝ }
+    ensures { λ r. ⌜ toldReceived r ≡ reply (picture (header .picture)) (finishing receiver header) ⌝ }
 {
     let kind = receiver.kind;
     let last = receiver.last;
@@ -421,7 +423,7 @@ fn is_length(reason: Reason) -> bool
 }
 
 fn refused_length(answer: Answer) -> bool
-    ensures { λ r. ⌜ r ≡ refusedLength answer ⌝ }
+    ensures { λ r. ⌜ r ≡ refusedLength (said answer) ⌝ }
 {
     match answer {
         Answer::Refused(why) => {
@@ -437,7 +439,7 @@ fn refused_length(answer: Answer) -> bool
 
 // The picture to show after a call, not copied: the store that holds picture k where the receiver is in step at k; else an empty part of the first.
 pub fn show<'a>(received: Received, first: &'a [u8], second: &'a [u8]) -> &'a [u8]
-    ensures { λ r. ⌜ now r ≡ shownBy received (stores (now (first .entry)) (now (second .entry))) ⌝ }
+    ensures { λ r. ⌜ ShowHands (toldReceived received) (first .entry) (second .entry) r ⌝ }
 {
     let answer = received.answer;
     let receiver = received.next;

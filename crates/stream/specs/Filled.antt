@@ -5,9 +5,7 @@ use mathlib.Core.Bool.{Bool}
 use mathlib.Core.List.{List}
 use lib.Dec.{leb}
 use Rattle.laws.specs.Choice.{pick, both}
-use Rattle.refusals.specs.declared.Refusal.{Refusal}
-use Rattle.refusals.specs.Number.{number}
-use Rattle.bits.specs.Read.{Read, got, refused, endless}
+use Rattle.refusals.specs.Told.{Told, accepted, refused}
 use Rattle.h261_groups.specs.declared.Format.{Format}
 use Rattle.h261_groups.specs.Format.{sizeOf}
 use Rattle.size.specs.Size.{limit}
@@ -19,22 +17,20 @@ abbrev pub countOf : Format → ℕ → ℕ → ℕ
 countOf f count ones = min count (max (limit (sizeOf f)) ones)
 
 -- a refusal of 3 to 13 among the zeros after the last one
-abbrev pub amongZeros : Refusal → ℕ → Bool
-amongZeros why ones = both (both (leb 3 (number (why .reason))) (leb (number (why .reason)) 13)) (leb ones (why .place))
+abbrev pub amongZeros : ℕ → ℕ → ℕ → Bool
+amongZeros n place ones = both (both (leb 3 n) (leb n 13)) (leb ones place)
 
 -- the picture without fill, or else the refusal of the picture with it
-abbrev pub orElse : Refusal → Read Flat → Read Flat
-orElse why (got d left at) = got d left at
-orElse why (refused other) = refused why
-orElse why endless = refused why
+abbrev pub orElse : ℕ → ℕ → Told Flat → Told Flat
+orElse n place (accepted d) = accepted d
+orElse n place (refused other elsewhere) = refused n place
 
-unfoldable pub unfilled : Format → List ℕ → ℕ → Flat → Refusal → Read Flat
-unfilled f bytes ones before why = pick (amongZeros why ones) (orElse why (readOf f bytes (why .place) before)) (refused why)
+unfoldable pub unfilled : Format → List ℕ → ℕ → Flat → ℕ → ℕ → Told Flat
+unfilled f bytes ones before n place = pick (amongZeros n place ones) (orElse n place (readOf f bytes place before)) (refused n place)
 
-abbrev pub byFirst : Format → List ℕ → ℕ → Flat → Read Flat → Read Flat
-byFirst f bytes ones before (got d left at) = got d left at
-byFirst f bytes ones before (refused why) = unfilled f bytes ones before why
-byFirst f bytes ones before endless = endless
+abbrev pub byFirst : Format → List ℕ → ℕ → Flat → Told Flat → Told Flat
+byFirst f bytes ones before (accepted d) = accepted d
+byFirst f bytes ones before (refused n place) = unfilled f bytes ones before n place
 
-unfoldable pub filled : Format → List ℕ → ℕ → ℕ → Flat → Read Flat
+unfoldable pub filled : Format → List ℕ → ℕ → ℕ → Flat → Told Flat
 filled f bytes count ones before = byFirst f bytes ones before (readOf f bytes (countOf f count ones) before)

@@ -6,8 +6,8 @@ ghost use mathlib.Core.Path.{_≡_};
 ghost use mathlib.Core.Bool.{Bool};
 ghost use Prim.Native.Nat.{min, max};
 ghost use Rattle.layout.specs.Flat.{flat};
-ghost use Rattle.h261_reader.specs.Described.{verdictOf};
-ghost use Rattle.h261_reader.specs.ReadOf.{flatAfter};
+ghost use Rattle.refusals.specs.Number.{number};
+ghost use Rattle.refusals.specs.Told.{toldVerdict, verdictOn, foundOr};
 ghost use Rattle.stream.specs.Stream.{bitNumber, oneMore, fresh, windowAfter, startsAt, offsetOf, begunBy, longerBy, after, beginning, extended, keptAfter};
 ghost use Rattle.stream.specs.Filled.{amongZeros, unfilled, filled};
 
@@ -181,7 +181,7 @@ fn larger(a: usize, b: usize) -> usize
 }
 
 fn among_zeros(why: Refusal, ones: usize) -> bool
-    ensures { λ r. ⌜ r ≡ amongZeros why ones ⌝ }
+    ensures { λ r. ⌜ r ≡ amongZeros (number (why .reason)) (why .place) ones ⌝ }
 {
     let reason = why.reason;
     let number = refusals::number_of(reason);
@@ -204,8 +204,8 @@ fn read_unfilled(
     macroblocks: &mut [u8],
     levels: &mut [u8],
 ) -> Verdict
-    ensures verdict { λ r. ⌜ r ≡ verdictOf (unfilled format (now (bytes .entry)) ones (flat (now (head .entry)) (now (macroblocks .entry)) (now (levels .entry))) why) ⌝ }
-    ensures buffers { λ _. ⌜ flat (now (head .exit)) (now (macroblocks .exit)) (now (levels .exit)) ≡ flatAfter (flat (now (head .entry)) (now (macroblocks .entry)) (now (levels .entry))) (unfilled format (now (bytes .entry)) ones (flat (now (head .entry)) (now (macroblocks .entry)) (now (levels .entry))) why) ⌝ }
+    ensures verdict { λ r. ⌜ toldVerdict r ≡ verdictOn (unfilled format (now (bytes .entry)) ones (flat (now (head .entry)) (now (macroblocks .entry)) (now (levels .entry))) (number (why .reason)) (why .place)) ⌝ }
+    ensures buffers { λ _. ⌜ flat (now (head .exit)) (now (macroblocks .exit)) (now (levels .exit)) ≡ foundOr (flat (now (head .entry)) (now (macroblocks .entry)) (now (levels .entry))) (unfilled format (now (bytes .entry)) ones (flat (now (head .entry)) (now (macroblocks .entry)) (now (levels .entry))) (number (why .reason)) (why .place)) ⌝ }
 {
     if !among_zeros(why, ones) {
         return Verdict::Refused(why);
@@ -227,8 +227,8 @@ pub fn read(
     macroblocks: &mut [u8],
     levels: &mut [u8],
 ) -> Verdict
-    ensures verdict { λ r. ⌜ r ≡ verdictOf (filled format (now (bytes .entry)) count ones (flat (now (head .entry)) (now (macroblocks .entry)) (now (levels .entry)))) ⌝ }
-    ensures buffers { λ _. ⌜ flat (now (head .exit)) (now (macroblocks .exit)) (now (levels .exit)) ≡ flatAfter (flat (now (head .entry)) (now (macroblocks .entry)) (now (levels .entry))) (filled format (now (bytes .entry)) count ones (flat (now (head .entry)) (now (macroblocks .entry)) (now (levels .entry)))) ⌝ }
+    ensures verdict { λ r. ⌜ toldVerdict r ≡ verdictOn (filled format (now (bytes .entry)) count ones (flat (now (head .entry)) (now (macroblocks .entry)) (now (levels .entry)))) ⌝ }
+    ensures buffers { λ _. ⌜ flat (now (head .exit)) (now (macroblocks .exit)) (now (levels .exit)) ≡ foundOr (flat (now (head .entry)) (now (macroblocks .entry)) (now (levels .entry))) (filled format (now (bytes .entry)) count ones (flat (now (head .entry)) (now (macroblocks .entry)) (now (levels .entry)))) ⌝ }
 {
     let most = larger(h261_groups::limit(format), ones);
     let first = smaller(count, most);

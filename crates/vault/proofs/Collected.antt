@@ -16,7 +16,7 @@ use Rattle.laws.proofs.Row.{getD-row, row-append}
 use Rattle.size.specs.declared.Size.{Size}
 use Rattle.size.specs.declared.Size.the-variants.{SubQcif, Qcif, Cif}
 use Rattle.size.specs.Size.{limit}
-use Rattle.vault.specs.declared.Checked.the-variants.{Good}
+use Rattle.refusals.specs.Told.{accepted}
 use Rattle.vault.specs.Block.{unused, clear, pictures, greatestPart, ruled, payloadOf, checkOf, judgeOf}
 use Rattle.vault.specs.Parts.{partCount, usedAt, keptByte, payloadAt, headerAt, blockAt, firstBlocks, placed}
 use Rattle.vault.proofs.Clear.{clear-all}
@@ -74,13 +74,13 @@ module _ (clip picture : ℕ) (refresh : Bool) (bytes : List ℕ) (count : ℕ) 
         same j l = omega (arith, started count part (p .part-is))
 
     -- judged good, with its own header
-    at-good : checkOf size (blockAt clip picture refresh bytes count part) ≡ Good (headerAt clip picture refresh count part)
+    at-good : checkOf size (blockAt clip picture refresh bytes count part) ≡ accepted (headerAt clip picture refresh count part)
     unfolding blockAt
     at-good =
         made-good size (headerAt clip picture refresh count part) (payloadAt bytes count part) (payload-length bytes count part) header-ruled
         payload-clear
 
-    judged-good-at : judgeOf size clip (blockAt clip picture refresh bytes count part) ≡ Good (headerAt clip picture refresh count part)
+    judged-good-at : judgeOf size clip (blockAt clip picture refresh bytes count part) ≡ accepted (headerAt clip picture refresh count part)
     judged-good-at =
         good-judged size (blockAt clip picture refresh bytes count part) (headerAt clip picture refresh count part) at-good
 

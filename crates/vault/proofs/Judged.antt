@@ -13,13 +13,12 @@ use Rattle.laws.specs.Choice.{pick, both, either}
 use Rattle.laws.proofs.Choice.{two-of, if-so}
 use Rattle.laws.proofs.Splice.{getD-past}
 use Rattle.size.specs.declared.Size.{Size}
-use Rattle.refusals.specs.declared.Reason.{Reason}
-use Rattle.refusals.specs.declared.Refusal.{Refusal}
-use Rattle.refusals.specs.Number.{refusal}
+use Rattle.refusals.specs.Told.{Told, accepted, refused}
+use Rattle.refusals.proofs.Told.{accepted-once, told-apart, refused-once}
 use Rattle.vault.specs.declared.Header.{Header}
 use Rattle.vault.specs.declared.Checked.{Checked}
 use Rattle.vault.specs.declared.Checked.the-variants.{Good, Refused}
-use Rattle.vault.specs.Block.{twoBytes, pairAt, headerOf, payloadOf, zerosOf, checkSumOf, marksOf, pictures, greatestPart, clipRule, pictureRule, partRule, refreshRule, usedRule, ruled, clear, follows, sumOf, refusedBy, checkOf, ofClip, judgeOf, bit, headBytes, bodyFor, blockFor}
+use Rattle.vault.specs.Block.{twoBytes, pairAt, headerOf, payloadOf, zerosOf, checkSumOf, marksOf, pictures, greatestPart, clipRule, pictureRule, partRule, refreshRule, usedRule, ruled, clear, follows, sumOf, toldChecked, CheckedToldOnce, checkOf, ofClip, judgeOf, bit, headBytes, bodyFor, blockFor}
 use Rattle.vault.proofs.Made.{before-zeros, body-length, block-length, sum-body}
 
 -- ---- a block that was made
@@ -86,16 +85,16 @@ module _ (header : Header) (payload : List ℕ) (e : length payload ≡ 500) whe
 
 -- every test passed
 passed : (size : Size) (block : List ℕ) (header : Header) → length block ≡ 512 → sumOf block ≡ checkSumOf block → follows size block ≡ true
-    → headerOf block ≡ header → checkOf size block ≡ Good header
+    → headerOf block ≡ header → checkOf size block ≡ accepted header
 unfolding checkOf
-passed size block header l s f h = rw (eq-eqb (length block) 512 l, eq-eqb (sumOf block) (checkSumOf block) s, f) (ap Good h)
+passed size block header l s f h = rw (eq-eqb (length block) 512 l, eq-eqb (sumOf block) (checkSumOf block) s, f) (ap accepted h)
 
 pub both-true : {a b : Bool} → a ≡ true → b ≡ true → both a b ≡ true
 both-true p q = rw p q
 
 -- a block of a header within the rules and a clear payload is good, and its header is that one
 pub made-good : (size : Size) (header : Header) (payload : List ℕ) → length payload ≡ 500 → ruled size header ≡ true
-    → clear (header .used) payload 500 ≡ true → checkOf size (blockFor header payload) ≡ Good header
+    → clear (header .used) payload 500 ≡ true → checkOf size (blockFor header payload) ≡ accepted header
 unfolding follows
 made-good size header payload e r k =
     passed size (blockFor header payload) header (block-length header payload e) (made-sum header payload e) rules (made-header header payload e)
@@ -123,16 +122,10 @@ unless : (a b : Bool) → either a b ≡ true → a ≡ false → b ≡ true
 unless true b e f = absurd (false≢true (sym f))
 unless false b e f = e
 
-never : (refusal : Refusal) (header : Header) → Refused refusal ≡ Good header → ⊥
-never refusal header e = let z : _≡_ {A = ℕ} 0 1 = cc in omega arith
-
 -- a test whose failure refuses
-good-of : (t : Bool) (x : Checked) (reason : Reason) (header : Header) → pick t x (refusedBy reason) ≡ Good header → (t ≡ true) × (x ≡ Good header)
-good-of true x reason header e = (refl, e)
-good-of false x reason header e = absurd (never (refusal reason 0) header e)
-
-good-inside : (g h : Header) → Good g ≡ Good h → g ≡ h
-good-inside g h e = cc
+good-of : (t : Bool) (x : Told Header) (n : ℕ) (header : Header) → pick t x (refused n 0) ≡ accepted header → (t ≡ true) × (x ≡ accepted header)
+good-of true x n header e = (refl, e)
+good-of false x n header e = absurd (told-apart (sym e))
 
 rules-of : (size : Size) (block : List ℕ) (header : Header) → length block ≡ 512 → headerOf block ≡ header → ruled size header ≡ true
     → Sound size block header
@@ -156,30 +149,37 @@ rules-of size block header l h r =
       used-full = λ m. eqb-true (header .used) 4000 (unless (header .last) (eqb (header .used) 4000) (most .1) m);
     }
 
-pub good-sound : (size : Size) (block : List ℕ) (header : Header) → checkOf size block ≡ Good header → Sound size block header
+pub good-sound : (size : Size) (block : List ℕ) (header : Header) → checkOf size block ≡ accepted header → Sound size block header
 unfolding checkOf follows
 good-sound size block header e =
     let long = good-of (eqb (length block) 512) _ _ header e in
     let sum = good-of (eqb (sumOf block) (checkSumOf block)) _ _ header (long .1) in
     let rules = good-of (follows size block) _ _ header (sum .1) in
-    let same = good-inside (headerOf block) header (rules .1) in
+    let same = accepted-once (rules .1) in
     rules-of size block header (eqb-true (length block) 512 (long .0)) same
     (ap (ruled size) (sym same) ∙ two-of (ruled size (headerOf block)) _ (rules .0) .0)
 
 -- ---- of one clip
-own-clip : (clip : ℕ) (found : Checked) (header : Header) → ofClip clip found ≡ Good header → (found ≡ Good header) × (header .clip ≡ clip)
-own-clip clip (Good found) header e =
-    let same = good-of (eqb (found .clip) clip) (Good found) _ header e in
-    (same .1, sym (ap (λ (h : Header). h .clip) (good-inside found header (same .1))) ∙ eqb-true (found .clip) clip (same .0))
-own-clip clip (Refused refusal) header e = absurd (never refusal header e)
+own-clip : (clip : ℕ) (found : Told Header) (header : Header) → ofClip clip found ≡ accepted header → (found ≡ accepted header) × (header .clip ≡ clip)
+own-clip clip (accepted found) header e =
+    let same = good-of (eqb (found .clip) clip) (accepted found) _ header e in
+    (same .1, sym (ap (λ (h : Header). h .clip) (accepted-once (same .1))) ∙ eqb-true (found .clip) clip (same .0))
+own-clip clip (refused n place) header e = absurd (told-apart (sym e))
 
-pub judged-good : (size : Size) (clip : ℕ) (block : List ℕ) (header : Header) → judgeOf size clip block ≡ Good header
-    → (checkOf size block ≡ Good header) × (header .clip ≡ clip)
+pub judged-good : (size : Size) (clip : ℕ) (block : List ℕ) (header : Header) → judgeOf size clip block ≡ accepted header
+    → (checkOf size block ≡ accepted header) × (header .clip ≡ clip)
 unfolding judgeOf
 judged-good size clip block header e = own-clip clip (checkOf size block) header e
 
-pub good-judged : (size : Size) (block : List ℕ) (header : Header) → checkOf size block ≡ Good header
-    → judgeOf size (header .clip) block ≡ Good header
+pub good-judged : (size : Size) (block : List ℕ) (header : Header) → checkOf size block ≡ accepted header
+    → judgeOf size (header .clip) block ≡ accepted header
 unfolding judgeOf
 good-judged size block header e =
     ap (ofClip (header .clip)) e ∙ rw (eq-eqb (header .clip) (header .clip) refl)
+
+-- ---- an answer is one that is told as it is
+pub checked-told-once : CheckedToldOnce
+checked-told-once (Good g) (Good h) e = ap Good (accepted-once e)
+checked-told-once (Refused a) (Refused b) e = ap Refused (refused-once a b e)
+checked-told-once (Good g) (Refused b) e = absurd (told-apart e)
+checked-told-once (Refused a) (Good h) e = absurd (told-apart (sym e))

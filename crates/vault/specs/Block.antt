@@ -1,6 +1,7 @@
 -- Document 01, "A block of 512 bytes": its fields and their rules, the check sum, judging a block and making one. A block is its list of bytes.
 -- Assumes nothing.
 use Prim.Native.Nat.{ℕ, zero, suc, _+_, _-_, _*_, _/_, _%_, _^_, min}
+use mathlib.Core.Path.{_≡_}
 use mathlib.Core.Bool.{Bool, true, false}
 use mathlib.Core.List.{List, [], _∷_, _++_}
 use lib.ListN.{length, getD, take, drop}
@@ -8,9 +9,7 @@ use lib.Dec.{eqb, leb, ltb}
 use Rattle.laws.specs.Choice.{pick, both, either, opposite}
 use Rattle.size.specs.declared.Size.{Size}
 use Rattle.size.specs.declared.Size.the-variants.{SubQcif, Qcif, Cif}
-use Rattle.refusals.specs.declared.Reason.{Reason}
-use Rattle.refusals.specs.declared.Reason.the-variants.{Length, BlockCheck, BlockField, OtherClip}
-use Rattle.refusals.specs.Number.{refusal}
+use Rattle.refusals.specs.Told.{Told, accepted, refused, byTable}
 use Rattle.vault.specs.declared.Header.{Header}
 use Rattle.vault.specs.declared.Checked.{Checked}
 use Rattle.vault.specs.declared.Checked.the-variants.{Good, Refused}
@@ -130,21 +129,29 @@ abbrev pub sumOf : List ℕ → ℕ
 sumOf block = weighted block 510 % 65521
 
 -- ---- judging: "Blocks: 1, 21, 22, 23."
-abbrev pub refusedBy : Reason → Checked
-refusedBy reason = Refused (refusal reason 0)
+-- what is answered: the header, or the refusal's number and place
+abbrev pub toldChecked : Checked → Told Header
+toldChecked (Good header) = accepted header
+toldChecked (Refused why) = byTable refused why
 
-unfoldable pub checkOf : Size → List ℕ → Checked
+-- nothing of the answer is lost by that
+abbrev pub CheckedToldOnce : Type 0
+CheckedToldOnce = (a b : Checked) → toldChecked a ≡ toldChecked b → a ≡ b
+
+-- 1: "a lent buffer hasn't its named length"; 21: "block check wrong"; 22: "block field against its rule"
+unfoldable pub checkOf : Size → List ℕ → Told Header
 checkOf size block =
     pick (eqb (length block) 512)
     (pick (eqb (sumOf block) (checkSumOf block))
-    (pick (follows size block) (Good (headerOf block)) (refusedBy BlockField)) (refusedBy BlockCheck)) (refusedBy Length)
+    (pick (follows size block) (accepted (headerOf block)) (refused 22 0)) (refused 21 0)) (refused 1 0)
 
-abbrev pub ofClip : ℕ → Checked → Checked
-ofClip clip (Good header) = pick (eqb (header .clip) clip) (Good header) (refusedBy OtherClip)
-ofClip clip (Refused refusal) = Refused refusal
+-- 23: "another clip's block"
+abbrev pub ofClip : ℕ → Told Header → Told Header
+ofClip clip (accepted header) = pick (eqb (header .clip) clip) (accepted header) (refused 23 0)
+ofClip clip (refused n place) = refused n place
 
 -- the same for a receiver of one clip
-unfoldable pub judgeOf : Size → ℕ → List ℕ → Checked
+unfoldable pub judgeOf : Size → ℕ → List ℕ → Told Header
 judgeOf size clip block = ofClip clip (checkOf size block)
 
 -- ---- making a block of a header and a payload

@@ -7,7 +7,7 @@ use lib.ListN.{length, getD, take}
 use Rattle.laws.specs.Row.{row}
 use Rattle.size.specs.declared.Size.{Size}
 use Rattle.size.specs.Size.{limit}
-use Rattle.vault.specs.declared.Checked.the-variants.{Good}
+use Rattle.refusals.specs.Told.{accepted}
 use Rattle.vault.specs.Block.{pictures, unused, judgeOf}
 use Rattle.vault.specs.Parts.{partCount, keptByte, headerAt, blockAt}
 
@@ -20,7 +20,7 @@ pub record Part (size : Size) (clip picture count part : ℕ) : Type 0 where
 
 abbrev pub BlocksJudged : Type 0
 BlocksJudged = (clip picture : ℕ) (refresh : Bool) (bytes : List ℕ) (count : ℕ) (size : Size) (part : ℕ) → Part size clip picture count part
-    → judgeOf size clip (blockAt clip picture refresh bytes count part) ≡ Good (headerAt clip picture refresh count part)
+    → judgeOf size clip (blockAt clip picture refresh bytes count part) ≡ accepted (headerAt clip picture refresh count part)
 
 -- ---- what a receiver has collected
 -- the payloads of the first n parts stand at the start of a collection

@@ -9,7 +9,8 @@ ghost use lib.Dec.{eqb};
 ghost use lib.ListN.{length, drop};
 ghost use lib.Seq.{sets, paste};
 ghost use Rattle.laws.specs.Choice.{both};
-ghost use Rattle.vault.specs.Block.{pairAt, pictureOf, headerOf, pictures, greatestPart, refreshRule, usedRule, ruled as ruledOf, unused, clear, payloadOf, follows as followsOf, sumOf, refusedBy, checkOf, judgeOf, marksFor, headBytes, twoBytes, blockFor};
+ghost use Rattle.refusals.specs.Number.{refusal};
+ghost use Rattle.vault.specs.Block.{pairAt, pictureOf, headerOf, pictures, greatestPart, refreshRule, usedRule, ruled as ruledOf, unused, clear, payloadOf, follows as followsOf, sumOf, toldChecked, checkOf, judgeOf, marksFor, headBytes, twoBytes, blockFor};
 ghost use Rattle.vault.specs.Parts.{partCount, usedAt, keptByte, payloadAt, headerAt, blocksOf, PartIn, PayloadRoom, BlocksRoom, placed};
 
 // What a block says before its payload.
@@ -181,14 +182,14 @@ fn follows(size: Size, header: Header, block: &[u8]) -> bool
 // ---- judging a block
 
 fn refused(reason: Reason) -> Checked
-    ensures { λ r. ⌜ r ≡ refusedBy reason ⌝ }
+    ensures { λ r. ⌜ r ≡ Checked.Refused (refusal reason 0) ⌝ }
 {
     Checked::Refused(Refusal { reason, place: 0 })
 }
 
 // 1, 21, 22, or the block's header.
 pub fn check(size: Size, block: &[u8]) -> Checked
-    ensures { λ r. ⌜ r ≡ checkOf size (now (block .entry)) ⌝ }
+    ensures { λ r. ⌜ toldChecked r ≡ checkOf size (now (block .entry)) ⌝ }
 {
     if block.len() != 512 {
         return refused(Reason::Length);
@@ -207,7 +208,7 @@ pub fn check(size: Size, block: &[u8]) -> Checked
 
 // 1, 21, 22, 23, or the header of a block of this clip.
 pub fn judge(size: Size, clip: u16, block: &[u8]) -> Checked
-    ensures { λ r. ⌜ r ≡ judgeOf size clip (now (block .entry)) ⌝ }
+    ensures { λ r. ⌜ toldChecked r ≡ judgeOf size clip (now (block .entry)) ⌝ }
 {
     match check(size, block) {
         Checked::Good(header) => {

@@ -7,13 +7,12 @@ use native.Mathlib.Omega.{arith}
 use lib.Dec.{eqb}
 use lib.ListN.{length}
 use Rattle.laws.specs.Choice.{pick, both}
-use Rattle.refusals.specs.declared.Reason.the-variants.{Length}
+use Rattle.refusals.specs.Told.{Told, accepted, refused}
 use Rattle.coding.specs.declared.Kind.{Kind}
 use Rattle.coding.specs.Kind.{kindSize}
 use Rattle.size.specs.Size.{storeLength, collectionLength}
 use Rattle.vault.specs.declared.Header.{Header}
-use Rattle.vault.specs.declared.Checked.{Checked}
-use Rattle.vault.specs.Block.{judgeOf, refusedBy}
+use Rattle.vault.specs.Block.{judgeOf}
 use Rattle.vault.specs.Parts.{placed}
 use Rattle.standing.specs.declared.Holder.{Holder}
 use Rattle.standing.specs.Stores.{reference}
@@ -21,16 +20,15 @@ use Rattle.standing.specs.declared.Receiver.{Receiver}
 use Rattle.standing.specs.declared.Standing.{Standing}
 use Rattle.standing.specs.declared.Line.{Line}
 use Rattle.standing.specs.declared.Line.the-variants.{Earlier, Next, Anew, Otherwise}
-use Rattle.coding.specs.Coding.{Found, accepted, refused, Coding}
+use Rattle.coding.specs.Coding.{Coding}
 use Rattle.standing.specs.Receive.{lastIn, lineOf, Event, refusing, old, taken, lost, failed, finished, countOf, Buffers, lengths, judged, ended, tookOf, byLine, byJudgement, decide, answerOf, Outcome, cameTo, step}
 use Rattle.standing.specs.Run.{World}
 use Rattle.demand3.specs.Clip.{afterBlock, given}
 use Rattle.demand3.proofs.Finished.{bothSized, kept-sized}
 use Rattle.demand3.proofs.Calls.{Within, decide-within, Heads}
 use Rattle.wrong.specs.Renumbering.{renumbering, renumbered}
-use Rattle.vault.specs.declared.Checked.the-variants as C
 use Rattle.standing.specs.declared.Standing.the-variants as T
-use Rattle.standing.specs.declared.Answer.the-variants as A
+use Rattle.standing.specs.Answered as A
 
 abbrev world : Outcome → World
 world x = record { receiver = x .gave .next; lent = x .left }
@@ -52,10 +50,10 @@ module _ {D : Type 0} (coding : Kind → Coding D) (long : (kind : Kind) (d : D)
     abbrev other : Receiver
     other = holding r h
 
-    ended-same : (header : Header) (found : Found D) → ended coding other header found ≡ ended coding r header found
+    ended-same : (header : Header) (found : Told D) → ended coding other header found ≡ ended coding r header found
     unfolding ended
     ended-same header (accepted d) = refl
-    ended-same header (refused why) = refl
+    ended-same header (refused n place) = refl
 
     took-same : (header : Header) (standing : Standing) (collection : List ℕ) → tookOf coding other header standing collection ≡ tookOf coding r header standing collection
     unfolding tookOf
@@ -68,32 +66,32 @@ module _ {D : Type 0} (coding : Kind → Coding D) (long : (kind : Kind) (d : D)
     line-same Anew header block collection = took-same header T.Catching (placed block (header .part) collection)
     line-same Otherwise header block collection = refl
 
-    judged-same : (c : Checked) (block collection : List ℕ) → byJudgement coding c other block collection ≡ byJudgement coding c r block collection
+    judged-same : (c : Told Header) (block collection : List ℕ) → byJudgement coding c other block collection ≡ byJudgement coding c r block collection
     unfolding byJudgement lineOf
-    judged-same (C.Good header) block collection = line-same (lineOf (r .progress) header) header block collection
-    judged-same (C.Refused why) block collection = refl
+    judged-same (accepted header) block collection = line-same (lineOf (r .progress) header) header block collection
+    judged-same (refused n place) block collection = refl
 
     decide-same : (block : List ℕ) (b c : Buffers) → c .collection ≡ b .collection → lengths (kindSize (r .kind)) c ≡ lengths (kindSize (r .kind)) b → decide coding other block c ≡ decide coding r block b
     unfolding decide judged
     decide-same block b c e l =
-        (λ i. byJudgement coding (pick (l i) (judgeOf (kindSize (r .kind)) (r .clip) block) (refusedBy Length)) other block (e i))
-        ∙ judged-same (pick (lengths (kindSize (r .kind)) b) (judgeOf (kindSize (r .kind)) (r .clip) block) (refusedBy Length)) block (b .collection)
+        (λ i. byJudgement coding (pick (l i) (judgeOf (kindSize (r .kind)) (r .clip) block) (refused 1 0)) other block (e i))
+        ∙ judged-same (pick (lengths (kindSize (r .kind)) b) (judgeOf (kindSize (r .kind)) (r .clip) block) (refused 1 0)) block (b .collection)
 
     -- ---- and leaves them beside each other
     module _ (block : List ℕ) (b c : Buffers) (k : c .collection ≡ b .collection) (s : bothSized (kindSize (r .kind)) (b .both) ≡ true) (t : bothSized (kindSize (r .kind)) (c .both) ≡ true) where
       beside-event : (e : Event D) → Beside (world (cameTo coding r block b e)) (world (renumbered (answerOf e) other c (cameTo coding other block c e)))
       unfolding cameTo
-      beside-event (refusing why) = record { same = refl; collection-is = k; sized = s; also-sized = t }
+      beside-event (refusing n place) = record { same = refl; collection-is = k; sized = s; also-sized = t }
       beside-event (old header) = record { same = refl; collection-is = k; sized = s; also-sized = t }
       beside-event (taken header standing) = record { same = refl; collection-is = ap (placed block (header .part)) k; sized = s; also-sized = t }
       beside-event lost = record { same = refl; collection-is = k; sized = s; also-sized = t }
-      beside-event (failed header why) = record { same = refl; collection-is = ap (placed block (header .part)) k; sized = s; also-sized = t }
+      beside-event (failed header n place) = record { same = refl; collection-is = ap (placed block (header .part)) k; sized = s; also-sized = t }
       beside-event (finished header d) = go (header .picture)
         where
           drawn : bothSized (kindSize (r .kind)) (cameTo coding r block b (finished header d) .left .both) ≡ true
           drawn = kept-sized (kindSize (r .kind)) (r .last .holder) (coding (r .kind) .render d (reference (r .last .holder) (b .both))) (b .both) (long (r .kind) d (reference (r .last .holder) (b .both))) s
 
-          go : (n : ℕ) → Beside (world (cameTo coding r block b (finished header d))) (world (renumbered (A.Picture n) other c (cameTo coding other block c (finished header d))))
+          go : (n : ℕ) → Beside (world (cameTo coding r block b (finished header d))) (world (renumbered (A.picture n) other c (cameTo coding other block c (finished header d))))
           go zero = record {
             same = refl;
             collection-is = ap (placed block (header .part)) k;
@@ -136,14 +134,14 @@ pub record Still (v w : World) : Type 0 where
 module _ {D : Type 0} (coding : Kind → Coding D) where
   ours-event : (kind : Kind) (clip : ℕ) (r : Receiver) (block : List ℕ) (b : Buffers) (e : Event D) → Ours kind clip r → Ours kind clip (renumbered (answerOf e) r b (cameTo coding r block b e) .gave .next)
   unfolding cameTo
-  ours-event kind clip r block b (refusing why) o = record { clip-is = o .clip-is; kind-is = o .kind-is }
+  ours-event kind clip r block b (refusing n place) o = record { clip-is = o .clip-is; kind-is = o .kind-is }
   ours-event kind clip r block b (old h) o = record { clip-is = o .clip-is; kind-is = o .kind-is }
   ours-event kind clip r block b (taken h standing) o = record { clip-is = o .clip-is; kind-is = o .kind-is }
   ours-event kind clip r block b lost o = record { clip-is = o .clip-is; kind-is = o .kind-is }
-  ours-event kind clip r block b (failed h why) o = record { clip-is = o .clip-is; kind-is = o .kind-is }
+  ours-event kind clip r block b (failed h n place) o = record { clip-is = o .clip-is; kind-is = o .kind-is }
   ours-event kind clip r block b (finished h d) o = go (h .picture)
     where
-      go : (n : ℕ) → Ours kind clip (renumbered (A.Picture n) r b (cameTo coding r block b (finished h d)) .gave .next)
+      go : (n : ℕ) → Ours kind clip (renumbered (A.picture n) r b (cameTo coding r block b (finished h d)) .gave .next)
       go zero = record { clip-is = o .clip-is; kind-is = o .kind-is }
       go (suc n) = record { clip-is = o .clip-is; kind-is = o .kind-is }
 
@@ -155,15 +153,15 @@ module _ {D : Type 0} (coding : Kind → Coding D) where
       → Still v (record { receiver = r; lent = b })
       → (let x = renumbered (answerOf e) r b (cameTo coding r block b e) in Still v (record { receiver = x .gave .next; lent = x .left }))
   unfolding cameTo
-  still-event v r block b (refusing why) header k i p s = record { clip-is = s .clip-is; kind-is = s .kind-is; last-is = s .last-is; both-is = s .both-is }
+  still-event v r block b (refusing n place) header k i p s = record { clip-is = s .clip-is; kind-is = s .kind-is; last-is = s .last-is; both-is = s .both-is }
   still-event v r block b (old h) header k i p s = record { clip-is = s .clip-is; kind-is = s .kind-is; last-is = s .last-is; both-is = s .both-is }
   still-event v r block b (taken h standing) header k i p s = record { clip-is = s .clip-is; kind-is = s .kind-is; last-is = s .last-is; both-is = s .both-is }
   still-event v r block b lost header k i p s = record { clip-is = s .clip-is; kind-is = s .kind-is; last-is = s .last-is; both-is = s .both-is }
-  still-event v r block b (failed h why) header k i p s = record { clip-is = s .clip-is; kind-is = s .kind-is; last-is = s .last-is; both-is = s .both-is }
+  still-event v r block b (failed h n place) header k i p s = record { clip-is = s .clip-is; kind-is = s .kind-is; last-is = s .last-is; both-is = s .both-is }
   still-event v r block b (finished h d) header k i p s = go (h .picture) (ap (λ (g : Header). g .picture) i ∙ p)
     where
       go : (n : ℕ) → n ≡ suc k
-          → (let x = renumbered (A.Picture n) r b (cameTo coding r block b (finished h d)) in Still v (record { receiver = x .gave .next; lent = x .left }))
+          → (let x = renumbered (A.picture n) r b (cameTo coding r block b (finished h d)) in Still v (record { receiver = x .gave .next; lent = x .left }))
       go zero e = absurd (omega arith)
       go (suc n) e = record { clip-is = s .clip-is; kind-is = s .kind-is; last-is = s .last-is; both-is = s .both-is }
 

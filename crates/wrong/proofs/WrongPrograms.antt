@@ -9,6 +9,8 @@ use lib.Seq.{take-take}
 use lib.ListN.{length, take, replicate, getD, length-replicate, getD-replicate}
 use Rattle.laws.proofs.Zeros.{zeros, length-zeros}
 use Rattle.refusals.specs.declared.Reason.the-variants.{BitsEnd}
+use Rattle.refusals.specs.Told.{accepted}
+use Rattle.refusals.proofs.Told.{told-apart}
 use Rattle.bits.specs.Bits.{Bit, bitsIn}
 use Rattle.bits.specs.Code.{longer, lookup, word}
 use Rattle.bits.specs.Write.{bytesOf, byteFrom}
@@ -25,14 +27,12 @@ use Rattle.fields.specs.Rules.{sparesFrom, spares}
 use Rattle.h261_layers.specs.Grammar.{mba, macroblocksFrom, groupHead, group, groupsRead, header, picture, reading}
 use Rattle.h261_reader.proofs.Verdicts.{accepted-valid, accepted-described}
 use Rattle.h261_reader.specs.Described.{described}
-use Rattle.h261_writer.specs.declared.Written.the-variants.{Bits}
 use Rattle.h261_writer.specs.Write.{macroblocksOf, groupOf, groupsOf, pictureOf}
 use Rattle.h261_writer.specs.Output.{written, writeOf, outputOf}
 use Rattle.bits.specs.Write.{Holds}
 use Rattle.demand2.proofs.WrittenBack.{writes, written-held, written-back}
 use Rattle.sheet.specs.Sheet.{picture1, bytes1, P1}
 use Rattle.sheet.proofs.Sheet.{shown}
-use Rattle.demand2.proofs.Demand2.{refused-accepted}
 use Rattle.wrong.specs.WrongPrograms.{first, short, RefusingWrong, FixedWrong, FixedSamplesWrong, FirstForAllWrong, RefusingAllWrong, OneShortWrong}
 use Rattle.demand2.specs.Demand2.{Follows}
 
@@ -53,9 +53,9 @@ unfolding grey
 grey-first k = getD-replicate (storeLength (sizeOf Qcif)) 0 k 0 (lit< tt)
 
 pub refusing-wrong : RefusingWrong
-refusing-wrong why h =
+refusing-wrong number place h =
     let a = h .then H261Qcif bytes1 110 (grey 0) (grey-long 0) first-follows in
-    refused-accepted (why H261Qcif bytes1 110) (a .store) (a .is)
+    told-apart (sym (a .is))
 
 nothing-refused : reading Qcif [] 0 ≡ bad BitsEnd 0
 unfolding reading picture header fieldFrom bitsIn
@@ -104,8 +104,8 @@ first-long = ap length first-bits ∙ shown P1 .0
 pub first-below : length (written Qcif first) ≤ limit (sizeOf Qcif)
 first-below = let e : length (written Qcif first) ≡ 110 = first-long in omega arith
 
-first-written : (out : List ℕ) → length out ≡ outputLength (sizeOf Qcif) → writeOf Qcif first (length out) ≡ Bits 110
-first-written out e = writes Qcif first out first-valid first-below e ∙ ap Bits first-long
+first-written : (out : List ℕ) → length out ≡ outputLength (sizeOf Qcif) → writeOf Qcif first (length out) ≡ accepted 110
+first-written out e = writes Qcif first out first-valid first-below e ∙ ap accepted first-long
 
 -- an output of its length
 abbrev outputBefore : List ℕ
@@ -127,7 +127,7 @@ first-for-all-wrong h =
     got-same a b e = cc
 
 pub refusing-all-wrong : RefusingAllWrong
-refusing-all-wrong why h = h .else Qcif first outputBefore (why Qcif first) first-valid first-below output-long refl
+refusing-all-wrong number place h = h .else Qcif first outputBefore (number Qcif first) (place Qcif first) first-valid first-below output-long refl
 
 -- P2, out of any bytes that hold P1's bits first
 short-bits : picture Qcif (take 109 (pictureOf Qcif picture1)) 0 ≡ bad BitsEnd 109
@@ -145,7 +145,7 @@ cut-short s held =
 
 pub one-short-wrong : OneShortWrong
 one-short-wrong h =
-    let e : writeOf Qcif first (length outputBefore) ≡ Bits 110 = first-written outputBefore output-long in
+    let e : writeOf Qcif first (length outputBefore) ≡ accepted 110 = first-written outputBefore output-long in
     let again = h .back Qcif first outputBefore 109 first-valid output-long (ap short e) in
     let held = written-held Qcif first outputBefore 110 e in
     never (sym (cut-short (outputOf Qcif first outputBefore) held) ∙ again)

@@ -32,7 +32,8 @@ use Rattle.standing.specs.declared.Holder.the-variants.{Neither}
 use Rattle.standing.specs.Stores.{shown}
 use Rattle.standing.specs.declared.Receiver.{Receiver}
 use Rattle.standing.specs.declared.Standing.{Standing}
-use Rattle.standing.specs.Receive.{fresh, Event, refusing, old, taken, lost, failed, finished, markOf, Buffers, decide, losing, withProgress, answerOf, received, Outcome, cameTo, step}
+use Rattle.standing.specs.Answered.{reply}
+use Rattle.standing.specs.Receive.{fresh, Event, refusing, old, taken, lost, failed, finished, markOf, Buffers, decide, losing, withProgress, answerOf, Outcome, cameTo, step}
 use Rattle.standing.specs.Shown.{whereShown, refusedLength, shownBy}
 use Rattle.standing.specs.Run.{World}
 use Rattle.demand3.specs.Clip.{Picture, Clip, opening, picturesIn, blocksIn, begin, Receive, Show, afterBlock, given, upon, Shows, Right}
@@ -53,7 +54,7 @@ use Rattle.wrong.proofs.Example.{blank-sized, newcomer, newcomer-named,
 use Rattle.demand3.proofs.Calls.{Every, every-all, every-append, each-of, given-append, always, Ends, ends, Within, decide-within, Heads, every-head}
 use Rattle.wrong.specs.WrongReceivers.{onlyRefresh, marked, IdleWrong, LostWrong, NeverInStepWrong, OnlyRefreshWrong, RenumberingWrong}
 use Rattle.standing.specs.declared.Standing.the-variants as T
-use Rattle.standing.specs.declared.Answer.the-variants as A
+use Rattle.standing.specs.Answered as A
 
 -- ---- a fully INTRA picture, which can be sent
 abbrev start : Flat
@@ -253,7 +254,7 @@ module _ {D : Type 0} (coding : Kind → Coding D) where
   before-event : (kind : Kind) (clip : ℕ) (r : Receiver) (block : List ℕ) (b : Buffers) (e : Event D) (header : Header) → Within coding r header e → Unmarked header → Before kind clip r
       → Before kind clip (marked (answerOf e) r b (cameTo coding r block b e) .gave .next)
   unfolding cameTo
-  before-event kind clip r block b (refusing why) header i u s = record { clip-is = s .clip-is; kind-is = s .kind-is; not-yet = s .not-yet }
+  before-event kind clip r block b (refusing n place) header i u s = record { clip-is = s .clip-is; kind-is = s .kind-is; not-yet = s .not-yet }
   before-event kind clip r block b (old h) header i u s = record { clip-is = s .clip-is; kind-is = s .kind-is; not-yet = s .not-yet }
   before-event kind clip r block b (taken h standing) header i u s = record { clip-is = s .clip-is; kind-is = s .kind-is; not-yet = go i }
     where
@@ -261,11 +262,11 @@ module _ {D : Type 0} (coding : Kind → Coding D) where
       go (inl e) q = s .not-yet (sym e ∙ q)
       go (inr e) q = catching-in-step 1 (sym e ∙ q)
   before-event kind clip r block b lost header i u s = record { clip-is = s .clip-is; kind-is = s .kind-is; not-yet = lost-in-step 1 }
-  before-event kind clip r block b (failed h why) header i u s = record { clip-is = s .clip-is; kind-is = s .kind-is; not-yet = lost-in-step 1 }
+  before-event kind clip r block b (failed h n place) header i u s = record { clip-is = s .clip-is; kind-is = s .kind-is; not-yet = lost-in-step 1 }
   before-event kind clip r block b (finished h d) header i u s = go (markOf (r .progress) h) refl (subst Unmarked (sym i) u)
     where
       go : (t : Bool) → markOf (r .progress) h ≡ t → Unmarked h
-          → Before kind clip (pick t (cameTo coding r block b (finished h d)) (record { gave = received A.Lost (withProgress r (losing (r .progress))); left = b }) .gave .next)
+          → Before kind clip (pick t (cameTo coding r block b (finished h d)) (record { gave = reply A.lost (withProgress r (losing (r .progress))); left = b }) .gave .next)
       go false e n = record { clip-is = s .clip-is; kind-is = s .kind-is; not-yet = lost-in-step 1 }
       go true e (inl z) = record { clip-is = s .clip-is; kind-is = s .kind-is; not-yet = λ q. first z (in-step-same (h .picture) 1 q) }
         where

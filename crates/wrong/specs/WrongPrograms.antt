@@ -3,25 +3,22 @@ use Prim.Native.Nat.{ℕ, _-_}
 use mathlib.Core.Path.{_≡_}
 use mathlib.Core.List.{List}
 use lib.ListN.{length}
-use Rattle.refusals.specs.declared.Refusal.{Refusal}
+use Rattle.refusals.specs.Told.{Told, accepted, refused}
 use Rattle.h261_groups.specs.declared.Format.{Format}
 use Rattle.h261_groups.specs.declared.Format.the-variants.{Qcif}
 use Rattle.layout.specs.Flat.{Flat}
 use Rattle.h261_description.specs.Value.{laid}
 use Rattle.coding.specs.declared.Kind.{Kind}
-use Rattle.coding.specs.Coding.{accepted, refused}
-use Rattle.h261_writer.specs.declared.Written.{Written}
-use Rattle.h261_writer.specs.declared.Written.the-variants.{Bits, Refused}
 use Rattle.h261_writer.specs.Output.{writeOf, outputOf}
 use Rattle.sheet.specs.Sheet.{picture1}
 use Rattle.demand2.specs.Demand2.{RefusedExactly, EverySample, AcceptedExactly, Writer, Follows, write, Decoder, ReadsBack}
 
 -- ---- wrong: "a reader that refuses everything"
-abbrev pub refusing : (Kind → List ℕ → ℕ → Refusal) → Decoder
-refusing why k bytes n reference = refused (why k bytes n)
+abbrev pub refusing : (Kind → List ℕ → ℕ → ℕ) → (Kind → List ℕ → ℕ → ℕ) → Decoder
+refusing number place k bytes n reference = refused (number k bytes n) (place k bytes n)
 
 abbrev pub RefusingWrong : Type 0
-RefusingWrong = (why : Kind → List ℕ → ℕ → Refusal) → AcceptedExactly (refusing why) → ⊥
+RefusingWrong = (number place : Kind → List ℕ → ℕ → ℕ) → AcceptedExactly (refusing number place) → ⊥
 
 -- ---- wrong: one that "returns one fixed picture": whatever it is asked, or for all that it rightly accepts
 abbrev pub fixed : List ℕ → Decoder
@@ -47,16 +44,16 @@ abbrev pub FirstForAllWrong : Type 0
 FirstForAllWrong = ReadsBack firstForAll → ⊥
 
 -- ---- wrong: one that "refuses all"
-abbrev pub refusingAll : (Format → Flat → Refusal) → Writer
-refusingAll why f d out = record { answer = Refused (why f d); output = out }
+abbrev pub refusingAll : (Format → Flat → ℕ) → (Format → Flat → ℕ) → Writer
+refusingAll number place f d out = record { answer = refused (number f d) (place f d); output = out }
 
 abbrev pub RefusingAllWrong : Type 0
-RefusingAllWrong = (why : Format → Flat → Refusal) → RefusedExactly (refusingAll why) → ⊥
+RefusingAllWrong = (number place : Format → Flat → ℕ) → RefusedExactly (refusingAll number place) → ⊥
 
 -- ---- wrong: "a made-up N": one bit short of what was written
-abbrev pub short : Written → Written
-short (Bits n) = Bits (n - 1)
-short (Refused why) = Refused why
+abbrev pub short : Told ℕ → Told ℕ
+short (accepted n) = accepted (n - 1)
+short (refused number place) = refused number place
 
 abbrev pub oneShort : Writer
 oneShort f d out = record { answer = short (writeOf f d (length out)); output = outputOf f d out }

@@ -7,14 +7,14 @@ use Rattle.coding.specs.declared.Kind.{Kind}
 use Rattle.coding.specs.Coding.{Coding}
 use Rattle.coding.specs.Kind.{codingOf}
 use Rattle.standing.specs.declared.Receiver.{Receiver}
-use Rattle.standing.specs.declared.Answer.{Answer}
-use Rattle.standing.specs.Receive.{Buffers, losing, withProgress, received, Outcome, step}
+use Rattle.standing.specs.Answered.{Said, reply}
+use Rattle.standing.specs.Receive.{Buffers, losing, withProgress, Outcome, step}
 use Rattle.standing.specs.Shown.{shownBy}
 use Rattle.demand3.specs.Clip.{Receive, Show}
 use Rattle.demand3.specs.Demand3.{InStep, CatchesUp}
 use Rattle.wrong.specs.Renumbering.{renumbering}
 use Rattle.standing.specs.declared.Standing.the-variants as T
-use Rattle.standing.specs.declared.Answer.the-variants as A
+use Rattle.standing.specs.Answered as A
 
 -- one whose state no call changes
 abbrev pub IdleWrong : Type 0
@@ -36,12 +36,12 @@ RenumberingWrong = InStep codingOf (renumbering codingOf) shownBy → ⊥
 
 -- ---- wrong: one that "finishes only refresh pictures"
 -- ours, but where a picture is finished whose mark isn't set, it is lost instead
-abbrev pub marked : Answer → Receiver → Buffers → Outcome → Outcome
-marked (A.Picture k) r b x = pick (x .gave .next .progress .mark) x (record { gave = received A.Lost (withProgress r (losing (r .progress))); left = b })
-marked (A.Old n part) r b x = x
-marked (A.Taken n part) r b x = x
-marked A.Lost r b x = x
-marked (A.Refused why) r b x = x
+abbrev pub marked : Said → Receiver → Buffers → Outcome → Outcome
+marked (A.picture k) r b x = pick (x .gave .next .progress .mark) x (record { gave = reply A.lost (withProgress r (losing (r .progress))); left = b })
+marked (A.old n part) r b x = x
+marked (A.taken n part) r b x = x
+marked A.lost r b x = x
+marked (A.refused n place) r b x = x
 
 abbrev pub onlyRefresh : {D : Type 0} → (Kind → Coding D) → Receive
 onlyRefresh coding r block b = marked (step coding r block b .gave .answer) r b (step coding r block b)

@@ -2,7 +2,7 @@
 use borrow.Author.Needs.{needs}
 use Rattle.layout.specs.Flat.{flat}
 use Rattle.coding.proofs.H261.{coding-lawful}
-use Rattle.coding.proofs.Told.{was-accepted, was-refused}
+use Rattle.refusals.proofs.Told.{was-accepted, was-refused}
 use Rattle.decoder.proofs.Steps.{drawn-verdict, drawn-store, refused-verdict, refused-store}
 use Rattle.decoder.proofs.decode_in.Statement.{statement}
 use Rattle.decoder.proofs.decode_in.Tie as tie

@@ -54,7 +54,7 @@ returns-2 c =
     let at-lengths = at-if1 .before in
     let start = at-lengths .before .before .before .before .before .before .before .before in
     fit (start .args .format) (start .args .bytes .now) (start .args .count) (flat (start .args .head .now) (start .args .macroblocks .now) (start .args .levels .now))
-    (at-lengths .lengths .ensures) (not-false _ (at-if1 .if1 .left)) (at-read-in .read-in .ensures .0) (at-read-in .read-in .ensures .1)
+    (at-lengths .lengths .ensures) (not-false _ (at-if1 .if1 .left)) (at-read-in .read-in .result) (at-read-in .read-in .ensures .0) (at-read-in .read-in .ensures .1)
 
 pub read-spec : {M : Type 1} → statement M
 read-spec =

@@ -1,5 +1,6 @@
 -- `reader::read_in` meets its contract: what was parsed is copied on acceptance alone. Assumes nothing.
-use mathlib.Core.Path.{sym, _∙_}
+use mathlib.Core.Path.{sym, ap, _∙_}
+use Rattle.refusals.specs.Told.{toldVerdict}
 use native.Mathlib.Omega.{arith}
 use Rattle.h261_reader.proofs.Blank.{blank-lengths}
 use Rattle.h261_reader.proofs.ReadSteps.{accepted-tag, copied, accepted-buffers, refused-unchanged}
@@ -31,7 +32,7 @@ returns c =
     let at-verdict = c .before in
     let at-parse = at-verdict .before .before .before .before .before .before .before .before in
     let start = at-parse .before .before .before .before .before .before .before .before .before .before .before in (
-      sym (at-verdict .verdict .given .1) ∙ at-parse .parse .ensures .0,
+      sym (ap toldVerdict (at-verdict .verdict .given .1)) ∙ at-parse .parse .ensures .0,
       refused-unchanged (start .args .format) (start .args .bytes .now) (start .args .count) (at-parse .parse .ensures .0) _ (at-verdict .verdict .given .1)
           (flat (start .args .head .now) (start .args .macroblocks .now) (start .args .levels .now)),
     )
@@ -44,7 +45,7 @@ returns-2 c =
     let at-parse = at-match .before .before .before .before .before .before .before in
     let start = at-parse .before .before .before .before .before .before .before .before .before .before .before in
     let a = accepted-tag (at-parse .parse .result) (at-match .match .keys2) in (
-      sym a ∙ at-parse .parse .ensures .0,
+      sym (ap toldVerdict a) ∙ at-parse .parse .ensures .0,
       accepted-buffers (start .args .format) (start .args .bytes .now) (start .args .count) (at-parse .parse .ensures .0) (at-parse .parse .ensures .1) a
           (flat (start .args .head .now) (start .args .macroblocks .now) (start .args .levels .now)) _ _ _
           (copied _ _ _ (at-parse .parse .kept .1 .1 .1 .0 ∙ blank-lengths (start .pre .0) .head-long ∙ sym (start .pre .1 .head-long)) (at-copy .copy .ensures .1))

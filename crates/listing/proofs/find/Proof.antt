@@ -6,15 +6,16 @@ use Prim.Native.Nat.{ℕ}
 use Rattle.size.specs.declared.Size.{Size}
 use Rattle.coding.specs.declared.Kind.{Kind}
 use Rattle.coding.specs.Kind.{kindSize}
-use Rattle.vault.specs.declared.Checked.{Checked}
-use Rattle.vault.specs.Block.{checkOf}
-use Rattle.standing.specs.declared.Opened.{Opened}
+use Rattle.refusals.specs.Told.{Told}
+use Rattle.vault.specs.declared.Header.{Header}
+use Rattle.vault.specs.Block.{toldChecked, checkOf}
+use Rattle.standing.specs.declared.Receiver.{Receiver}
 use Rattle.listing.specs.Listed.{openedBy, foundBy}
 use Rattle.listing.proofs.find.Statement.{statement}
 use Rattle.listing.proofs.find.Tie as tie
 
 -- what the check of a block in this size found opens the receiver
-opens : {size : Size} (kind : Kind) (block : List ℕ) {checked found : Checked} {opened : Opened} → size ≡ kindSize kind → checked ≡ checkOf size block → checked ≡ found
+opens : {size : Size} (kind : Kind) (block : List ℕ) {checked found : Told Header} {opened : Told Receiver} → size ≡ kindSize kind → checked ≡ checkOf size block → checked ≡ found
     → opened ≡ openedBy kind found → opened ≡ foundBy kind block
 unfolding foundBy
 opens kind block sz e f o = o ∙ ap (openedBy kind) (sym f ∙ e ∙ ap (λ (z : Size). checkOf z block) sz)
@@ -26,7 +27,7 @@ returns c =
     let at-check = at-header .before .before in
     let at-size-of = at-check .before in
     let start = at-size-of .before .before in
-    opens (start .args .kind) (start .args .block .now) (at-size-of .size-of .ensures) (at-check .check .ensures) (at-header .header .given .1) (c .«open» .ensures)
+    opens (start .args .kind) (start .args .block .now) (at-size-of .size-of .ensures) (at-check .check .ensures) (ap toldChecked (at-header .header .given .1)) (c .«open» .ensures)
 
 returns-2 : tie.Need-returns-2
 unfolding openedBy
@@ -35,7 +36,7 @@ returns-2 c =
     let at-check = at-why .before .before in
     let at-size-of = at-check .before in
     let start = at-size-of .before .before in
-    opens (start .args .kind) (start .args .block .now) (at-size-of .size-of .ensures) (at-check .check .ensures) (at-why .why .given .1) refl
+    opens (start .args .kind) (start .args .block .now) (at-size-of .size-of .ensures) (at-check .check .ensures) (ap toldChecked (at-why .why .given .1)) refl
 
 pub find-spec : {M : Type 1} → statement M
 find-spec =

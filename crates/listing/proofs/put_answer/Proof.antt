@@ -14,23 +14,23 @@ arm : {answer named : Answer} {at end : ℕ} {out left : List ℕ} → answer �
 arm {answer} {named} {at} {end} {out} {left} e p = subst (λ (a : Answer). Puts (textOf (said a)) at out left end) (sym e) p
 
 returns : tie.Need-returns
-unfolding textOf said
+unfolding textOf
 returns c = (search needs, arm (c .before .before .before .before .before .before .answer .given .1) (c .before .before .put-place .ensures .1))
 
 returns-2 : tie.Need-returns-2
-unfolding textOf said
+unfolding textOf
 returns-2 c = (search needs, arm (c .before .before .before .before .before .before .answer2 .given .1) (c .before .before .put-place2 .ensures .1))
 
 returns-3 : tie.Need-returns-3
-unfolding textOf said
+unfolding textOf
 returns-3 c = (search needs, arm (c .before .before .before .before .before .enum-told .given .1) (c .before .before .put .ensures .1))
 
 returns-4 : tie.Need-returns-4
-unfolding textOf said
+unfolding textOf
 returns-4 c = (search needs, arm (c .before .before .before .before .before .answer3 .given .1) (c .before .before .put-picture .ensures .1))
 
 returns-5 : tie.Need-returns-5
-unfolding textOf said
+unfolding textOf
 returns-5 c = (search needs, arm (c .before .before .before .before .before .answer4 .given .1) (c .before .before .put-refusal .ensures .1))
 
 pub put-answer-spec : {M : Type 1} → statement M

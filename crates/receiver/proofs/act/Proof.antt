@@ -7,12 +7,12 @@ use Rattle.coding.specs.Kind.{codingOf}
 use Rattle.vault.specs.declared.Header.{Header}
 use Rattle.vault.specs.Parts.{placed}
 use Rattle.standing.specs.declared.Receiver.{Receiver}
-use Rattle.standing.specs.declared.Received.{Received}
 use Rattle.standing.specs.declared.Line.{Line}
 use Rattle.standing.specs.declared.Line.the-variants.{Earlier, Next, Anew, Otherwise}
-use Rattle.standing.specs.declared.Answer.the-variants as A
+use Rattle.standing.specs.Answered.{Reply, reply}
+use Rattle.standing.specs.Answered as A
 use Rattle.standing.specs.declared.Standing.the-variants as S
-use Rattle.standing.specs.Receive.{Buffers, buffers, Outcome, lineOf, tookOf, byLine, losing, withProgress, received, outcome, cameTo}
+use Rattle.standing.specs.Receive.{Buffers, buffers, Outcome, lineOf, tookOf, byLine, losing, withProgress, cameTo}
 use Rattle.receiver.proofs.act.Statement.{statement}
 use Rattle.receiver.proofs.act.Tie as tie
 
@@ -31,9 +31,9 @@ module _ {line : Line} (r : Receiver) (header : Header) (block collection first 
   unfolding comes
   at l e = ap comes (sym e ∙ is)
 
-  earlier : {x : Received} → line ≡ Earlier → x ≡ received (A.Old (header .picture) (header .part)) r → outcome x collection first second ≡ goal
+  earlier : {x : Reply} → line ≡ Earlier → x ≡ reply (A.old (header .picture) (header .part)) r → record { gave = x; left = lent } ≡ goal
   unfolding comes cameTo byLine
-  earlier e h = ap (λ (y : Received). outcome y collection first second) h ∙ at Earlier e
+  earlier e h = ap (λ (y : Reply). record { gave = y; left = lent }) h ∙ at Earlier e
 
   next : {x : Outcome} → line ≡ Next → x ≡ cameTo codingOf r block lent (tookOf codingOf r header (r .progress .standing) (placed block (header .part) collection)) → x ≡ goal
   unfolding comes byLine
@@ -43,9 +43,9 @@ module _ {line : Line} (r : Receiver) (header : Header) (block collection first 
   unfolding comes byLine
   anew e h = h ∙ at Anew e
 
-  otherwise : {x : Received} → line ≡ Otherwise → x ≡ received A.Lost (withProgress r (losing (r .progress))) → outcome x collection first second ≡ goal
+  otherwise : {x : Reply} → line ≡ Otherwise → x ≡ reply A.lost (withProgress r (losing (r .progress))) → record { gave = x; left = lent } ≡ goal
   unfolding comes cameTo byLine
-  otherwise e h = ap (λ (y : Received). outcome y collection first second) h ∙ at Otherwise e
+  otherwise e h = ap (λ (y : Reply). record { gave = y; left = lent }) h ∙ at Otherwise e
 
 returns : tie.Need-returns
 returns c =

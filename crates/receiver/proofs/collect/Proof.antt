@@ -11,8 +11,9 @@ use Rattle.standing.specs.Stores.{Stores, stores}
 use Rattle.standing.specs.declared.Receiver.{Receiver}
 use Rattle.standing.specs.declared.Received.{Received}
 use Rattle.standing.specs.declared.Standing.{Standing}
-use Rattle.standing.specs.declared.Answer.the-variants as A
-use Rattle.standing.specs.Receive.{Buffers, buffers, taken, countOf, ended, tookOf, taking, withProgress, received, outcome, cameTo}
+use Rattle.standing.specs.Answered.{Reply, reply}
+use Rattle.standing.specs.Answered as A
+use Rattle.standing.specs.Receive.{Buffers, buffers, taken, countOf, ended, tookOf, taking, withProgress, outcome, cameTo}
 use Rattle.receiver.specs.Receiving.{Settles}
 use Rattle.receiver.proofs.Laws.{ended-collects}
 use Rattle.receiver.proofs.collect.Statement.{statement}
@@ -32,7 +33,7 @@ module _ (r : Receiver) (header : Header) (standing : Standing) (block collectio
 
   last-part : {x : Received} {after first₁ second₁ : List ℕ} → header .last ≡ true → after ≡ whole
       → Settles codingOf r (stores first second) (ended codingOf r header (codingOf (r .kind) .read after (countOf header))) x (stores first₁ second₁)
-      → outcome x after first₁ second₁ ≡ cameTo codingOf r block lent (tookOf codingOf r header standing whole)
+      → outcome x (buffers after first₁ second₁) ≡ cameTo codingOf r block lent (tookOf codingOf r header standing whole)
   unfolding cameTo
   last-part {x} {after} l e s =
       (λ i. record {
@@ -48,11 +49,11 @@ module _ (r : Receiver) (header : Header) (standing : Standing) (block collectio
   unfolding tookOf
   more-comes l = sym (rw l)
 
-  more-parts : {x : Received} {after : List ℕ} → header .last ≡ false → after ≡ whole
-      → x ≡ received (A.Taken (header .picture) (header .part)) (withProgress r (taking (r .progress) header standing))
-      → outcome x after first second ≡ cameTo codingOf r block lent (tookOf codingOf r header standing whole)
+  more-parts : {x : Reply} {after : List ℕ} → header .last ≡ false → after ≡ whole
+      → x ≡ reply (A.taken (header .picture) (header .part)) (withProgress r (taking (r .progress) header standing))
+      → record { gave = x; left = buffers after first second } ≡ cameTo codingOf r block lent (tookOf codingOf r header standing whole)
   unfolding cameTo
-  more-parts l e h = (λ i. outcome (h i) (e i) first second) ∙ ap (cameTo codingOf r block lent) (more-comes l)
+  more-parts l e h = (λ i. record { gave = h i; left = buffers (e i) first second }) ∙ ap (cameTo codingOf r block lent) (more-comes l)
 
 returns : tie.Need-returns
 returns c =

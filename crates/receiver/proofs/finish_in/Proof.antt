@@ -3,30 +3,30 @@ use borrow.Author.Needs.{needs}
 use mathlib.Core.Path.{_≡_, refl, sym, ap, subst, _∙_}
 use mathlib.Core.List.{List}
 use Prim.Native.Nat.{ℕ}
-use Rattle.refusals.specs.declared.Refusal.{Refusal}
-use Rattle.coding.specs.Coding.{Found, accepted, refused}
+use Rattle.refusals.specs.Told.{Told, accepted, refused}
+use Rattle.refusals.proofs.Told.{was-accepted, was-refused}
 use Rattle.layout.specs.Flat.{Flat, flat}
 use Rattle.coding.specs.Kind.{codingOf}
 use Rattle.coding.proofs.H261.{coding-lawful}
-use Rattle.coding.proofs.Told.{was-accepted, was-refused}
 use Rattle.vault.specs.declared.Header.{Header}
 use Rattle.standing.specs.Stores.{Stores, stores}
 use Rattle.standing.specs.declared.Receiver.{Receiver}
 use Rattle.standing.specs.declared.Received.{Received}
-use Rattle.standing.specs.declared.Answer.the-variants as A
-use Rattle.standing.specs.Receive.{ended, failing, received}
+use Rattle.standing.specs.Answered.{reply, toldReceived}
+use Rattle.standing.specs.Answered as A
+use Rattle.standing.specs.Receive.{ended, failing}
 use Rattle.receiver.specs.Receiving.{Settles}
 use Rattle.receiver.proofs.finish_in.Statement.{statement}
 use Rattle.receiver.proofs.finish_in.Tie as tie
 
-module _ {read : Found Flat} (r : Receiver) (header : Header) (s : Stores) where
-  unread : {x : Received} {why : Refusal} → read ≡ refused why → x ≡ received (A.Refused why) (failing r header) → Settles codingOf r s (ended codingOf r header read) x s
+module _ {read : Told Flat} (r : Receiver) (header : Header) (s : Stores) where
+  unread : {x : Received} {n place : ℕ} → read ≡ refused n place → toldReceived x ≡ reply (A.refused n place) (failing r header) → Settles codingOf r s (ended codingOf r header read) x s
   unfolding ended
-  unread {x} {why} e h = subst (λ (v : Found Flat). Settles codingOf r s (ended codingOf r header v) x s) (sym e) (record { gave = h; left = refl })
+  unread {x} e h = subst (λ (v : Told Flat). Settles codingOf r s (ended codingOf r header v) x s) (sym e) (record { gave = h; left = refl })
 
   settled : {x : Received} {d : Flat} {t : Stores} → read ≡ accepted d → Settles codingOf r s (ended codingOf r header (accepted d)) x t
       → Settles codingOf r s (ended codingOf r header read) x t
-  settled {x} {d} {t} e h = subst (λ (v : Found Flat). Settles codingOf r s (ended codingOf r header v) x t) (sym e) h
+  settled {x} {d} {t} e h = subst (λ (v : Told Flat). Settles codingOf r s (ended codingOf r header v) x t) (sym e) h
 
 parse-requires : tie.Need-parse-requires
 parse-requires c κs =

@@ -6,19 +6,16 @@ use mathlib.Core.List.{List}
 use Prim.Native.Nat.{ℕ}
 use lib.ListN.{length}
 use Rattle.laws.specs.Choice.{pick}
-use Rattle.refusals.specs.declared.Refusal.{Refusal}
-use Rattle.refusals.specs.declared.Reason.the-variants as R
-use Rattle.refusals.specs.Number.{refusal}
+use Rattle.refusals.specs.Number.{number}
+use Rattle.refusals.specs.Told.{Told, accepted, refused}
 use Rattle.size.specs.declared.Size.{Size}
 use Rattle.coding.specs.Kind.{kindSize, codingOf}
-use Rattle.vault.specs.declared.Checked.{Checked}
-use Rattle.vault.specs.declared.Checked.the-variants.{Good, Refused}
-use Rattle.vault.specs.Block.{refusedBy, judgeOf}
+use Rattle.vault.specs.Block.{toldChecked, judgeOf}
 use Rattle.vault.specs.declared.Header.{Header}
 use Rattle.standing.specs.declared.Receiver.{Receiver}
-use Rattle.standing.specs.declared.Received.{Received}
-use Rattle.standing.specs.declared.Answer.the-variants as A
-use Rattle.standing.specs.Receive.{Buffers, buffers, Outcome, named, judged, lineOf, byLine, byJudgement, decide, received, outcome, cameTo, step}
+use Rattle.standing.specs.Answered.{Reply, reply}
+use Rattle.standing.specs.Answered as A
+use Rattle.standing.specs.Receive.{Buffers, buffers, Outcome, named, judged, lineOf, byLine, byJudgement, decide, cameTo, step}
 use Rattle.receiver.proofs.Laws.{ready}
 use Rattle.receiver.proofs.receive.Statement.{statement}
 use Rattle.receiver.proofs.receive.Tie as tie
@@ -28,32 +25,32 @@ module _ {right : Bool} {size : Size} (r : Receiver) (block collection first sec
   abbrev lent : Buffers
   lent = buffers collection first second
 
-  came : (k : Checked) → k ≡ judged r block lent → cameTo codingOf r block lent (byJudgement codingOf k r block collection) ≡ step codingOf r block lent
+  came : (k : Told Header) → k ≡ judged r block lent → cameTo codingOf r block lent (byJudgement codingOf k r block collection) ≡ step codingOf r block lent
   unfolding step decide
-  came k e = ap (λ (k : Checked). cameTo codingOf r block lent (byJudgement codingOf k r block collection)) e
+  came k e = ap (λ (k : Told Header). cameTo codingOf r block lent (byJudgement codingOf k r block collection)) e
 
-  by-lengths : (b : Bool) → right ≡ b → pick b (judgeOf size (r .clip) block) (refusedBy R.Length) ≡ judged r block lent
+  by-lengths : (b : Bool) → right ≡ b → pick b (judgeOf size (r .clip) block) (refused 1 0) ≡ judged r block lent
   unfolding judged
   by-lengths b e =
-      ap (λ (t : Bool). pick t (judgeOf size (r .clip) block) (refusedBy R.Length)) (sym e ∙ is)
-      ∙ ap (λ (z : Size). pick (named z (length collection) (length first) (length second)) (judgeOf z (r .clip) block) (refusedBy R.Length)) sz
+      ap (λ (t : Bool). pick t (judgeOf size (r .clip) block) (refused 1 0)) (sym e ∙ is)
+      ∙ ap (λ (z : Size). pick (named z (length collection) (length first) (length second)) (judgeOf z (r .clip) block) (refused 1 0)) sz
 
-  module _ {found : Checked} (t : right ≡ true) (f : found ≡ judgeOf size (r .clip) block) where
-    judged-so : (k : Checked) → found ≡ k → k ≡ judged r block lent
+  module _ {found : Told Header} (t : right ≡ true) (f : found ≡ judgeOf size (r .clip) block) where
+    judged-so : (k : Told Header) → found ≡ k → k ≡ judged r block lent
     judged-so k e = sym e ∙ f ∙ by-lengths true t
 
-    good : {x : Outcome} {header : Header} → found ≡ Good header
+    good : {x : Outcome} {header : Header} → found ≡ accepted header
         → x ≡ cameTo codingOf r block lent (byLine codingOf (lineOf (r .progress) header) r header block collection) → x ≡ step codingOf r block lent
     unfolding byJudgement
-    good {header = header} e h = h ∙ came (Good header) (judged-so (Good header) e)
+    good {header = header} e h = h ∙ came (accepted header) (judged-so (accepted header) e)
 
-    bad : {x : Received} {why : Refusal} → found ≡ Refused why → x ≡ received (A.Refused why) r → outcome x collection first second ≡ step codingOf r block lent
+    bad : {x : Reply} {n place : ℕ} → found ≡ refused n place → x ≡ reply (A.refused n place) r → record { gave = x; left = lent } ≡ step codingOf r block lent
     unfolding byJudgement cameTo
-    bad {x} {why} e h = ap (λ (y : Received). outcome y collection first second) h ∙ came (Refused why) (judged-so (Refused why) e)
+    bad {n = n} {place = place} e h = ap (λ (y : Reply). record { gave = y; left = lent }) h ∙ came (refused n place) (judged-so (refused n place) e)
 
-  short : {x : Received} → right ≡ false → x ≡ received (A.Refused (refusal R.Length 0)) r → outcome x collection first second ≡ step codingOf r block lent
+  short : {x : Reply} → right ≡ false → x ≡ reply (A.refused 1 0) r → record { gave = x; left = lent } ≡ step codingOf r block lent
   unfolding byJudgement cameTo
-  short e h = ap (λ (y : Received). outcome y collection first second) h ∙ came (refusedBy R.Length) (by-lengths false e)
+  short e h = ap (λ (y : Reply). record { gave = y; left = lent }) h ∙ came (refused 1 0) (by-lengths false e)
 
 act-requires : tie.Need-act-requires
 act-requires c κs =
@@ -64,7 +61,7 @@ act-requires c κs =
     let at-size-of = at-named .before in
     let start = at-size-of .before .before .before .before .before in
     ready (start .args .receiver .kind) (start .args .receiver .clip) _ (start .args .block .now) (start .args .collection .now) (start .args .first .now) (start .args .second .now) (at-size-of .size-of .ensures) (sym (at-named .named .ensures) ∙ at-if1 .if1 .taken)
-    (sym (at-judge .judge .ensures) ∙ at-checked .checked .given .1)
+    (sym (at-judge .judge .ensures) ∙ ap toldChecked (at-checked .checked .given .1))
 
 returns : tie.Need-returns
 returns c =
@@ -75,7 +72,7 @@ returns c =
     let at-named = at-if1 .before in
     let at-size-of = at-named .before in
     let start = at-size-of .before .before .before .before .before in
-    good (start .args .receiver) (start .args .block .now) (start .args .collection .now) (start .args .first .now) (start .args .second .now) (at-size-of .size-of .ensures) (at-named .named .ensures) (at-if1 .if1 .taken) (at-judge .judge .ensures) (at-checked .checked .given .1) (at-act .act .ensures)
+    good (start .args .receiver) (start .args .block .now) (start .args .collection .now) (start .args .first .now) (start .args .second .now) (at-size-of .size-of .ensures) (at-named .named .ensures) (at-if1 .if1 .taken) (at-judge .judge .ensures) (ap toldChecked (at-checked .checked .given .1)) (at-act .act .ensures)
 
 returns-2 : tie.Need-returns-2
 returns-2 c =
@@ -85,9 +82,10 @@ returns-2 c =
     let at-named = at-if1 .before in
     let at-size-of = at-named .before in
     let start = at-size-of .before .before .before .before .before in
-    bad (start .args .receiver) (start .args .block .now) (start .args .collection .now) (start .args .first .now) (start .args .second .now) (at-size-of .size-of .ensures) (at-named .named .ensures) (at-if1 .if1 .taken) (at-judge .judge .ensures) (at-checked2 .checked2 .given .1) (c .refuse .ensures)
+    bad (start .args .receiver) (start .args .block .now) (start .args .collection .now) (start .args .first .now) (start .args .second .now) (at-size-of .size-of .ensures) (at-named .named .ensures) (at-if1 .if1 .taken) (at-judge .judge .ensures) (ap toldChecked (at-checked2 .checked2 .given .1)) (c .refuse .ensures)
 
 returns-3 : tie.Need-returns-3
+unfolding number
 returns-3 c =
     let at-if1 = c .before in
     let at-named = at-if1 .before in

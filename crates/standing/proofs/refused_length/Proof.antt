@@ -1,12 +1,14 @@
 -- `standing::refused_length` meets its contract: by the answer. Assumes nothing.
 use borrow.Author.Needs.{needs}
 use mathlib.Core.Path.{sym, ap, _∙_}
+use Rattle.standing.specs.declared.Answer.{Answer}
+use Rattle.standing.specs.Answered.{said}
 use Rattle.standing.specs.Shown.{refusedLength}
 use Rattle.standing.proofs.refused_length.Statement.{statement}
 use Rattle.standing.proofs.refused_length.Tie as tie
 
 returns : tie.Need-returns
-returns c = c .is-length .ensures ∙ sym (ap refusedLength (c .before .before .answer .given .1))
+returns c = c .is-length .ensures ∙ sym (ap (λ (a : Answer). refusedLength (said a)) (c .before .before .answer .given .1))
 
 pub refused-length-spec : {M : Type 1} → statement M
 refused-length-spec =

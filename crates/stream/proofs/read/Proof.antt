@@ -2,8 +2,9 @@
 use borrow.Author.Needs.{needs}
 use Prim.Native.Nat.{ℕ, min, max}
 use mathlib.Core.Path.{ap, _∙_}
+use Rattle.refusals.specs.Told.{toldVerdict}
 use Rattle.layout.specs.Flat.{flat}
-use Rattle.stream.proofs.Unfilled.{accepted, again}
+use Rattle.stream.proofs.Unfilled.{at-once, again}
 use Rattle.stream.proofs.read.Statement.{statement}
 use Rattle.stream.proofs.read.Tie as tie
 
@@ -15,9 +16,9 @@ returns c =
     let at-limit = at-larger .before in
     let start = at-limit .before .before .before .before .before in
     let a = start .args in
-    accepted (a .format) (a .bytes .now) (a .ones) (flat (a .head .now) (a .macroblocks .now) (a .levels .now)) (a .count)
+    at-once (a .format) (a .bytes .now) (a .ones) (flat (a .head .now) (a .macroblocks .now) (a .levels .now)) (a .count)
     (at-smaller .smaller .ensures ∙ ap (λ (m : ℕ). min (a .count) m) (at-larger .larger .ensures ∙ ap (λ (l : ℕ). max l (a .ones)) (at-limit .limit .ensures)))
-    (at-read .read .ensures) (c .enum-told .given .1)
+    (at-read .read .ensures) (ap toldVerdict (c .enum-told .given .1))
 
 returns-2 : tie.Need-returns-2
 returns-2 c =
@@ -31,7 +32,7 @@ returns-2 c =
     let a = start .args in
     again (a .format) (a .bytes .now) (a .ones) (flat (a .head .now) (a .macroblocks .now) (a .levels .now)) (a .count)
     (at-smaller .smaller .ensures ∙ ap (λ (m : ℕ). min (a .count) m) (at-larger .larger .ensures ∙ ap (λ (l : ℕ). max l (a .ones)) (at-limit .limit .ensures)))
-    (at-read .read .ensures) (at-verdict .verdict .given .1) (at-read-unfilled .read-unfilled .ensures)
+    (at-read .read .ensures) (ap toldVerdict (at-verdict .verdict .given .1)) (at-read-unfilled .read-unfilled .ensures)
 
 pub read-spec : {M : Type 1} → statement M
 read-spec =

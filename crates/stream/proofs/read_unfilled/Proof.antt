@@ -1,13 +1,15 @@
 -- `stream::read_unfilled` meets its contract: by the second read. Assumes nothing.
 use borrow.Author.Needs.{needs}
 use borrow.Author.Tests.{not-true, not-false}
+use mathlib.Core.Path.{ap}
+use Rattle.refusals.specs.Told.{toldVerdict}
 use Rattle.layout.specs.Flat.{flat}
 use Rattle.stream.proofs.Unfilled.{stays, whole, broken}
 use Rattle.stream.proofs.read_unfilled.Statement.{statement}
 use Rattle.stream.proofs.read_unfilled.Tie as tie
 
 returns : tie.Need-returns
-returns c = let a = c .before .before .before .before .before .before .args in stays (a .format) (a .bytes .now) (a .ones) (flat (a .head .now) (a .macroblocks .now) (a .levels .now)) (a .why) (c .before .among-zeros .ensures) (not-true _ (c .if1 .taken))
+returns c = let a = c .before .before .before .before .before .before .args in stays (a .format) (a .bytes .now) (a .ones) (flat (a .head .now) (a .macroblocks .now) (a .levels .now)) _ _ (c .before .among-zeros .ensures) (not-true _ (c .if1 .taken))
 
 returns-2 : tie.Need-returns-2
 returns-2 c =
@@ -16,8 +18,8 @@ returns-2 c =
     let at-among-zeros = at-if1 .before in
     let start = at-among-zeros .before .before .before .before .before in
     let a = start .args in
-    whole (a .format) (a .bytes .now) (a .ones) (flat (a .head .now) (a .macroblocks .now) (a .levels .now)) (a .why) (at-among-zeros .among-zeros .ensures)
-    (not-false _ (at-if1 .if1 .left)) (at-read .read .ensures) (c .enum-told .given .1)
+    whole (a .format) (a .bytes .now) (a .ones) (flat (a .head .now) (a .macroblocks .now) (a .levels .now)) _ _ (at-among-zeros .among-zeros .ensures)
+    (not-false _ (at-if1 .if1 .left)) (at-read .read .ensures) (ap toldVerdict (c .enum-told .given .1))
 
 returns-3 : tie.Need-returns-3
 returns-3 c =
@@ -26,8 +28,8 @@ returns-3 c =
     let at-among-zeros = at-if1 .before in
     let start = at-among-zeros .before .before .before .before .before in
     let a = start .args in
-    broken (a .format) (a .bytes .now) (a .ones) (flat (a .head .now) (a .macroblocks .now) (a .levels .now)) (a .why) (at-among-zeros .among-zeros .ensures)
-    (not-false _ (at-if1 .if1 .left)) (at-read .read .ensures) (c .before .verdict .given .1)
+    broken (a .format) (a .bytes .now) (a .ones) (flat (a .head .now) (a .macroblocks .now) (a .levels .now)) _ _ (at-among-zeros .among-zeros .ensures)
+    (not-false _ (at-if1 .if1 .left)) (at-read .read .ensures) (ap toldVerdict (c .before .verdict .given .1))
 
 pub read-unfilled-spec : {M : Type 1} → statement M
 read-unfilled-spec =

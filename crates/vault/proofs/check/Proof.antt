@@ -1,25 +1,26 @@
 -- `vault::check` meets its contract: at each `return` the tests that led there. Assumes nothing.
 use borrow.Author.Needs.{needs}
 use borrow.Author.Tests.{eq-eqb, ne-eqb, not-true, not-false}
-use mathlib.Core.Path.{sym, _∙_}
-use Rattle.vault.specs.Block.{checkOf}
+use mathlib.Core.Path.{sym, ap, _∙_}
+use Rattle.refusals.specs.Number.{number}
+use Rattle.vault.specs.Block.{toldChecked, checkOf}
 use Rattle.vault.proofs.check.Statement.{statement}
 use Rattle.vault.proofs.check.Tie as tie
 
 returns : tie.Need-returns
-unfolding checkOf
-returns c = simp (ne-eqb _ _ (c .before .if1 .taken)) (c .refused .ensures)
+unfolding checkOf number
+returns c = simp (ne-eqb _ _ (c .before .if1 .taken)) (ap toldChecked (c .refused .ensures))
 
 returns-2 : tie.Need-returns-2
-unfolding checkOf
+unfolding checkOf number
 returns-2 c =
     let at-sum = c .before .before .before in
     let at-if1 = at-sum .before in
     simp (eq-eqb _ _ (at-if1 .if1 .left), ne-eqb _ _ (λ e. (c .before .if2 .taken) ((at-sum .sum .ensures) ∙ e ∙ sym (c .before .before .pair .ensures))))
-    (c .refused2 .ensures)
+    (ap toldChecked (c .refused2 .ensures))
 
 returns-3 : tie.Need-returns-3
-unfolding checkOf
+unfolding checkOf number
 returns-3 c =
     let at-follows = c .before .before in
     let at-if2 = at-follows .before .before in
@@ -29,7 +30,7 @@ returns-3 c =
       eq-eqb _ _ (sym (at-if2 .before .before .sum .ensures) ∙ (at-if2 .if2 .left) ∙ (at-if2 .before .pair .ensures)),
       sym (at-follows .follows .ensures) ∙ not-true _ (c .before .if3 .taken),
     )
-    (c .refused3 .ensures)
+    (ap toldChecked (c .refused3 .ensures))
 
 returns-4 : tie.Need-returns-4
 unfolding checkOf

@@ -5,6 +5,7 @@ use mathlib.Core.Path.{refl, ap, _∙_}
 use native.Mathlib.Omega.{arith}
 use lib.ListN.{length-set}
 use Rattle.refusals.specs.declared.Refusal.{Refusal}
+use Rattle.refusals.specs.Told.{toldVerdict}
 use Rattle.h261_reader.proofs.Blank.{blank-lengths}
 use Rattle.h261_reader.specs.Described.{described}
 use Rattle.refusals.specs.declared.Verdict.the-variants.{Refused}
@@ -46,7 +47,7 @@ returns-2 c =
     let d =
     described-no-header format bytes count (at-above .above .result) (at-above .above .ensures) (at-if1 .if1 .left) (at-header .header .result) (at-header .header .ensures)
     (c .before .before .match .keys2) in (
-      ap (λ (r : Refusal). Refused r) (c .pair-refusal .ensures) ∙ refused-verdict format (described format bytes count) _ d,
+      ap (λ (r : Refusal). toldVerdict (Refused r)) (c .pair-refusal .ensures) ∙ refused-verdict format (described format bytes count) _ d,
       refused-buffers format (described format bytes count) _ _ _ _ d (start .pre .head-blank) (start .pre .ms-blank) (start .pre .ls-blank),
     )
 
@@ -119,7 +120,7 @@ returns-3 c =
     (groups-described format bytes count (at-above .above .result) (at-above .above .ensures) (at-if1 .if1 .left) (at-header .header .result) (at-header .header .ensures) _ _
     _ (at-bit .bit .result) _ _ _ _ (at-opened .opened .given .1) (at-bit .bit .ensures) (start .pre .head-blank) (start .pre .ms-blank) (start .pre .ls-blank) (at-groups .groups .ensures))
     (at-match2 .match2 .keys2) in (
-      ap (λ (r : Refusal). Refused r) (c .place-refusal .ensures) ∙ refused-verdict format (described format bytes count) _ d,
+      ap (λ (r : Refusal). toldVerdict (Refused r)) (c .place-refusal .ensures) ∙ refused-verdict format (described format bytes count) _ d,
       refused-buffers format (described format bytes count) _ _ _ _ d
           (cleared-as _ (3 + groupCount format) _ (at-clear .clear .ensures) (at-groups .groups .kept .1 .1 .1 .1 .1 .0 ∙ simp length-set (fits .head-long)))
           (cleared-as _ (groupCount format * 132) _ (at-clear2 .clear2 .ensures) (at-groups .groups .kept .1 .1 .1 .1 .1 .1 .0 ∙ fits .ms-long))
