@@ -19,7 +19,7 @@ pub seek-one : (u v : ℕ) → lag u v ≡ 0 → u ∷ [] ≡ seek u v
 unfolding seek
 seek-one u v e = rw (eq-eqb (lag u v) 0 e)
 
-pub seek-two : (u v s g a b : ℕ) → (lag u v ≡ 0 → ⊥) → s ≡ getD starts (lag u v) 0 → g ≡ getD gaps (lag u v) 0
+seek-two : (u v s g a b : ℕ) → (lag u v ≡ 0 → ⊥) → s ≡ getD starts (lag u v) 0 → g ≡ getD gaps (lag u v) 0
     → a ≡ max ((u + s) % 511) (((u + s) % 511 + g) % 511) → b ≡ min ((u + s) % 511) (((u + s) % 511 + g) % 511) → a ∷ b ∷ [] ≡ seek u v
 unfolding seek
 seek-two u v s g a b z e f p q =
@@ -76,12 +76,19 @@ module _ {t : List ℕ} (h : t ≡ logTables) (i : ℕ) where
   seconds l = later ∙ List·getD-append secondLogs _ 0 i (omega (arith, length-seconds))
 
 module _ {t : List ℕ} (h : t ≡ logTables) (i : ℕ) where
-  pub in-gaps : i < 512 → getD t (1024 + i) 0 ≡ getD gaps i 0
+  in-gaps : i < 512 → getD t (1024 + i) 0 ≡ getD gaps i 0
   in-gaps l =
       let e : 1024 + i ≡ 512 + (512 + i) = omega arith in
       ap (λ (n : ℕ). getD t n 0) e ∙ later h (512 + i) ∙ past secondLogs _ i length-seconds ∙ List·getD-append gaps _ 0 i (omega (arith, length-gaps))
 
-  pub in-starts : getD t (1536 + i) 0 ≡ getD starts i 0
+  in-starts : getD t (1536 + i) 0 ≡ getD starts i 0
   in-starts =
       let e : 1536 + i ≡ 512 + (512 + (512 + i)) = omega arith in
       ap (λ (n : ℕ). getD t n 0) e ∙ later h (512 + (512 + i)) ∙ past secondLogs _ (512 + i) length-seconds ∙ past gaps _ i length-gaps
+
+-- two places, by the lookups
+pub sought-two : {t : List ℕ} (h : t ≡ logTables) (u v s g a b : ℕ) → (lag u v ≡ 0 → ⊥) → s ≡ getD t (1536 + lag u v) 0 → g ≡ getD t (1024 + lag u v) 0
+    → a ≡ max ((u + s) % 511) (((u + s) % 511 + g) % 511) → b ≡ min ((u + s) % 511) (((u + s) % 511 + g) % 511) → a ∷ b ∷ [] ≡ seek u v
+sought-two h u v s g a b z e f p q =
+    let below : lag u v < 512 = omega arith in
+    seek-two u v s g a b z (e ∙ in-starts h (lag u v)) (f ∙ in-gaps h (lag u v) below) p q

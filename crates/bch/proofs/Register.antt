@@ -48,7 +48,8 @@ byte-fed t e r b l m =
     let high : getD t (r / 1024) 0 ≡ raised generator 8 (r / 1024 * 1024) = ap (λ (t : List ℕ). getD t (r / 1024) 0) e ∙ steps-at (r / 1024) (omega arith) in
     let low : r % 1024 * 256 ≡ raised generator 8 (r % 1024) = sym (low-raised (r % 1024) (mod-lt r (lit< tt))) in
     (λ i. high i ⊕ low i ⊕ sym (byte-alone b m) i)
-    ∙ ap (λ (x : ℕ). x ⊕ fed generator (bitsOf 8 b) 0) (sym (raised-xor generator 8 (r / 1024 * 1024) (r % 1024)) ∙ ap (raised generator 8) parted ∙ sym (zeros-fed generator 8 r))
+    ∙ ap (λ (x : ℕ). x ⊕ fed generator (bitsOf 8 b) 0)
+    (sym (raised-xor generator 8 (r / 1024 * 1024) (r % 1024)) ∙ ap (raised generator 8) parted ∙ sym (zeros-fed generator 8 r))
     ∙ sym (bits-xor generator 8 0 b r 0) ∙ ap (fed generator (bitsOf 8 b)) (xor-zero-r r)
 
 pub byte-fed-lt : (r b : ℕ) → r < 262144 → fed generator (bitsOf 8 b) r < 262144
@@ -74,8 +75,9 @@ seven-alone x l = eqb→eq _ x (all-at 128 (λ x. eqb (fed generator (bitsOf 7 x
 
 pub first-fed : (s : List ℕ) → fed generator (bitsFrom s 8 504) (getD s 0 0 % 128) ≡ remainder (word s)
 first-fed s =
+    let low = sym (mod-eq-of-lt (mod-lt (getD s 0 0) (lit< tt))) in
     let seven : fed generator (bitsFrom s 1 7) 0 ≡ getD s 0 0 % 128 =
-    ap (λ (w : List Bit). fed generator w 0) (byte-bits s 0 1 7 (lit≤ tt) refl ∙ bitsOf-mod 7 (getD s 0 0) (getD s 0 0 % 128) (sym (mod-eq-of-lt (mod-lt (getD s 0 0) (lit< tt)))))
+    ap (λ (w : List Bit). fed generator w 0) (byte-bits s 0 1 7 (lit≤ tt) refl ∙ bitsOf-mod 7 (getD s 0 0) (getD s 0 0 % 128) low)
     ∙ seven-alone (getD s 0 0 % 128) (mod-lt (getD s 0 0) (lit< tt)) in
     ap (fed generator (bitsFrom s 8 504)) (sym seven) ∙ sym (fed-append generator (bitsFrom s 1 7) (bitsFrom s 8 504) 0)
     ∙ ap remainder (sym (bits-split s 1 7 504))

@@ -1,9 +1,7 @@
 -- `bch::sought` meets its contract.
-use mathlib.Core.Path.{_∙_}
 use native.Mathlib.Omega.{arith}
 use borrow.Author.Needs.{needs}
-use Rattle.bch.specs.Locate.{lag}
-use Rattle.bch.proofs.Lookups.{seek-one, seek-two, low, in-gaps, in-starts}
+use Rattle.bch.proofs.Lookups.{seek-one, sought-two, low}
 use Rattle.bch.proofs.sought.Statement.{statement}
 use Rattle.bch.proofs.sought.Tie as tie
 
@@ -37,22 +35,14 @@ add-n c = omega (arith, low (c .before .before .before .pre .0) _ (c .entry2 .en
 returns-2 : tie.Need-returns-2
 returns-2 c =
     let start = c .before .before .before .before in
-    let h = start .pre .0 in
-    let u = start .args .u in
-    let v = start .args .v in
-    let apart = c .before .before .before .if1 .left in
-    seek-two u v (c .before .before .entry .result) (c .before .entry2 .result) _ _ apart (c .before .before .entry .ensures ∙ in-starts h (lag u v))
-    (c .before .entry2 .ensures ∙ in-gaps h (lag u v) (omega arith)) (omega arith) (omega arith)
+    sought-two (start .pre .0) (start .args .u) (start .args .v) _ _ _ _ (c .before .before .before .if1 .left) (c .before .before .entry .ensures)
+    (c .before .entry2 .ensures) (omega arith) (omega arith)
 
 returns-3 : tie.Need-returns-3
 returns-3 c =
     let start = c .before .before .before .before in
-    let h = start .pre .0 in
-    let u = start .args .u in
-    let v = start .args .v in
-    let apart = c .before .before .before .if1 .left in
-    seek-two u v (c .before .before .entry .result) (c .before .entry2 .result) _ _ apart (c .before .before .entry .ensures ∙ in-starts h (lag u v))
-    (c .before .entry2 .ensures ∙ in-gaps h (lag u v) (omega arith)) (omega arith) (omega arith)
+    sought-two (start .pre .0) (start .args .u) (start .args .v) _ _ _ _ (c .before .before .before .if1 .left) (c .before .before .entry .ensures)
+    (c .before .entry2 .ensures) (omega arith) (omega arith)
 
 pub sought-spec : {M : Type 1} → statement M
 sought-spec =
