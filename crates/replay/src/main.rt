@@ -1,11 +1,14 @@
-// Replays the recording of a raw line on standard input: writes its data bits, mended, as a raw H.261 stream.
+// Replays the recording of a raw line on standard input: writes its data bits, mended, as a raw H.261 stream. It takes no words.
 //
 // On standard error it says where the frames lock, which of them are not mended and whether the last is cut, each by the place of its first bit, and how many data bits there
 // were; or `refused 44`, where nothing locks. A capture of any length goes through two buffers: its frames are those of `capture::replay`, by the same lock and the same step.
+//
+//     ./pagesorrel replay < clips/testsrc2-qcif-coarse.line > stream.h261
+use account::End;
+use account::input::Filled;
 use capture::Came;
 use capture::LockFound;
 use libc::STDERR_FILENO;
-use libc::STDIN_FILENO;
 use libc::STDOUT_FILENO;
 ghost use mathlib.Core.Path.{_≡_};
 ghost use Prim.Native.Nat.{_+_, _*_, _≤_, _<_};
@@ -20,9 +23,12 @@ struct State {
     // The data bits that have been written, and those that wait.
     given: u64,
     waiting: usize,
-    // Whether the frames have locked, whether there is more to read, whether what is written is taken.
+    // Whether the frames have locked, whether one was not mended, whether there is more to read.
     locked: bool,
+    cut: bool,
     more: bool,
+    // Whether the recording can be read, and what is written is taken.
+    reads: bool,
     writes: bool,
 }
 
@@ -77,13 +83,11 @@ fn roomy(before: State, out: &mut [u8; 65536]) -> State
 }
 
 // All that wait, the last started byte too.
-fn finish(state: State, out: &[u8])
-    requires { ⌜ (state .waiting ≤ 524280) × (length (now out) ≡ 65536) ⌝ }
+fn finish(waiting: usize, out: &[u8]) -> bool
+    requires { ⌜ (waiting ≤ 524280) × (length (now out) ≡ 65536) ⌝ }
 {
-    let waiting = state.waiting;
     let bytes = (waiting + 7) / 8;
-    io::write_all(STDOUT_FILENO, &out[..bytes]);
-    say(b"data ", plus(state.given, waiting));
+    io::write_all(STDOUT_FILENO, &out[..bytes])
 }
 
 // ---- frames
@@ -105,12 +109,13 @@ fn frame(steps: &[u32; 256], input: &[u8; 65536], before: State, out: &mut [u8; 
         Came::Fill => state,
         Came::Unmended => {
             say(b"unmended ", plus(before.gone, at));
+            state.cut = true;
             state
         }
     }
 }
 
-// The whole frames of the buffer's `count` bits.
+// The whole frames of the buffer's `count` bits, as long as what is written is taken.
 fn frames(
     steps: &[u32; 256],
     input: &[u8; 65536],
@@ -127,6 +132,9 @@ fn frames(
             return state;
         }
         let ready = roomy(state, out);
+        if !ready.writes {
+            return ready;
+        }
         state = frame(steps, input, ready, out);
     }
     state
@@ -164,11 +172,14 @@ fn search(input: &[u8; 65536], count: usize, before: State) -> State
 // ---- the capture
 
 // What the input has, behind the bytes that are there.
-fn fill(input: &mut [u8], bytes: usize) -> usize {
+fn fill(input: &mut [u8], bytes: usize) -> Filled {
     if input.len() < bytes {
-        return 0;
+        return Filled {
+            count: 0,
+            failed: false,
+        };
     }
-    io::read_full(STDIN_FILENO, &mut input[bytes..])
+    account::input::fill(&mut input[bytes..])
 }
 
 // The bytes from `from` on to the front.
@@ -241,8 +252,10 @@ fn turn(steps: &[u32; 256], input: &mut [u8; 65536], before: State, out: &mut [u
 {
     let mut state = dropped(before, input);
     let had = state.bytes;
-    let got = fill(input, had);
+    let filled = fill(input, had);
+    let got = filled.count;
     state.more = false;
+    state.reads = !filled.failed;
     if 65536 < had {
         return state;
     }
@@ -256,20 +269,58 @@ fn turn(steps: &[u32; 256], input: &mut [u8; 65536], before: State, out: &mut [u
     after
 }
 
-// The last frame, where it is cut, and what came of it all.
-fn close(state: State, out: &[u8; 65536])
-    requires { ⌜ state .waiting ≤ 524280 ⌝ }
-{
-    if !state.locked {
-        io::write_all(STDERR_FILENO, b"refused 44\n");
-        return;
-    }
+// ---- the end
+
+fn unread() -> End {
+    os::fail(b"replay: the recording could not be read");
+    End::Unread
+}
+
+fn unwritten() -> End {
+    os::fail(b"replay: the data could not be written");
+    End::Unwritten
+}
+
+// The last frame, where it is cut.
+fn say_cut(state: State) -> bool {
     if state.bytes <= 65536 {
         if state.at < 8 * state.bytes {
             say(b"cut ", plus(state.gone, state.at));
+            return true;
         }
     }
-    finish(state, out);
+    state.cut
+}
+
+// The data bits that wait are written, and all are counted.
+fn told(state: State, out: &[u8; 65536]) -> End
+    requires { ⌜ state .waiting ≤ 524280 ⌝ }
+{
+    let cut = say_cut(state);
+    let waiting = state.waiting;
+    if finish(waiting, out) {
+        let data = plus(state.given, waiting);
+        say(b"data ", data);
+        return End::Done(cut, data);
+    }
+    unwritten()
+}
+
+// What came of it all.
+fn close(state: State, out: &[u8; 65536]) -> End
+    requires { ⌜ state .waiting ≤ 524280 ⌝ }
+{
+    if !state.reads {
+        return unread();
+    }
+    if !state.writes {
+        return unwritten();
+    }
+    if state.locked {
+        return told(state, out);
+    }
+    io::write_all(STDERR_FILENO, b"refused 44\n");
+    End::Done(false, 0)
 }
 
 // Nothing says that the input ends, so the loop counts its turns.
@@ -284,7 +335,9 @@ fn all(steps: &[u32; 256], input: &mut [u8; 65536], out: &mut [u8; 65536]) -> St
         given: 0,
         waiting: 0,
         locked: false,
+        cut: false,
         more: true,
+        reads: true,
         writes: true,
     };
     let mut n: u64 = 0;
@@ -295,10 +348,22 @@ fn all(steps: &[u32; 256], input: &mut [u8; 65536], out: &mut [u8; 65536]) -> St
     state
 }
 
-fn main() {
+fn run() -> End {
     let steps = bch::byte_steps();
     let mut input = io::large_buffer();
     let mut out = io::large_buffer();
     let state = all(&steps, &mut input, &mut out);
-    close(state, &out);
+    close(state, &out)
+}
+
+fn of_words(count: usize) -> End {
+    if count <= 1 {
+        return run();
+    }
+    io::write_all(STDERR_FILENO, b"usage: replay < CAPTURE > STREAM.h261\n");
+    End::Misnamed
+}
+
+fn main() {
+    account::tell(of_words(os::arg_count()));
 }

@@ -23,7 +23,7 @@ put-requires : tie.Need-put-requires Inv-loop μ-loop
 put-requires c κs =
     let a = c .before .before .before .before .args in
     let room : a .to + 12 ≤ 8 * length (a .out .now) = omega (arith, c .before .before .before .before .pre .0) in
-    (lit≤ tt, lit≤ tt, omega (arith, c .window .ensures, value-lt (a .frame .now) 2 24), room)
+    (record { some = lit≤ tt; short = lit≤ tt; small = omega (arith, c .window .ensures, value-lt (a .frame .now) 2 24) }, room)
 
 loop-holds : tie.Need-loop-holds Inv-loop μ-loop
 loop-holds c = (lit≤ tt, refl, λ first room e. e)
@@ -36,7 +36,7 @@ put-requires-2 c κs =
     let l = c .before .before .before .before .loop in
     let size = put-size (a .out .now) (a .to) 12 (p .before .window .result / 4096) (p .put .last .0) (p .put .ensures) (omega (arith, start .pre .0)) in
     let room : a .to + 12 + 24 * l .i + 24 ≤ 8 * length (l .out) = omega (arith, size, l .inv .1, start .pre .0) in
-    (lit≤ tt, lit≤ tt, omega (arith, c .window2 .ensures, value-lt (a .frame .now) (14 + 24 * l .i) 24), room)
+    (record { some = lit≤ tt; short = lit≤ tt; small = omega (arith, c .window2 .ensures, value-lt (a .frame .now) (14 + 24 * l .i) 24) }, room)
 
 loop-again : tie.Need-loop-again Inv-loop μ-loop
 loop-again c =
