@@ -8,12 +8,14 @@ use reference::format::Format;
 mod commands;
 
 const USAGE: &str = "usage:
-  reference words|blocks|render|pictures|write|send|deliver|lists|packs SEED COUNT FOLDER
+  reference words|blocks|render|pictures|write|send|deliver|lists|packs|captures|replays SEED COUNT FOLDER
   reference due
   reference annex-a > COEFFICIENTS
   reference annex-a-figures < OUTPUTS
   reference list < BLOCKS
   reference frames qcif|cif < BLOCKS > YUV4MPEG2
+  reference record < STREAM > CAPTURE
+  reference replay < CAPTURE > STREAM
   reference pack qcif|cif CLIP < RAW > BLOCKS
   reference decode qcif|cif < RAW > SAMPLES
   reference compare qcif|cif RAW SAMPLES";
@@ -48,6 +50,12 @@ fn run(arguments: &[&str]) -> Outcome {
             let packed = commands::streams::pack(named(format)?, clip, &input()?)?;
             eprint!("{}", packed.errors);
             output(&packed.blocks)
+        }
+        ["record"] => output(&commands::captures::recorded(&input()?)),
+        ["replay"] => {
+            let replayed = commands::captures::replayed(&reference::line::Code::new(), &input()?);
+            eprint!("{}", replayed.errors);
+            output(&replayed.stream)
         }
         ["decode", format] => output(&commands::streams::decode(named(format)?, &input()?)),
         ["compare", format, raw, samples] => {

@@ -8,7 +8,7 @@ pub mod input;
 pub mod remarks;
 
 // How a run ends: its words name nothing; the input can't be read; the output can't be written; or the input came to its end, with
-// whether something was cut, and how many pictures came out.
+// whether something was cut, and how many pictures, or data bits, came out.
 pub enum End {
     Misnamed,
     Unread,

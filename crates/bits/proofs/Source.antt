@@ -37,7 +37,7 @@ all-bits (b ∷ s) =
     let e : suc (length s) * 8 ≡ 8 + length s * 8 = omega arith in
     rw (e, bits-byte b s (length s * 8), all-bits s)
 
-take-from : (s : List ℕ) (a k m : ℕ) → take k (bitsFrom s a (k + m)) ≡ bitsFrom s a k
+pub take-from : (s : List ℕ) (a k m : ℕ) → take k (bitsFrom s a (k + m)) ≡ bitsFrom s a k
 unfolding bitsFrom
 take-from s a zero m = refl
 take-from s a (suc k) m =

@@ -1,13 +1,15 @@
 -- Laws of the bits of a list of bytes, by place: a run of bits is split anywhere, a byte is its eight bits, four bytes are 32. Assumes nothing.
 use mathlib.Core.Path.{_≡_, refl, sym, ap, _∙_}
-use mathlib.Core.List.{List, [], _∷_}
+use mathlib.Core.Logic.{_⊎_, inl, inr}
+use mathlib.Core.List.{List, [], _∷_, _++_}
 use Prim.Native.Nat.{ℕ, zero, suc, _+_, _-_, _*_, _/_, _%_, _^_, _<_, _≤_}
 use native.Mathlib.Nat.{add-zero, zero-add, add-suc, add-assoc, mul-assoc, mul-one, pow-suc, mod-lt, div-add-mod', div-one, div-eq-of-lt, div-div-eq-div-mul}
 use native.Mathlib.Omega.{arith}
 use lib.Dec.{lit<, lit≤}
 use lib.Pow.{high, low}
-use lib.ListN.{length, getD}
-use Rattle.bits.specs.Bits.{bitOf, num, bitNum, bitAt, value, bitsFrom, bitsLeft}
+use lib.ListN.{length, getD, drop}
+use Rattle.laws.proofs.Rows.{lt-or-ge}
+use Rattle.bits.specs.Bits.{Bit, bitOf, num, bitsOf, bitNum, bitAt, value, bitsFrom, bitsLeft}
 
 pub bitNum-lt : (s : List ℕ) (i : ℕ) → bitNum s i < 2
 unfolding bitNum
@@ -107,3 +109,33 @@ left-none s n a h = let z : n - a ≡ 0 = omega arith in rw z
 pub left-more : (s : List ℕ) (n a : ℕ) → a < n → bitsLeft s n a ≡ bitAt s a ∷ bitsLeft s n (a + 1)
 unfolding bitsFrom
 left-more s n a h = let z : n - a ≡ suc (n - (a + 1)) = omega arith in rw z
+
+-- a run, split
+pub bits-split : (s : List ℕ) (a k m : ℕ) → bitsFrom s a (k + m) ≡ bitsFrom s a k ++ bitsFrom s (a + k) m
+unfolding bitsFrom
+bits-split s a zero m =
+    let e : 0 + m ≡ m = omega arith in
+    let f : a ≡ a + 0 = omega arith in
+    λ i. bitsFrom s (f i) (e i)
+bits-split s a (suc k) m =
+    let e : suc k + m ≡ suc (k + m) = omega arith in
+    let f : a + 1 + k ≡ a + suc k = omega arith in
+    ap (bitsFrom s a) e ∙ ap (λ (l : List Bit). bitAt s a ∷ l) (bits-split s (a + 1) k m ∙ ap (λ (j : ℕ). bitsFrom s (a + 1) k ++ bitsFrom s j m) f)
+
+-- the last k bits of a byte are its own
+pub byte-bits : (s : List ℕ) (i a k : ℕ) → k ≤ 8 → a + k ≡ i * 8 + 8 → bitsFrom s a k ≡ bitsOf k (getD s i 0)
+unfolding bitsFrom bitAt bitNum
+byte-bits s i a zero l e = refl
+byte-bits s i a (suc k) l e =
+    let d : a / 8 ≡ i = omega arith in
+    let m : 7 - a % 8 ≡ k = omega arith in
+    rw (d, m, byte-bits s i (a + 1) k (omega arith) (omega arith))
+
+-- what is left once some have gone
+pub left-drop : (s : List ℕ) (n a k : ℕ) → drop k (bitsLeft s n a) ≡ bitsLeft s n (a + k)
+left-drop s n a zero = let e : a ≡ a + 0 = omega arith in ap (bitsLeft s n) e
+left-drop s n a (suc k) = go (lt-or-ge a n) (left-drop s n (a + 1) k)
+  where
+    go : (a < n) ⊎ (n ≤ a) → drop k (bitsLeft s n (a + 1)) ≡ bitsLeft s n (a + 1 + k) → drop (suc k) (bitsLeft s n a) ≡ bitsLeft s n (a + suc k)
+    go (inl l) more = let e : a + 1 + k ≡ a + suc k = omega arith in ap (drop (suc k)) (left-more s n a l) ∙ more ∙ ap (bitsLeft s n) e
+    go (inr l) more = ap (drop (suc k)) (left-none s n a l) ∙ sym (left-none s n (a + suc k) (omega arith))

@@ -10,4 +10,5 @@ pub mod Splice
 pub mod Sum
 pub mod Table
 pub mod Tabulate
+pub mod Xor
 pub mod Zeros

@@ -1,15 +1,15 @@
 -- Parts of lists, and lists that agree. Assumes nothing.
-use mathlib.Core.Path.{_≡_, refl, sym, ap, _∙_}
+use mathlib.Core.Path.{_≡_, refl, sym, ap, ap₂, _∙_}
 use mathlib.Core.Bool.{true, false}
 use mathlib.Core.List.{List, [], _∷_}
 use Prim.Native.Nat.{ℕ, zero, suc, _+_, _≤_, _<_}
 use native.Mathlib.Nat.{zero-add, suc-add}
 use native.Mathlib.Numerals.{add-one}
-use lib.Dec.{eqb}
+use lib.Dec.{T, eqb, eqb→eq}
 use lib.ListN.{length, getD, take, drop, drop-of-length-le}
 use lib.Seq.{drop-cons, take-nil}
 use Rattle.laws.specs.Choice.{both}
-use Rattle.laws.proofs.Choice.{second-no}
+use Rattle.laws.proofs.Choice.{both-left, both-right, second-no}
 use Rattle.laws.specs.Lists.{alike}
 
 -- the element at a place, then the rest
@@ -20,6 +20,14 @@ pub drop-take : (n m : ℕ) (l : List ℕ) → drop n (take (n + m) l) ≡ take 
 drop-take zero m l = rw (zero-add m)
 drop-take (suc n) m [] = rw (suc-add n m) (sym (take-nil m))
 drop-take (suc n) m (x ∷ xs) = rw (suc-add n m) (drop-take n m xs)
+
+pub alike-equal : (xs ys : List ℕ) → T (alike xs ys) → xs ≡ ys
+unfolding alike
+alike-equal [] [] t = refl
+alike-equal [] (y ∷ ys) t = absurd t
+alike-equal (x ∷ xs) [] t = absurd t
+alike-equal (x ∷ xs) (y ∷ ys) t =
+    ap₂ (λ (z : ℕ) (zs : List ℕ). z ∷ zs) (eqb→eq x y (both-left (eqb x y) (alike xs ys) t)) (alike-equal xs ys (both-right (eqb x y) (alike xs ys) t))
 
 pub alike-lengths : (xs ys : List ℕ) → (length xs ≡ length ys → ⊥) → alike xs ys ≡ false
 unfolding alike

@@ -9,3 +9,4 @@ pub mod Tabulate
 pub mod Linear
 pub mod Row
 pub mod Lists
+pub mod Xor

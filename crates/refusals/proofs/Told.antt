@@ -5,20 +5,21 @@ use mathlib.Core.List.{List, [], _∷_}
 use lib.ListN.{getD}
 use native.Mathlib.Omega.{arith}
 use Rattle.refusals.specs.declared.Reason.{Reason}
-use Rattle.refusals.specs.declared.Reason.the-variants.{Length, Count, BitsEnd, NoStartCode, OtherFormat, OtherGroup, QuantiserZero, NoCodeword, AddressPast, Forbidden, CoefficientPast, VectorOut, StartCodeLast, BlockCheck, BlockField, OtherClip, UntrueMark, Invalid, AboveLimit, NotRefresh, AllSent}
+use Rattle.refusals.specs.declared.Reason.the-variants.{Length, Count, BitsEnd, NoStartCode, OtherFormat, OtherGroup, QuantiserZero, NoCodeword, AddressPast, Forbidden, CoefficientPast, VectorOut, StartCodeLast, BlockCheck, BlockField, OtherClip, UntrueMark, Invalid, AboveLimit, NotRefresh, AllSent, NoLock}
 use Rattle.refusals.specs.declared.Refusal.{Refusal}
 use Rattle.refusals.specs.declared.Verdict.{Verdict}
 use Rattle.refusals.specs.declared.Verdict.the-variants.{Accepted, Refused}
 use Rattle.refusals.specs.Number.{number, refusal}
 use Rattle.refusals.specs.Told.{Told, accepted, refused, toldVerdict, verdictOn, foundOr, NumberOnce, RefusalToldOnce, VerdictToldOnce}
 
--- ---- the reason of a number: 1 to 13, 21 to 24, 31 to 34
+-- ---- the reason of a number: 1 to 13, 21 to 24, 31 to 34, 44
 byNumber : List Reason
 byNumber =
     Length ∷ Length ∷ Count ∷ BitsEnd ∷ NoStartCode ∷ OtherFormat ∷ OtherGroup ∷ QuantiserZero ∷ NoCodeword ∷ AddressPast
     ∷ Forbidden ∷ CoefficientPast ∷ VectorOut ∷ StartCodeLast ∷ Length ∷ Length ∷ Length ∷ Length ∷ Length ∷ Length
     ∷ Length ∷ BlockCheck ∷ BlockField ∷ OtherClip ∷ UntrueMark ∷ Length ∷ Length ∷ Length ∷ Length ∷ Length
-    ∷ Length ∷ Invalid ∷ AboveLimit ∷ NotRefresh ∷ AllSent ∷ []
+    ∷ Length ∷ Invalid ∷ AboveLimit ∷ NotRefresh ∷ AllSent ∷ Length ∷ Length ∷ Length ∷ Length ∷ Length
+    ∷ Length ∷ Length ∷ Length ∷ Length ∷ NoLock ∷ []
 
 reasonOf : ℕ → Reason
 reasonOf n = getD byNumber n Length
@@ -46,6 +47,7 @@ reason-back Invalid = refl
 reason-back AboveLimit = refl
 reason-back NotRefresh = refl
 reason-back AllSent = refl
+reason-back NoLock = refl
 
 pub number-once : NumberOnce
 number-once a b e = sym (reason-back a) ∙ ap reasonOf e ∙ reason-back b

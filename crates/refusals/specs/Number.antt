@@ -1,7 +1,7 @@
 -- Document 01, "Refusal numbers": the number of each reason, in the table's order. Assumes nothing.
 use Prim.Native.Nat.{ℕ}
 use Rattle.refusals.specs.declared.Reason.{Reason}
-use Rattle.refusals.specs.declared.Reason.the-variants.{Length, Count, BitsEnd, NoStartCode, OtherFormat, OtherGroup, QuantiserZero, NoCodeword, AddressPast, Forbidden, CoefficientPast, VectorOut, StartCodeLast, BlockCheck, BlockField, OtherClip, UntrueMark, Invalid, AboveLimit, NotRefresh, AllSent}
+use Rattle.refusals.specs.declared.Reason.the-variants.{Length, Count, BitsEnd, NoStartCode, OtherFormat, OtherGroup, QuantiserZero, NoCodeword, AddressPast, Forbidden, CoefficientPast, VectorOut, StartCodeLast, BlockCheck, BlockField, OtherClip, UntrueMark, Invalid, AboveLimit, NotRefresh, AllSent, NoLock}
 use Rattle.refusals.specs.declared.Refusal.{Refusal}
 
 unfoldable pub number : Reason → ℕ
@@ -26,6 +26,7 @@ number Invalid = 31
 number AboveLimit = 32
 number NotRefresh = 33
 number AllSent = 34
+number NoLock = 44
 
 -- the refusal for a reason at a place
 abbrev pub refusal : Reason → ℕ → Refusal

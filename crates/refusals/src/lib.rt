@@ -24,6 +24,7 @@ pub enum Reason {
     AboveLimit,
     NotRefresh,
     AllSent,
+    NoLock,
 }
 
 pub struct Refusal {
@@ -63,5 +64,6 @@ pub fn number_of(reason: Reason) -> u32
         Reason::AboveLimit => 32,
         Reason::NotRefresh => 33,
         Reason::AllSent => 34,
+        Reason::NoLock => 44,
     }
 }

@@ -13,7 +13,9 @@ pub fn files(name: &str, seed: u64, count: usize) -> Option<Vec<File>> {
     let made = match name {
         "words" => return Some(super::words::files(seed, count)),
         "lists" => return Some(super::lists::files(seed, count)),
+        "captures" => return Some(super::captures::files(seed, count)),
         "packs" => return Some(super::packs::files(seed, count)),
+        "replays" => super::captures::make(seed, count),
         "blocks" => super::blocks::make(seed, count),
         "render" => super::render::make(seed, count),
         "pictures" => super::pictures::make(seed, count),

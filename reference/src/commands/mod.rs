@@ -2,6 +2,7 @@
 
 pub mod annex_a;
 pub mod blocks;
+pub mod captures;
 pub mod deliver;
 pub mod due;
 pub mod lists;

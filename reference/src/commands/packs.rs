@@ -42,6 +42,15 @@ pub fn files(seed: u64, count: usize) -> Vec<File> {
     files
 }
 
+/// A stream of either kind, in QCIF.
+pub fn any_stream(random: &mut Random) -> Bits {
+    if random.chance(2) {
+        tame_stream(random, Format::Qcif)
+    } else {
+        rough_stream(random, Format::Qcif)
+    }
+}
+
 /// As a coder writes it: small levels, each picture from a byte on.
 fn tame_stream(random: &mut Random, format: Format) -> Bits {
     let mut stream = Bits::default();

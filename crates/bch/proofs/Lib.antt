@@ -1,0 +1,12 @@
+pub mod Division
+pub mod Ends
+pub mod FoundPlaces
+pub mod Logarithms
+pub mod Lookups
+pub mod Register
+pub mod Search
+pub mod Sent
+pub mod Syndrome
+pub mod TurnedBits
+pub mod Unique
+pub mod Word
