@@ -15,6 +15,7 @@ pub fn files(name: &str, seed: u64, count: usize) -> Option<Vec<File>> {
         "lists" => return Some(super::lists::files(seed, count)),
         "captures" => return Some(super::captures::files(seed, count)),
         "packs" => return Some(super::packs::files(seed, count)),
+        "h263-streams" => return Some(super::h263::streams::files(seed, count)),
         "replays" => super::captures::make(seed, count),
         "blocks" => super::blocks::make(seed, count),
         "render" => super::render::make(seed, count),

@@ -1,0 +1,128 @@
+//! Raw H.263 streams: their samples, the comparison with another decoder, and streams to compare by.
+
+use reference::bits::Bits;
+use reference::h263::description::{Description, INTER_Q};
+use reference::h263::format::Format;
+use reference::h263::maker::{self, Loose, Style};
+use reference::h263::reconstruction::reconstruct;
+use reference::h263::stream::{append, pictures};
+use reference::h263::writer;
+use reference::random::Random;
+
+use super::super::made::File;
+use super::super::streams::Difference;
+
+/// The samples of every accepted picture, each over the one before; a grey store stands first.
+pub fn decode(format: Format, raw: &[u8]) -> Vec<u8> {
+    let mut store = vec![128; format.store_length()];
+    let mut output = Vec::new();
+    for picture in pictures(raw, format) {
+        match picture.answer {
+            Ok(description) => {
+                store = reconstruct(&description, &store);
+                output.extend(&store);
+            }
+            Err(refusal) => eprintln!("byte {}: {refusal}", picture.byte),
+        }
+    }
+    output
+}
+
+/// What a stream's pictures have, so that a comparison says what it has seen.
+#[derive(Default)]
+struct Census {
+    types: [usize; INTER_Q as usize + 1],
+    headers: usize,
+    half_vectors: usize,
+}
+
+impl Census {
+    fn count(&mut self, description: &Description) {
+        for macroblock in &description.macroblocks {
+            self.types[usize::from(macroblock.kind)] += 1;
+            let vector = macroblock.vector;
+            let halves = vector.horizontal % 2 != 0 || vector.vertical % 2 != 0;
+            self.half_vectors += usize::from(halves);
+        }
+        let stands = |quantiser: &&u8| **quantiser != 0;
+        self.headers += description.group_quantisers.iter().filter(stands).count();
+    }
+}
+
+/// Another decoder's samples against ours: each picture over the other decoder's own last picture, so
+/// that roundings don't add up, and over our own, where they do.
+pub fn compare(format: Format, raw: &[u8], theirs: &[u8]) -> Result<String, String> {
+    let length = format.store_length();
+    let read = pictures(raw, format);
+    if theirs.len() != length * read.len() {
+        return Err(format!(
+            "{} pictures in the stream, {} among the samples",
+            read.len(),
+            theirs.len() as f64 / length as f64
+        ));
+    }
+    let (mut largest, mut differing, mut drift) = (0, 0, 0);
+    let mut census = Census::default();
+    let grey = vec![128; length];
+    let mut own = grey.clone();
+    let mut last = &grey[..];
+    for (picture, samples) in read.iter().zip(theirs.chunks(length)) {
+        let description = picture
+            .answer
+            .as_ref()
+            .map_err(|refusal| format!("byte {}: {refusal}", picture.byte))?;
+        census.count(description);
+        let one = Difference::between(&reconstruct(description, last), samples);
+        largest = largest.max(one.largest);
+        differing += one.differing;
+        own = reconstruct(description, &own);
+        drift = drift.max(Difference::between(&own, samples).largest);
+        last = samples;
+    }
+    Ok(format!(
+        "{} pictures accepted; over the other's last picture: largest difference {largest}, {:.4} % of samples differ; over our own: largest {drift}; macroblocks of types 0 to 4: {:?}, {} with half samples; {} group headers\n",
+        read.len(),
+        100.0 * differing as f64 / theirs.len() as f64,
+        census.types,
+        census.half_vectors,
+        census.headers,
+    ))
+}
+
+/// For each N: stream-FORMAT-N.h263, pictures from byte to byte, with spares, GSTUF and escapes, levels that
+/// other decoders' transforms stand. Of every three, the last has first coefficients alone: `flat`.
+pub fn files(seed: u64, count: usize) -> Vec<File> {
+    let mut random = Random::new(seed);
+    (0..count)
+        .map(|number| {
+            let format = Format::ALL[number % 3];
+            let is_flat = number / 3 % 3 == 2;
+            let manner = if is_flat { "flat" } else { "tame" };
+            let stream = made_stream(&mut random, format, is_flat);
+            (
+                format!("stream-{}-{manner}-{number}.h263", format.name()),
+                stream.bytes,
+            )
+        })
+        .collect()
+}
+
+fn made_stream(random: &mut Random, format: Format, is_flat: bool) -> Bits {
+    let mut stream = Bits::default();
+    for number in 0..8 {
+        let style = match (number, is_flat) {
+            (0, true) => Style::FlatRefresh,
+            (0, false) => Style::TameRefresh,
+            (_, true) => Style::Flat,
+            (_, false) => Style::Tame,
+        };
+        let mut description = maker::description(random, format, style);
+        description.temporal_reference = number;
+        let mut manner = Loose {
+            random,
+            stuffing: false,
+        };
+        append(&mut stream, &writer::picture(&description, &mut manner));
+    }
+    stream
+}
