@@ -23,6 +23,10 @@ pub fn files(name: &str, seed: u64, count: usize) -> Option<Vec<File>> {
         "write" => super::write::make(seed, count),
         "send" => super::send::make(seed, count),
         "deliver" => super::deliver::make(seed, count),
+        "h263-words" => super::h263::words::make(seed, count),
+        "h263-render" => super::h263::render::make(seed, count),
+        "h263-pictures" => super::h263::pictures::make(seed, count),
+        "h263-write" => super::h263::write::make(seed, count),
         _ => return None,
     };
     Some(vec![

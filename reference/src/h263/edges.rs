@@ -260,13 +260,12 @@ pub fn edges() -> Vec<Edge> {
         picture_headers(&mut edges, format);
         group_headers(&mut edges, format);
         ends(&mut edges, format);
-        macroblocks(&mut edges, format);
         vectors(&mut edges, format);
-        blocks(&mut edges, format);
     }
-    for format in [Format::SubQcif, Format::Qcif] {
-        start_codes(&mut edges, format);
-    }
+    // No rule for these looks at the format.
+    macroblocks(&mut edges, Format::Qcif);
+    blocks(&mut edges, Format::Qcif);
+    start_codes(&mut edges, Format::SubQcif);
     every_word(&mut edges, Format::SubQcif);
     edges.list
 }
@@ -443,12 +442,7 @@ fn group_headers(edges: &mut Edges, format: Format) {
             let inside = header.clone().rows(1).macroblocks(column);
             no_header(edges, "a header inside the second group", &inside);
         }
-        let groups: Vec<usize> = if is_inter {
-            (1..format.groups()).collect()
-        } else {
-            vec![1, format.groups() - 1]
-        };
-        for group in groups {
+        for group in [1, format.groups() - 1] {
             let before = header.clone().rows(group);
             let standing = group * columns;
             edges.cut_inside("GBSC", &before, GROUP_START_CODE);

@@ -56,13 +56,14 @@ impl Style {
         }
     }
 
-    /// One macroblock of so many is sent in a picture of type INTER.
-    fn sent_one_of(self) -> Option<usize> {
+    /// How many of twelve macroblocks are sent in a picture of type INTER.
+    fn sent_of_twelve(self) -> usize {
         match self {
-            Style::Empty => None,
-            Style::Sparse => Some(12),
-            Style::Mixed => Some(2),
-            _ => Some(1),
+            Style::Empty => 0,
+            Style::Sparse => 1,
+            Style::Mixed => 6,
+            Style::Tame | Style::Flat | Style::Moving => 10,
+            _ => 12,
         }
     }
 
@@ -123,13 +124,8 @@ pub fn unlimited_description(random: &mut Random, format: Format, style: Style) 
             *quantiser = random_quantiser(random);
         }
     }
-    let sent_one_of = if is_refresh {
-        Some(1)
-    } else {
-        style.sent_one_of()
-    };
     for index in 0..format.macroblock_count() {
-        if sent_one_of.is_some_and(|one_of| random.chance(one_of)) {
+        if is_refresh || random.below(12) < style.sent_of_twelve() {
             let kind = random_kind(random, style, is_refresh);
             made.macroblocks[index] = macroblock(random, format, index, style, kind);
         }
@@ -335,8 +331,8 @@ fn block_bits(levels: &[i8]) -> usize {
 /// Writes what the Recommendation allows besides T-04's writer.
 pub struct Loose<'a> {
     pub random: &'a mut Random,
-    /// ffmpeg's decoder reads none before a header.
-    pub stuffing: bool,
+    /// Whether stuffing may stand before a header, where ffmpeg's decoder reads none.
+    pub stuffs_before_headers: bool,
 }
 
 impl Manner for Loose<'_> {
@@ -346,8 +342,12 @@ impl Manner for Loose<'_> {
     }
 
     fn stuffing(&mut self) -> usize {
-        if self.stuffing {
-            self.random.pick(&[0, 0, 0, 0, 0, 0, 1, 3])
+        self.random.pick(&[0, 0, 0, 0, 0, 0, 1, 3])
+    }
+
+    fn header_stuffing(&mut self) -> usize {
+        if self.stuffs_before_headers {
+            self.stuffing()
         } else {
             0
         }
@@ -369,7 +369,7 @@ impl Manner for Loose<'_> {
 pub fn loose_picture(random: &mut Random, description: &Description) -> Bits {
     let mut manner = Loose {
         random,
-        stuffing: true,
+        stuffs_before_headers: true,
     };
     writer::picture(description, &mut manner)
 }

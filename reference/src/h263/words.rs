@@ -1,5 +1,6 @@
 //! The codewords of Tables 4, 5, 10, 11 and 13 for reading, and as printed for writing.
 
+use std::collections::HashMap;
 use std::sync::LazyLock;
 
 use crate::bits::digits;
@@ -120,18 +121,18 @@ pub fn read_event(reads: &mut Reads) -> Result<Event, Refusal> {
     }
 }
 
-/// Table 13's word with its sign, where it has one.
-pub fn event_word(event: Event) -> Option<String> {
-    let magnitude = event.level.unsigned_abs();
-    // The longest run and the largest level of the table.
-    if event.run > 40 || magnitude > 12 {
-        return None;
-    }
-    let printed = tables::TCOEF
-        .iter()
-        .find(|&&(last, run, level, _)| (last, run, level) == (event.last, event.run, magnitude))?;
-    let sign = if event.level < 0 { '1' } else { '0' };
-    Some(format!("{}{sign}", printed.3))
+/// Table 13's words by LAST, RUN and magnitude.
+static UNSIGNED_WORDS: LazyLock<HashMap<(bool, u8, u8), &str>> = LazyLock::new(|| {
+    let entries = tables::TCOEF.iter();
+    entries
+        .map(|&(last, run, magnitude, word)| ((last, run, magnitude), word))
+        .collect()
+});
+
+/// Table 13's word without its sign bit, where it has one.
+pub fn unsigned_word(event: Event) -> Option<&'static str> {
+    let entry = (event.last, event.run, event.level.unsigned_abs());
+    UNSIGNED_WORDS.get(&entry).copied()
 }
 
 pub fn escape_word(event: Event) -> String {

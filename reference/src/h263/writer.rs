@@ -19,8 +19,13 @@ pub trait Manner {
         Vec::new()
     }
 
-    /// Stuffing before the next macroblock, or before the header of a group.
+    /// Stuffing before the next macroblock.
     fn stuffing(&mut self) -> usize {
+        0
+    }
+
+    /// Stuffing before the header of a group.
+    fn header_stuffing(&mut self) -> usize {
         0
     }
 
@@ -83,10 +88,10 @@ pub fn picture(description: &Description, manner: &mut impl Manner) -> Bits {
     for (index, macroblock) in description.macroblocks.iter().enumerate() {
         let group = index / format.columns();
         if index % format.columns() == 0 && description.has_header(group) {
-            stuffing(&mut bits, description, manner);
+            stuffing(&mut bits, description, manner.header_stuffing());
             group_header(&mut bits, description, group, manner);
         }
-        stuffing(&mut bits, description, manner);
+        stuffing(&mut bits, description, manner.stuffing());
         let has_header = description.has_header(group);
         let predictor = vectors::predictor(format, &description.macroblocks, index, has_header);
         write_macroblock(&mut bits, description, macroblock, predictor, manner);
@@ -115,8 +120,8 @@ fn is_inter(description: &Description) -> bool {
     description.picture_type == INTER_PICTURE
 }
 
-fn stuffing(bits: &mut Bits, description: &Description, manner: &mut impl Manner) {
-    for _ in 0..manner.stuffing() {
+fn stuffing(bits: &mut Bits, description: &Description, count: usize) {
+    for _ in 0..count {
         if is_inter(description) {
             bits.push(false); // COD
         }
@@ -208,8 +213,11 @@ pub fn coefficients(bits: &mut Bits, levels: &[i8], manner: &mut impl Manner) {
             run,
             level,
         };
-        match words::event_word(event) {
-            Some(word) if !manner.escapes() => bits.word(&word),
+        match words::unsigned_word(event) {
+            Some(word) if !manner.escapes() => {
+                bits.word(word);
+                bits.push(level < 0);
+            }
             _ => bits.word(&words::escape_word(event)),
         }
         run = 0;

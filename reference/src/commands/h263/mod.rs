@@ -1,10 +1,10 @@
 //! What the subcommands make of H.263.
 
-//TMP pub mod pictures;
-//TMP pub mod render;
+pub mod pictures;
+pub mod render;
 pub mod streams;
-//TMP pub mod words;
-//TMP pub mod write;
+pub mod words;
+pub mod write;
 
 use reference::h263::description::Description;
 

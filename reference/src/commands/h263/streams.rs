@@ -89,8 +89,8 @@ pub fn compare(format: Format, raw: &[u8], theirs: &[u8]) -> Result<String, Stri
     ))
 }
 
-/// For each N: stream-FORMAT-N.h263, pictures from byte to byte, with spares, GSTUF and escapes, levels that
-/// other decoders' transforms stand. Of every three, the last has first coefficients alone: `flat`.
+/// For each N: stream-FORMAT-N.h263, pictures from byte to byte, with stuffing, spares, GSTUF and escapes, and
+/// levels that other decoders' transforms stand. Of every three, the last has first coefficients alone: `flat`.
 pub fn files(seed: u64, count: usize) -> Vec<File> {
     let mut random = Random::new(seed);
     (0..count)
@@ -120,7 +120,7 @@ fn made_stream(random: &mut Random, format: Format, is_flat: bool) -> Bits {
         description.temporal_reference = number;
         let mut manner = Loose {
             random,
-            stuffing: false,
+            stuffs_before_headers: false,
         };
         append(&mut stream, &writer::picture(&description, &mut manner));
     }
