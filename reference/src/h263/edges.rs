@@ -928,7 +928,6 @@ fn every_word(edges: &mut Edges, format: Format) {
     for (last, _, _, word) in tables::TCOEF {
         for sign in ["0", "1"] {
             let word = format!("{word}{sign}");
-            edges.cut_inside("TCOEF", &at_intra, &word);
             edges.cut_inside("TCOEF", &at_inter, &word);
             for (draft, others) in [(&at_intra, 5), (&at_inter, 0)] {
                 let mut whole = draft.clone().read(&word);
