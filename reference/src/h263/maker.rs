@@ -8,6 +8,7 @@ use super::description::{
     Description, Macroblock, INTER, INTER_PICTURE, INTER_Q, INTRA, INTRA_PICTURE, INTRA_Q,
 };
 use super::format::Format;
+use super::stream;
 use super::vectors;
 use super::writer::{self, Manner, Plain};
 
@@ -24,7 +25,7 @@ pub enum Style {
     DenseRefresh,
     /// As many bits as the limit allows, to the bit.
     Full,
-    /// Levels of 1 to 3 alone, which other decoders' transforms stand as well.
+    /// Few levels, of 1 to 12 as Table 13 has them, which other decoders' transforms stand as well.
     Tame,
     TameRefresh,
     /// First coefficients alone: flat blocks, which every transform gives alike.
@@ -79,7 +80,7 @@ impl Style {
 
     fn largest_level(self, random: &mut Random) -> i8 {
         match self {
-            Style::Tame | Style::TameRefresh => 3,
+            Style::Tame | Style::TameRefresh => random.pick(&[1, 2, 3, 12]),
             _ => random.pick(&[1, 1, 1, 2, 3, 6, 12, 13, 127]),
         }
     }
@@ -395,4 +396,88 @@ pub fn noise(random: &mut Random, format: Format) -> Bits {
         bits.push(random.below(of) >= zeros);
     }
     bits
+}
+
+/// A raw stream for another decoder.
+pub struct MadeStream {
+    pub format: Format,
+    /// First coefficients alone.
+    pub is_flat: bool,
+    pub bits: Bits,
+}
+
+/// Streams of eight pictures from byte to byte, with stuffing, spares, GSTUF and escapes, and levels that
+/// other decoders' transforms stand: the three formats in turn, the last three of every nine flat.
+pub fn streams(seed: u64, count: usize) -> Vec<MadeStream> {
+    let mut random = Random::new(seed);
+    (0..count)
+        .map(|number| {
+            let format = Format::ALL[number % 3];
+            let is_flat = number % 9 >= 6;
+            MadeStream {
+                format,
+                is_flat,
+                bits: made_stream(&mut random, format, is_flat),
+            }
+        })
+        .collect()
+}
+
+fn made_stream(random: &mut Random, format: Format, is_flat: bool) -> Bits {
+    let mut bits = Bits::default();
+    for number in 0..8 {
+        let style = match (number, is_flat) {
+            (0, true) => Style::FlatRefresh,
+            (0, false) => Style::TameRefresh,
+            (_, true) => Style::Flat,
+            (_, false) => Style::Tame,
+        };
+        let mut description = description(random, format, style);
+        description.temporal_reference = number;
+        let mut manner = Loose {
+            random,
+            stuffs_before_headers: false,
+        };
+        let picture = writer::picture(&description, &mut manner);
+        stream::append(&mut bits, &picture);
+    }
+    bits
+}
+
+#[cfg(test)]
+mod tests {
+    use super::*;
+    use crate::bits::bit_of;
+    use crate::h263::reader::read_listed;
+    use crate::h263::tables;
+    use std::collections::HashSet;
+
+    /// What is compared with another decoder has every word of the five tables but INTER4V's.
+    #[test]
+    fn the_streams_have_every_word() {
+        let mut met = HashSet::new();
+        for made in streams(1, 36) {
+            for picture in stream::pictures(&made.bits.bytes, made.format) {
+                let bytes = &made.bits.bytes[picture.byte..];
+                for read in read_listed(bytes, picture.count, made.format).reads {
+                    let bit = |place| if bit_of(bytes, place) { '1' } else { '0' };
+                    let word: String = (read.place..read.place + read.width).map(bit).collect();
+                    met.insert((read.table, word));
+                }
+            }
+        }
+        let has = |table: u8, word: &str| met.contains(&(table, word.replace(' ', "")));
+        for (meaning, word) in tables::MCBPC_INTER {
+            let is_refused = matches!(meaning, tables::Mcbpc::Coded { mb_type: 2, .. });
+            assert_eq!(has(7, word), !is_refused, "{word}");
+        }
+        assert!(tables::MCBPC_INTRA.iter().all(|entry| has(6, entry.1)));
+        assert!(tables::CBPY.iter().all(|entry| has(8, entry.2)));
+        assert!(tables::MVD.iter().all(|entry| has(9, entry.2)));
+        for (_, _, _, word) in tables::TCOEF {
+            for sign in ["0", "1"] {
+                assert!(has(10, &format!("{word}{sign}")), "{word}{sign}");
+            }
+        }
+    }
 }

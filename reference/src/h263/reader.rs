@@ -132,7 +132,7 @@ fn read_macroblock_at(
         if begins_group && group > 0 && !description.has_header(group) {
             if let Some(gstuf) = start_code_ahead(reads)? {
                 if gstuf > 0 {
-                    reads.pass(gstuf);
+                    reads.pass(gstuf, 0);
                 }
                 description.group_quantisers[group] = read_group_header(reads, group)?;
             }

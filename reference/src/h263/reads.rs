@@ -11,6 +11,8 @@ use super::words::Words;
 pub struct Read {
     pub place: usize,
     pub width: usize,
+    /// 6 to 10 for a codeword (T-06), 0 for a field.
+    pub table: u8,
 }
 
 /// Exactly the picture's bits, the place of the next one, and what was read before it.
@@ -48,15 +50,19 @@ impl Reads {
     }
 
     /// A read of so many bits.
-    pub fn pass(&mut self, width: usize) {
+    pub fn pass(&mut self, width: usize, table: u8) {
         let place = self.place;
-        self.list.push(Read { place, width });
+        self.list.push(Read {
+            place,
+            width,
+            table,
+        });
         self.place += width;
     }
 
     /// A read that failed, as the refusal says.
     pub fn fail(&mut self, refusal: Refusal) -> Refusal {
-        self.pass(0);
+        self.pass(0, refusal.table);
         refusal
     }
 
@@ -68,7 +74,7 @@ impl Reads {
         let value = bits
             .iter()
             .fold(0, |value, &bit| 2 * value + u32::from(bit));
-        self.pass(width);
+        self.pass(width, 0);
         Ok(value)
     }
 
@@ -95,7 +101,7 @@ impl Reads {
         let value = bits
             .iter()
             .fold(0, |value, &bit| 2 * value + u32::from(bit));
-        self.pass(width);
+        self.pass(width, words.table);
         Ok((meaning, value))
     }
 

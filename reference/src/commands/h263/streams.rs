@@ -1,13 +1,10 @@
 //! Raw H.263 streams: their samples, the comparison with another decoder, and streams to compare by.
 
-use reference::bits::Bits;
 use reference::h263::description::{Description, INTER_Q};
 use reference::h263::format::Format;
-use reference::h263::maker::{self, Loose, Style};
+use reference::h263::maker;
 use reference::h263::reconstruction::reconstruct;
-use reference::h263::stream::{append, pictures};
-use reference::h263::writer;
-use reference::random::Random;
+use reference::h263::stream::pictures;
 
 use super::super::made::File;
 use super::super::streams::Difference;
@@ -89,40 +86,15 @@ pub fn compare(format: Format, raw: &[u8], theirs: &[u8]) -> Result<String, Stri
     ))
 }
 
-/// For each N: stream-FORMAT-N.h263, pictures from byte to byte, with stuffing, spares, GSTUF and escapes, and
-/// levels that other decoders' transforms stand. Of every three, the last has first coefficients alone: `flat`.
+/// stream-FORMAT-MANNER-N.h263, each `tame` or `flat`.
 pub fn files(seed: u64, count: usize) -> Vec<File> {
-    let mut random = Random::new(seed);
-    (0..count)
-        .map(|number| {
-            let format = Format::ALL[number % 3];
-            let is_flat = number / 3 % 3 == 2;
-            let manner = if is_flat { "flat" } else { "tame" };
-            let stream = made_stream(&mut random, format, is_flat);
-            (
-                format!("stream-{}-{manner}-{number}.h263", format.name()),
-                stream.bytes,
-            )
+    let streams = maker::streams(seed, count).into_iter().enumerate();
+    streams
+        .map(|(number, stream)| {
+            let format = stream.format.name();
+            let manner = if stream.is_flat { "flat" } else { "tame" };
+            let name = format!("stream-{format}-{manner}-{number}.h263");
+            (name, stream.bits.bytes)
         })
         .collect()
-}
-
-fn made_stream(random: &mut Random, format: Format, is_flat: bool) -> Bits {
-    let mut stream = Bits::default();
-    for number in 0..8 {
-        let style = match (number, is_flat) {
-            (0, true) => Style::FlatRefresh,
-            (0, false) => Style::TameRefresh,
-            (_, true) => Style::Flat,
-            (_, false) => Style::Tame,
-        };
-        let mut description = maker::description(random, format, style);
-        description.temporal_reference = number;
-        let mut manner = Loose {
-            random,
-            stuffs_before_headers: false,
-        };
-        append(&mut stream, &writer::picture(&description, &mut manner));
-    }
-    stream
 }
