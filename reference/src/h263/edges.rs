@@ -208,7 +208,7 @@ impl Edges {
     }
 
     fn no_word(&mut self, name: &str, draft: &Draft, bits: &str, table: u8) {
-        let refusal = Refusal::in_table(table, draft.place());
+        let refusal = Refusal::no_codeword(draft.place(), table);
         let whole = draft.clone().tail(bits);
         self.push(name, &whole, Some(refusal), draft.reads + 1);
     }

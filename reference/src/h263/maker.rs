@@ -332,14 +332,19 @@ fn block_bits(levels: &[i8]) -> usize {
 /// Writes what the Recommendation allows besides T-04's writer.
 pub struct Loose<'a> {
     pub random: &'a mut Random,
-    /// Whether stuffing may stand before a header, where ffmpeg's decoder reads none.
-    pub stuffs_before_headers: bool,
+    /// For other decoders: no stuffing before a header, where ffmpeg reads none, and no spares that the
+    /// Recommendation forbids to coders, since a start code may seem to stand over them.
+    pub is_careful: bool,
 }
 
 impl Manner for Loose<'_> {
     fn spares(&mut self) -> Vec<u8> {
         let count = self.random.pick(&[0, 0, 0, 1, 2, 5]);
-        self.random.bytes(count)
+        let mut spares = self.random.bytes(count);
+        if self.is_careful {
+            spares.retain(|spare| spare % 64 != 0);
+        }
+        spares
     }
 
     fn stuffing(&mut self) -> usize {
@@ -347,10 +352,10 @@ impl Manner for Loose<'_> {
     }
 
     fn header_stuffing(&mut self) -> usize {
-        if self.stuffs_before_headers {
-            self.stuffing()
-        } else {
+        if self.is_careful {
             0
+        } else {
+            self.stuffing()
         }
     }
 
@@ -370,7 +375,7 @@ impl Manner for Loose<'_> {
 pub fn loose_picture(random: &mut Random, description: &Description) -> Bits {
     let mut manner = Loose {
         random,
-        stuffs_before_headers: true,
+        is_careful: false,
     };
     writer::picture(description, &mut manner)
 }
@@ -436,7 +441,7 @@ fn made_stream(random: &mut Random, format: Format, is_flat: bool) -> Bits {
         description.temporal_reference = number;
         let mut manner = Loose {
             random,
-            stuffs_before_headers: false,
+            is_careful: true,
         };
         let picture = writer::picture(&description, &mut manner);
         stream::append(&mut bits, &picture);

@@ -151,7 +151,7 @@ fn read_macroblock_at(
         match reads.word(words)? {
             (_, Mcbpc::Stuffing) => {}
             (_, Mcbpc::Coded { mb_type, cbpc }) => {
-                let kind = kind_of(mb_type).ok_or(Refusal::in_table(table, start))?;
+                let kind = kind_of(mb_type).ok_or(Refusal::no_codeword(start, table))?;
                 let predictor = vectors::predictor(
                     format,
                     &description.macroblocks,

@@ -90,7 +90,7 @@ impl Reads {
             let refusal = if words.begun_by(left) {
                 Refusal::at(3, self.place)
             } else {
-                Refusal::in_table(words.table, self.place)
+                Refusal::no_codeword(self.place, words.table)
             };
             return Err(self.fail(refusal));
         };

@@ -20,17 +20,17 @@ impl Refusal {
         }
     }
 
-    /// No such codeword in this table.
-    pub fn in_table(table: u8, place: usize) -> Refusal {
+    pub fn plain(number: u8) -> Refusal {
+        Refusal::at(number, 0)
+    }
+
+    /// 8: no codeword of the table stands at the place.
+    pub fn no_codeword(place: usize, table: u8) -> Refusal {
         Refusal {
             number: 8,
             place,
             table,
         }
-    }
-
-    pub fn plain(number: u8) -> Refusal {
-        Refusal::at(number, 0)
     }
 
     pub fn has_place(self) -> bool {
@@ -45,7 +45,7 @@ impl fmt::Display for Refusal {
         if self.has_place() {
             write!(out, " at {}", self.place)?;
         }
-        if self.table != 0 {
+        if self.number == 8 {
             write!(out, " table {}", self.table)?;
         }
         Ok(())

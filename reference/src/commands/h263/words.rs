@@ -2,6 +2,7 @@
 //! codeword, and random bits.
 
 use reference::h263::reads::Reads;
+use reference::h263::refusal::Refusal;
 use reference::h263::tables;
 use reference::h263::words::{self, read_event, Event};
 use reference::random::Random;
@@ -70,7 +71,11 @@ impl Table {
         };
         match meaning {
             Ok(meaning) => format!("got {meaning} {}", reads.place()),
-            Err(refusal) => format!("refused {} {}", refusal.number, refusal.place),
+            Err(Refusal {
+                number,
+                place,
+                table,
+            }) => format!("refused {number} {place} {table}"),
         }
     }
 }
