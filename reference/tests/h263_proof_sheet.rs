@@ -151,6 +151,12 @@ fn predictors() {
     // The last column: 12, 20, 0.
     assert_eq!(at(&macroblocks, 21, false), 12);
     assert_eq!(at(&macroblocks, 21, true), 12);
+    // Above to the right of the last column is zero, not MV1: 12, -20, 0.
+    macroblocks[10].vector = Vector {
+        horizontal: -20,
+        vertical: 20,
+    };
+    assert_eq!(at(&macroblocks, 21, false), 0);
     // INTRA counts as zero, whatever stands beside it: 1, 0, -4.
     macroblocks[1].kind = INTRA;
     assert_eq!(at(&macroblocks, 12, false), 0);

@@ -51,7 +51,8 @@ const ANOTHER: &str = "101";
 
 const CODE_1: &str = "0000 0001";
 
-/// A picture being written down, read by read.
+/// A picture being written down, read by read. What is called at every edge is kept out of line: inlined,
+/// it would cost the compiler more time than the tests take.
 #[derive(Clone)]
 struct Draft {
     opened: Format,
@@ -98,12 +99,14 @@ impl Draft {
         Draft::header(opened, false, 0)
     }
 
+    #[inline(never)]
     fn read(mut self, word: &str) -> Draft {
         self.bits.word(word);
         self.reads += 1;
         self
     }
 
+    #[inline(never)]
     fn reads(self, words: &[&str]) -> Draft {
         words.iter().fold(self, |draft, word| draft.read(word))
     }
@@ -113,12 +116,14 @@ impl Draft {
     }
 
     /// Bits that nobody reads.
+    #[inline(never)]
     fn tail(mut self, bits: &str) -> Draft {
         self.bits.word(bits);
         self
     }
 
     /// So many of the smallest macroblocks: unsent, or six DC codes.
+    #[inline(never)]
     fn macroblocks(self, count: usize) -> Draft {
         (0..count).fold(self, |draft, _| {
             if draft.is_inter {
@@ -129,6 +134,7 @@ impl Draft {
         })
     }
 
+    #[inline(never)]
     fn dc_codes(self, count: usize) -> Draft {
         (0..count).fold(self, |draft, _| draft.read(CODE_1))
     }
@@ -144,6 +150,7 @@ impl Draft {
         self.macroblocks(count - standing)
     }
 
+    #[inline(never)]
     fn stuffing(self) -> Draft {
         if self.is_inter {
             self.reads(&["0", STUFFING])
@@ -153,6 +160,7 @@ impl Draft {
     }
 
     /// A header of 29 bits.
+    #[inline(never)]
     fn group_header(self, group: usize, quantiser: usize) -> Draft {
         self.read(GROUP_START_CODE)
             .field(group, 5)
@@ -185,6 +193,7 @@ struct Edges {
 }
 
 impl Edges {
+    #[inline(never)]
     fn push(&mut self, name: &str, draft: &Draft, refusal: Option<Refusal>, reads: usize) {
         self.list.push(Edge {
             name: name.to_string(),
@@ -196,17 +205,20 @@ impl Edges {
         });
     }
 
+    #[inline(never)]
     fn accepted(&mut self, name: &str, draft: &Draft) {
         self.push(name, draft, None, draft.reads);
     }
 
     /// Refused at the read that begins at the draft's end with these bits.
+    #[inline(never)]
     fn refused(&mut self, name: &str, draft: &Draft, bits: &str, number: u8) {
         let refusal = Refusal::at(number, draft.place());
         let whole = draft.clone().tail(bits);
         self.push(name, &whole, Some(refusal), draft.reads + 1);
     }
 
+    #[inline(never)]
     fn no_word(&mut self, name: &str, draft: &Draft, bits: &str, table: u8) {
         let refusal = Refusal::no_codeword(draft.place(), table);
         let whole = draft.clone().tail(bits);
@@ -215,6 +227,7 @@ impl Edges {
 
     /// The picture ends before or in the middle of `word`, which would stand at the draft's end: 3 there
     /// each time.
+    #[inline(never)]
     fn cut_inside(&mut self, name: &str, draft: &Draft, word: &str) {
         let word = word.replace(' ', "");
         for length in 0..word.len() {

@@ -126,7 +126,7 @@ fn read_macroblock_at(
     index: usize,
 ) -> Result<Macroblock, Refusal> {
     let group = index / format.columns();
-    let begins_group = index % format.columns() == 0;
+    let begins_group = index.is_multiple_of(format.columns());
     loop {
         // One header at most, before every group but the first.
         if begins_group && group > 0 && !description.has_header(group) {
