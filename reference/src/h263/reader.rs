@@ -143,15 +143,15 @@ fn read_macroblock_at(
             return Ok(Macroblock::unsent());
         }
         let start = reads.place();
-        let (words, table) = if is_inter_picture {
-            (&words::MCBPC_INTER, 7)
+        let words = if is_inter_picture {
+            &words::MCBPC_INTER
         } else {
-            (&words::MCBPC_INTRA, 6)
+            &words::MCBPC_INTRA
         };
         match reads.word(words)? {
             (_, Mcbpc::Stuffing) => {}
             (_, Mcbpc::Coded { mb_type, cbpc }) => {
-                let kind = kind_of(mb_type).ok_or(Refusal::no_codeword(start, table))?;
+                let kind = kind_of(mb_type).ok_or(Refusal::no_codeword(start, words.table))?;
                 let predictor = vectors::predictor(
                     format,
                     &description.macroblocks,
