@@ -775,6 +775,37 @@ fn vectors(edges: &mut Edges, format: Format) {
         &moved(headed.clone(), BY_0, BY_MINUS_32).finish(columns + 2),
     );
 
+    // The first row moves right by 31. In the first column of the second row 0, 31, 31 makes 31, and one
+    // less is inside; below a header the predictor is 0, and one less is outside.
+    let row = moved(moved(inter.clone(), BY_31, BY_0), BY_0, BY_0).macroblocks(columns - 2);
+    let below = moved(row.clone(), BY_MINUS_1, BY_0);
+    edges.accepted(
+        "median of 0, 31, 31, and one less",
+        &below.finish(columns + 1),
+    );
+    let headed = row.group_header(1, 1);
+    edges.out_of_picture(
+        "one less below a header",
+        &at_mvd(&headed),
+        BY_MINUS_1,
+        BY_0,
+    );
+
+    // In the last column of the second row 31, -1 and 0, since nothing stands above to the right.
+    let row = moved(inter.clone().macroblocks(columns - 1), BY_MINUS_1, BY_0);
+    let second = moved(row.macroblocks(columns - 2), BY_31, BY_0);
+    let last = moved(second.clone(), BY_MINUS_1, BY_0);
+    edges.accepted(
+        "median of 31, -1, 0, and one less",
+        &last.finish(2 * columns),
+    );
+    edges.out_of_picture(
+        "median of 31, -1, 0, and one more",
+        &at_mvd(&second),
+        BY_1,
+        BY_0,
+    );
+
     // Upwards from the first row is outside: what the predictor is, decides. Left 31, nothing above.
     let first = moved(inter.clone(), BY_0, BY_31);
     let last_column = (2..columns).fold(first, |draft, _| moved(draft, BY_0, BY_0));
