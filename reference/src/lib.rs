@@ -9,6 +9,7 @@ pub mod codewords;
 pub mod description;
 pub mod edges;
 pub mod format;
+pub mod h263;
 pub mod line;
 pub mod lister;
 pub mod maker;

@@ -4,11 +4,13 @@ use std::io::{self, Read, Write};
 use std::process::ExitCode;
 
 use reference::format::Format;
+use reference::h263;
 
 mod commands;
 
 const USAGE: &str = "usage:
   reference words|blocks|render|pictures|write|send|deliver|lists|packs|captures|replays SEED COUNT FOLDER
+  reference h263-words|h263-render|h263-pictures|h263-write|h263-streams SEED COUNT FOLDER
   reference due
   reference annex-a > COEFFICIENTS
   reference annex-a-figures < OUTPUTS
@@ -17,8 +19,8 @@ const USAGE: &str = "usage:
   reference record < STREAM > CAPTURE
   reference replay < CAPTURE > STREAM
   reference pack qcif|cif CLIP < RAW > BLOCKS
-  reference decode qcif|cif < RAW > SAMPLES
-  reference compare qcif|cif RAW SAMPLES";
+  reference decode qcif|cif|h263-sqcif|h263-qcif|h263-cif < RAW > SAMPLES
+  reference compare qcif|cif|h263-sqcif|h263-qcif|h263-cif RAW SAMPLES";
 
 /// What went wrong, in words for standard error.
 type Outcome = Result<(), String>;
@@ -57,9 +59,16 @@ fn run(arguments: &[&str]) -> Outcome {
             eprint!("{}", replayed.errors);
             output(&replayed.stream)
         }
-        ["decode", format] => output(&commands::streams::decode(named(format)?, &input()?)),
+        ["decode", format] => output(&match of_h263(format) {
+            Some(format) => commands::h263::streams::decode(format, &input()?),
+            None => commands::streams::decode(named(format)?, &input()?),
+        }),
         ["compare", format, raw, samples] => {
-            let text = commands::streams::compare(named(format)?, &file(raw)?, &file(samples)?)?;
+            let (raw, samples) = (file(raw)?, file(samples)?);
+            let text = match of_h263(format) {
+                Some(format) => commands::h263::streams::compare(format, &raw, &samples)?,
+                None => commands::streams::compare(named(format)?, &raw, &samples)?,
+            };
             output(text.as_bytes())
         }
         [name, seed, count, folder] => {
@@ -75,6 +84,10 @@ fn run(arguments: &[&str]) -> Outcome {
         }
         _ => Err(USAGE.to_string()),
     }
+}
+
+fn of_h263(format: &str) -> Option<h263::format::Format> {
+    h263::format::Format::from_name(format)
 }
 
 fn named(format: &str) -> Result<Format, String> {

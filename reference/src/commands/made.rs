@@ -15,6 +15,7 @@ pub fn files(name: &str, seed: u64, count: usize) -> Option<Vec<File>> {
         "lists" => return Some(super::lists::files(seed, count)),
         "captures" => return Some(super::captures::files(seed, count)),
         "packs" => return Some(super::packs::files(seed, count)),
+        "h263-streams" => return Some(super::h263::streams::files(seed, count)),
         "replays" => super::captures::make(seed, count),
         "blocks" => super::blocks::make(seed, count),
         "render" => super::render::make(seed, count),
@@ -22,6 +23,10 @@ pub fn files(name: &str, seed: u64, count: usize) -> Option<Vec<File>> {
         "write" => super::write::make(seed, count),
         "send" => super::send::make(seed, count),
         "deliver" => super::deliver::make(seed, count),
+        "h263-words" => super::h263::words::make(seed, count),
+        "h263-render" => super::h263::render::make(seed, count),
+        "h263-pictures" => super::h263::pictures::make(seed, count),
+        "h263-write" => super::h263::write::make(seed, count),
         _ => return None,
     };
     Some(vec![

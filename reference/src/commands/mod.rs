@@ -5,6 +5,7 @@ pub mod blocks;
 pub mod captures;
 pub mod deliver;
 pub mod due;
+pub mod h263;
 pub mod lists;
 pub mod made;
 pub mod packs;

@@ -14,7 +14,11 @@ use super::made::Made;
 
 /// The reference of every picture: byte i is (37·i + 11·(i/176)) mod 251.
 pub fn pattern(format: Format) -> Vec<u8> {
-    (0..format.store_length())
+    pattern_of(format.store_length())
+}
+
+pub fn pattern_of(length: usize) -> Vec<u8> {
+    (0..length)
         .map(|i| ((37 * i + 11 * (i / 176)) % 251) as u8)
         .collect()
 }

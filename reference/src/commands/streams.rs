@@ -94,13 +94,13 @@ pub fn decode(format: Format, raw: &[u8]) -> Vec<u8> {
 }
 
 /// How far one picture's samples lie from another's.
-struct Difference {
-    largest: u8,
-    differing: usize,
+pub struct Difference {
+    pub largest: u8,
+    pub differing: usize,
 }
 
 impl Difference {
-    fn between(ours: &[u8], theirs: &[u8]) -> Difference {
+    pub fn between(ours: &[u8], theirs: &[u8]) -> Difference {
         let distances = ours.iter().zip(theirs).map(|(&a, &b)| a.abs_diff(b));
         Difference {
             largest: distances.clone().max().unwrap_or(0),

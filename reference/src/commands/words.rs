@@ -137,7 +137,7 @@ fn coefficient_words(position: Position, random: &mut Random) -> Vec<String> {
 }
 
 /// The shortest rows of bits that begin no codeword.
-fn non_words(words: &[String]) -> Vec<String> {
+pub fn non_words(words: &[String]) -> Vec<String> {
     let begins = |row: &str| words.iter().any(|word| word.starts_with(row));
     let mut found = Vec::new();
     for word in words {
@@ -153,14 +153,27 @@ fn non_words(words: &[String]) -> Vec<String> {
     found
 }
 
-struct Record {
-    bytes: Vec<u8>,
-    count: usize,
-    at: usize,
+pub struct Record {
+    pub bytes: Vec<u8>,
+    pub count: usize,
+    pub at: usize,
+}
+
+impl Record {
+    /// In its fixed length.
+    pub fn put(&self, table: u8, width: usize, input: &mut Vec<u8>) {
+        let mut fixed = vec![table, width as u8];
+        super::put16(&mut fixed, self.count);
+        super::put16(&mut fixed, self.at);
+        fixed.extend([self.bytes.len() as u8, 0]);
+        fixed.extend(&self.bytes);
+        fixed.resize(RECORD_LENGTH, 0);
+        input.extend(fixed);
+    }
 }
 
 /// `word` at a place, after and before random bits; `cut` bits of it are left.
-fn record(random: &mut Random, word: &str, at: usize, cut: Option<usize>) -> Record {
+pub fn record(random: &mut Random, word: &str, at: usize, cut: Option<usize>) -> Record {
     let mut bits = Bits::default();
     while bits.count < at {
         bits.push(random.chance(2));
@@ -184,7 +197,7 @@ fn record(random: &mut Random, word: &str, at: usize, cut: Option<usize>) -> Rec
     }
 }
 
-fn random_record(random: &mut Random) -> Record {
+pub fn random_record(random: &mut Random) -> Record {
     let zeros = random.pick(&[2, 2, 3, 5, 9]);
     let mut bits = Bits::default();
     for _ in 0..random.below(8 * SLICE_LENGTH + 1) {
@@ -214,13 +227,7 @@ impl Collector {
         let (count, at) = (record.count, record.at);
         self.text
             .push_str(&format!("{name} {width} {hex} {count} {at}\n"));
-        let mut fixed = vec![table.number(), width as u8];
-        super::put16(&mut fixed, count);
-        super::put16(&mut fixed, at);
-        fixed.extend([record.bytes.len() as u8, 0]);
-        fixed.extend(&record.bytes);
-        fixed.resize(RECORD_LENGTH, 0);
-        self.input.extend(fixed);
+        record.put(table.number(), width, &mut self.input);
         self.expected.push_str(&table.answer(record));
         self.expected.push('\n');
     }

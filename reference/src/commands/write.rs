@@ -11,7 +11,7 @@ use super::made::Made;
 use super::Slices;
 
 /// What every byte of the output holds before a call.
-const BEFORE: u8 = 165;
+pub const BEFORE: u8 = 165;
 
 pub fn make(seed: u64, count: usize) -> Made {
     let mut random = Random::new(seed);
