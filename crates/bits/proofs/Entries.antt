@@ -74,6 +74,16 @@ entry-of t from width table ok i l =
 abbrev shown : List Entry → List ℕ → ℕ → ℕ → Decided
 shown table s at width = decide table (bitsFrom s at width) 0
 
+-- an entry with a length
+pub record WithLength (table : List Entry) (s : List ℕ) (n at e : ℕ) : Type 0 where
+  pub room : at + e % 32 ≤ n
+  pub word-is : got (e / 32) (bitsLeft s n (at + e % 32)) (at + e % 32) ≡ word table (bitsLeft s n at) at
+
+-- what an entry makes of the codeword at its bits
+pub record EntryReads (t : List ℕ) (root : ℕ) (table : List Entry) (s : List ℕ) (n at e : ℕ) : Type 0 where
+  pub found : (e % 32 ≡ 0 → ⊥) → WithLength table s n at e
+  pub without : e % 32 ≡ 0 → withoutEntry t root e (bitsLeft s n at) at ≡ word table (bitsLeft s n at) at
+
 -- a tree and entries that are right for a table, and the entry that is read
 module _ (t : List ℕ) (root from width : ℕ) (table : List Entry) (tree : T (right 16 t root table)) (ok : T (entriesRight t from width table))
     (small : width ≤ 24) (s : List ℕ) (n at e : ℕ) (inside : at ≤ n) (is : e ≡ entryRead t from width s n at) where
@@ -104,12 +114,11 @@ module _ (t : List ℕ) (root from width : ℕ) (table : List Entry) (tree : T (
   walked : walkOf 16 t root (bitsLeft s n at) at at ≡ word table (bitsLeft s n at) at
   walked = walk-right 16 t root table (bitsLeft s n at) at tree
 
-  -- ---- an entry with a length is the codeword
-  pub entry-word : (e % 32 ≡ 0 → ⊥) → got (e / 32) (bitsLeft s n (at + e % 32)) (at + e % 32) ≡ word table (bitsLeft s n at) at
-  entry-word some-length = by-left (ltb (n - at) width) refl
+  -- ---- an entry with a length is the codeword, and its bits are left
+  with-length : (e % 32 ≡ 0 → ⊥) → WithLength table s n at e
+  with-length some-length = by-left (ltb (n - at) width) refl
     where
-      by-shown : width ≤ n - at → (d : Decided) → shown table s at width ≡ d → e ≡ entryOf d → Reached 0 width d
-          → got (e / 32) (bitsLeft s n (at + e % 32)) (at + e % 32) ≡ word table (bitsLeft s n at) at
+      by-shown : width ≤ n - at → (d : Decided) → shown table s at width ≡ d → e ≡ entryOf d → Reached 0 width d → WithLength table s n at e
       by-shown l undecided f q r = absurd (some-length (ap (λ (x : ℕ). x % 32) q))
       by-shown l (dead k) f q r = absurd (some-length (ap (λ (x : ℕ). x % 32) q))
       by-shown l (ended k m) f q r =
@@ -117,15 +126,18 @@ module _ (t : List ℕ) (root from width : ℕ) (table : List Entry) (tree : T (
           let meaning : e / 32 ≡ m = omega arith in
           let size : e % 32 ≡ k = omega arith in
           let room : at + k ≤ n = omega (arith, r .1) in
-          (λ i. got (meaning i) (bitsLeft s n (at + size i)) (at + size i)) ∙ sym (word-ended k m f room)
+          record {
+            room = rw size room;
+            word-is = (λ i. got (meaning i) (bitsLeft s n (at + size i)) (at + size i)) ∙ sym (word-ended k m f room);
+          }
 
-      by-left : (b : Bool) → ltb (n - at) width ≡ b → got (e / 32) (bitsLeft s n (at + e % 32)) (at + e % 32) ≡ word table (bitsLeft s n at) at
+      by-left : (b : Bool) → ltb (n - at) width ≡ b → WithLength table s n at e
       by-left true f = absurd (some-length (ap (λ (x : ℕ). x % 32) (said-short f)))
       by-left false f = by-shown (ltb-false (n - at) width f) (shown table s at width) refl (said-shown f) reach
 
   -- ---- without one it is as the definition says
-  pub without-word : e % 32 ≡ 0 → withoutEntry t root e (bitsLeft s n at) at ≡ word table (bitsLeft s n at) at
-  without-word no-length = by-left (ltb (n - at) width) refl
+  without-length : e % 32 ≡ 0 → withoutEntry t root e (bitsLeft s n at) at ≡ word table (bitsLeft s n at) at
+  without-length no-length = by-left (ltb (n - at) width) refl
     where
       by-tree : e ≡ 32 → withoutEntry t root e (bitsLeft s n at) at ≡ word table (bitsLeft s n at) at
       by-tree q = let z : e ≡ 0 → ⊥ = λ y. omega arith in rw (ne-eqb e 0 z) walked
@@ -139,3 +151,6 @@ module _ (t : List ℕ) (root from width : ℕ) (table : List Entry) (tree : T (
       by-left : (b : Bool) → ltb (n - at) width ≡ b → withoutEntry t root e (bitsLeft s n at) at ≡ word table (bitsLeft s n at) at
       by-left true f = by-tree (said-short f)
       by-left false f = by-shown (ltb-false (n - at) width f) (shown table s at width) refl (said-shown f) reach
+
+  pub entry-reads : EntryReads t root table s n at e
+  entry-reads = record { found = with-length; without = without-length }
