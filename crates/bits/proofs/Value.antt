@@ -95,6 +95,11 @@ window-is s at =
     ap (λ (x : ℕ). value s (at / 8 * 8) x / 2 ^ (8 - at % 8) % 2 ^ 24) t
     ∙ value-within s (at / 8 * 8) (at % 8) 24 (8 - at % 8) ∙ ap (λ (x : ℕ). value s x 24) p
 
+-- the first k bits of a window
+pub window-first : (s : List ℕ) (at w k : ℕ) → w ≡ value s at 24 → k ≤ 24 → w / 2 ^ (24 - k) ≡ value s at k
+window-first s at w k e h =
+    let t : 24 ≡ k + (24 - k) = omega arith in ap (λ (x : ℕ). x / 2 ^ (24 - k)) (e ∙ ap (value s at) t) ∙ value-first s at k (24 - k)
+
 -- ---- lists of bits
 pub length-bits : (s : List ℕ) (a k : ℕ) → length (bitsFrom s a k) ≡ k
 unfolding bitsFrom

@@ -1,4 +1,4 @@
-// Bits of lent bytes, most significant first: fields, codewords by a tree, and the bit writer.
+// Bits of lent bytes, most significant first: fields, codewords by a tree and by entries for their first bits, and the bit writer.
 use refusals::Reason;
 use refusals::Refusal;
 ghost use mathlib.Core.Path.{_≡_};
@@ -8,6 +8,7 @@ ghost use Rattle.bits.specs.Bits.{bitsOf, value, bitsLeft};
 ghost use Rattle.bits.specs.Read.{field as fieldRead};
 ghost use Rattle.bits.specs.Answer.{Within, asField, fieldRefusal};
 ghost use Rattle.bits.specs.Tree.{walkOf};
+ghost use Rattle.bits.specs.Entries.{EntryAsked, entryRead, withoutEntry};
 ghost use Rattle.bits.specs.Write.{bytesWith};
 ghost use Rattle.bits.specs.Appended.{FieldFits, WroteBits, CountablePlace};
 
@@ -128,6 +129,40 @@ pub fn walk(tree: &[u16], root: usize, bytes: &[u8], count: usize, at: usize) ->
         reason: Reason::NoCodeword,
         place: at,
     })
+}
+
+// The entry for the `width` bits from `at`, in a table of entries by bits; where fewer are left, the one that decides nothing.
+pub fn entry(table: &[u16], from: usize, width: usize, bytes: &[u8], count: usize, at: usize) -> u16
+    requires { ⌜ EntryAsked (now table) from width count at ⌝ }
+    ensures { λ r. ⌜ r ≡ entryRead (now (table .entry)) from width (now (bytes .entry)) count at ⌝ }
+{
+    if count - at < width {
+        return 32;
+    }
+    let after = 24 - width;
+    let number = window(bytes, at) >> after;
+    table[from + number as usize]
+}
+
+// The codeword at `at` where its entry has no length: no codeword stands there, or the tree decides.
+pub fn without_entry(
+    tree: &[u16],
+    root: usize,
+    found: u16,
+    bytes: &[u8],
+    count: usize,
+    at: usize,
+) -> FieldRead
+    requires { ⌜ (Within (now bytes) count at) × (root < 256) ⌝ }
+    ensures { λ r. ⌜ asField (now (bytes .entry)) count r ≡ withoutEntry (now (tree .entry)) root found (bitsLeft (now (bytes .entry)) count at) at ⌝ }
+{
+    if found == 0 {
+        return FieldRead::Refused(Refusal {
+            reason: Reason::NoCodeword,
+            place: at,
+        });
+    }
+    walk(tree, root, bytes, count, at)
 }
 
 // `value` in `width` bits at `at`. The rest of the last byte that they start is zeroed, and no byte after it is touched.

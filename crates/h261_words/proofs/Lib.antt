@@ -4,3 +4,4 @@ pub mod TypeSays
 pub mod Back
 pub mod Coefficients
 pub mod WordReads
+pub mod Addresses

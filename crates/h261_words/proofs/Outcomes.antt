@@ -16,7 +16,7 @@ use Rattle.refusals.specs.declared.Reason.the-variants.{BitsEnd, NoCodeword, Fo
 use Rattle.bits.specs.Bits.{Bit, bitsOf, value, bitsFrom, bitsLeft}
 use Rattle.bits.specs.Read.{got, bad, settle}
 use Rattle.bits.specs.Code.{Entry, word}
-use Rattle.bits.proofs.Value.{value-lt, value-first, value-within}
+use Rattle.bits.proofs.Value.{value-lt, value-first, value-within, window-first}
 use Rattle.bits.proofs.Numbers.{bits-value}
 use Rattle.bits.proofs.Fields.{field-at, field-short}
 use Rattle.bits.specs.Tree.{noEmpty, some}
@@ -85,10 +85,6 @@ looked t s n at from x table ok h k v = go (ltb x 128) refl
         says table s n at 8 (getD t (from + x / 32) 0) h k (rw w (either-right (ltb (x / 32) 4) _ (le-ltb (x / 32) 4 (omega arith)) a))
 
 -- ---- the outcomes
-window-first : (s : List ℕ) (at w k : ℕ) → w ≡ value s at 24 → k ≤ 20 → w / 2 ^ (24 - k) ≡ value s at k
-window-first s at w k v h =
-    let t : 24 ≡ k + (24 - k) = omega arith in ap (λ (x : ℕ). x / 2 ^ (24 - k)) (v ∙ ap (value s at) t) ∙ value-first s at k (24 - k)
-
 plus-allowed : (x : ℕ) → 0 < x → x < 16 → forbidden x ≡ false
 plus-allowed x h l = forbidden-no x (λ e. omega arith)
 
@@ -223,7 +219,7 @@ module _ {table : List Entry} {s : List ℕ} {n at e : ℕ} (inside : at ≤ n) 
   -- ---- by the window w, as the code takes the last bits of the codeword from it
   module _ (w : ℕ) (v : w ≡ value s at 24) (d : Decided) (r : Says table s n at e d) where
     taken-is : w / 2 ^ (24 - e % 32) ≡ value s at (e % 32)
-    taken-is = window-first s at w (e % 32) v (r .small)
+    taken-is = window-first s at w (e % 32) v (omega (arith, r .small))
 
     module _ (l : e % 32 ≤ n - at) (z : e / 32 ≡ 513) where
       pub escape-bad : w / 2 ^ (24 - e % 32) % 256 % 128 ≡ 0 → bad Forbidden at ≡ coefficientRead table (bitsLeft s n at) at

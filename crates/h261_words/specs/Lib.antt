@@ -2,5 +2,6 @@ pub mod Tables
 pub mod Words
 pub mod Answer
 pub mod Lookup
+pub mod Addresses
 pub mod Back
 pub mod Written

@@ -10,6 +10,7 @@ use Rattle.laws.specs.Table.{allB}
 use Rattle.bits.specs.Bits.{Bit, bitsOf, same}
 use Rattle.bits.specs.Code.{Entry, wordOf, has}
 use Rattle.bits.specs.Tree.{right}
+use Rattle.bits.specs.Entries.{entriesRight}
 use Rattle.bits.specs.Windows.{Decided, undecided, dead, ended, decide, settled}
 use Rattle.h261_words.specs.Tables.{table1, table2, table3, table4, endOfBlock, escape, pairs, firstTable5, laterTable5}
 
@@ -51,6 +52,19 @@ cbpWordsAt = 1025
 
 abbrev pub pairWordsAt : ℕ
 pairWordsAt = 1089
+
+-- Tables 1 to 4 by their first 11, 10, 11 and 9 bits
+abbrev pub mbaEntriesAt : ℕ
+mbaEntriesAt = 1521
+
+abbrev pub mtypeEntriesAt : ℕ
+mtypeEntriesAt = 3569
+
+abbrev pub mvdEntriesAt : ℕ
+mvdEntriesAt = 4593
+
+abbrev pub cbpEntriesAt : ℕ
+cbpEntriesAt = 6641
 
 -- ---- Table 5 by its first bits
 -- the bits that follow a codeword of Table 5 and are one with it: a sign, or an escape's run and level
@@ -120,3 +134,7 @@ pub record Tables (t : List ℕ) : Type 0 where
   pub mvdWords : T (spelt t mvdWordsAt 32 table3)
   pub cbpWords : T (spelt t cbpWordsAt 64 table4)
   pub pairWords : T (spelt t pairWordsAt 432 pairs)
+  pub mbaEntries : T (entriesRight t mbaEntriesAt 11 table1)
+  pub mtypeEntries : T (entriesRight t mtypeEntriesAt 10 table2)
+  pub mvdEntries : T (entriesRight t mvdEntriesAt 11 table3)
+  pub cbpEntries : T (entriesRight t cbpEntriesAt 9 table4)

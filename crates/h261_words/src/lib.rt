@@ -24,7 +24,7 @@ mod lookup;
 use lookup::TABLES;
 
 // The array that every function here looks up, and where its parts begin (see TABLES). Make it once, high up, and lend it down.
-pub type WordTables = [u16; 1521];
+pub type WordTables = [u16; 7153];
 
 const MBA_TREE: usize = 0;
 
@@ -50,6 +50,14 @@ const CBP_WORDS: usize = 1025;
 
 const PAIR_WORDS: usize = 1089;
 
+const MBA_ENTRIES: usize = 1521;
+
+const MTYPE_ENTRIES: usize = 3569;
+
+const MVD_ENTRIES: usize = 4593;
+
+const CBP_ENTRIES: usize = 6641;
+
 pub fn tables() -> WordTables
     ensures { λ r. ⌜ Tables r ⌝ }
 {
@@ -68,7 +76,12 @@ pub fn mba(tables: &WordTables, bytes: &[u8], count: usize, at: usize) -> FieldR
     requires { ⌜ (Tables (now tables)) × (Within (now bytes) count at) ⌝ }
     ensures { λ r. ⌜ asField (now (bytes .entry)) count r ≡ wordRead table1 (bitsLeft (now (bytes .entry)) count at) at ⌝ }
 {
-    bits::walk(tables, MBA_TREE, bytes, count, at)
+    let e = bits::entry(tables, MBA_ENTRIES, 11, bytes, count, at);
+    let length = e % 32;
+    if length == 0 {
+        return bits::without_entry(tables, MBA_TREE, e, bytes, count, at);
+    }
+    FieldRead::Got((e / 32) as u32, at + length as usize)
 }
 
 // MTYPE at `at`: 1 to 10, in the order of document 01's table.
@@ -76,7 +89,12 @@ pub fn mtype(tables: &WordTables, bytes: &[u8], count: usize, at: usize) -> Fiel
     requires { ⌜ (Tables (now tables)) × (Within (now bytes) count at) ⌝ }
     ensures { λ r. ⌜ asField (now (bytes .entry)) count r ≡ wordRead table2 (bitsLeft (now (bytes .entry)) count at) at ⌝ }
 {
-    bits::walk(tables, MTYPE_TREE, bytes, count, at)
+    let e = bits::entry(tables, MTYPE_ENTRIES, 10, bytes, count, at);
+    let length = e % 32;
+    if length == 0 {
+        return bits::without_entry(tables, MTYPE_TREE, e, bytes, count, at);
+    }
+    FieldRead::Got((e / 32) as u32, at + length as usize)
 }
 
 // A component of MVD at `at`: 16 more than the difference that Table 3 prints first.
@@ -84,7 +102,12 @@ pub fn mvd(tables: &WordTables, bytes: &[u8], count: usize, at: usize) -> FieldR
     requires { ⌜ (Tables (now tables)) × (Within (now bytes) count at) ⌝ }
     ensures { λ r. ⌜ asField (now (bytes .entry)) count r ≡ wordRead table3 (bitsLeft (now (bytes .entry)) count at) at ⌝ }
 {
-    bits::walk(tables, MVD_TREE, bytes, count, at)
+    let e = bits::entry(tables, MVD_ENTRIES, 11, bytes, count, at);
+    let length = e % 32;
+    if length == 0 {
+        return bits::without_entry(tables, MVD_TREE, e, bytes, count, at);
+    }
+    FieldRead::Got((e / 32) as u32, at + length as usize)
 }
 
 // CBP at `at`: 1 to 63.
@@ -92,7 +115,12 @@ pub fn cbp(tables: &WordTables, bytes: &[u8], count: usize, at: usize) -> FieldR
     requires { ⌜ (Tables (now tables)) × (Within (now bytes) count at) ⌝ }
     ensures { λ r. ⌜ asField (now (bytes .entry)) count r ≡ wordRead table4 (bitsLeft (now (bytes .entry)) count at) at ⌝ }
 {
-    bits::walk(tables, CBP_TREE, bytes, count, at)
+    let e = bits::entry(tables, CBP_ENTRIES, 9, bytes, count, at);
+    let length = e % 32;
+    if length == 0 {
+        return bits::without_entry(tables, CBP_TREE, e, bytes, count, at);
+    }
+    FieldRead::Got((e / 32) as u32, at + length as usize)
 }
 
 // The entry of Table 5 for 13 bits of this number.
@@ -179,7 +207,7 @@ fn split(e: u16) -> Codeword
 
 // The codeword that an entry by meaning spells.
 fn spelt(tables: &WordTables, place: usize) -> Codeword
-    requires { ⌜ place < 1521 ⌝ }
+    requires { ⌜ place < 7153 ⌝ }
     ensures { λ r. ⌜ (r .width ≡ getD (now (tables .entry)) place 0 % 32) × (r .bits ≡ getD (now (tables .entry)) place 0 / 32) × (r .bits < 2048) ⌝ }
 {
     split(tables[place])

@@ -2,6 +2,7 @@
 //
 // Records of the case's length come on standard input, and the answer to each goes to standard output; src/words.rt, blocks.rt and due.rt say how both look. A short last
 // record is ignored.
+use h261_words::WordTables;
 use libc::STDERR_FILENO;
 ghost use Rattle.h261_words.specs.Lookup.{Tables};
 
@@ -34,7 +35,7 @@ fn case_named(word: &[u8]) -> Case {
 }
 
 // One record, and whether to go on.
-fn one(case: Case, tables: &[u16; 1521]) -> bool
+fn one(case: Case, tables: &WordTables) -> bool
     requires { ⌜ Tables (now tables) ⌝ }
 {
     match case {
@@ -46,7 +47,7 @@ fn one(case: Case, tables: &[u16; 1521]) -> bool
 }
 
 // Nothing says that the input ends, so the loop counts its turns.
-fn all(case: Case, tables: &[u16; 1521])
+fn all(case: Case, tables: &WordTables)
     requires { ⌜ Tables (now tables) ⌝ }
 {
     let mut n: u64 = 0;

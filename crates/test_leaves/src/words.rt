@@ -8,6 +8,7 @@ use checks::say;
 use checks::say_number;
 use checks::two;
 use h261_words::CoefficientRead;
+use h261_words::WordTables;
 use libc::STDOUT_FILENO;
 use refusals::Reason;
 use refusals::Refusal;
@@ -73,7 +74,7 @@ fn say_coefficient(r: CoefficientRead) {
     }
 }
 
-fn ask_word(tables: &[u16; 1521], kind: u8, bytes: &[u8], count: usize, at: usize)
+fn ask_word(tables: &WordTables, kind: u8, bytes: &[u8], count: usize, at: usize)
     requires { ⌜ (Tables (now tables)) × (Within (now bytes) count at) ⌝ }
 {
     match kind {
@@ -87,7 +88,7 @@ fn ask_word(tables: &[u16; 1521], kind: u8, bytes: &[u8], count: usize, at: usiz
     }
 }
 
-fn ask(tables: &[u16; 1521], kind: u8, width: usize, bytes: &[u8], count: usize, at: usize)
+fn ask(tables: &WordTables, kind: u8, width: usize, bytes: &[u8], count: usize, at: usize)
     requires { do ⌜ (Tables (now tables)) × ((← ⟦bytes.len()⟧) ≤ 24) ⌝ }
 {
     if bytes.len() * 8 < count {
@@ -115,7 +116,7 @@ fn wide(x: u8) -> usize
     x as usize
 }
 
-fn answer(tables: &[u16; 1521], record: &[u8; 32])
+fn answer(tables: &WordTables, record: &[u8; 32])
     requires { ⌜ Tables (now tables) ⌝ }
 {
     let size = wide(record[6]);
@@ -136,7 +137,7 @@ fn answer(tables: &[u16; 1521], record: &[u8; 32])
 }
 
 // One record, and whether to go on.
-pub fn one(tables: &[u16; 1521]) -> bool
+pub fn one(tables: &WordTables) -> bool
     requires { ⌜ Tables (now tables) ⌝ }
 {
     let mut record = [0u8; 32];

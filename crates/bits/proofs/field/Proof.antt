@@ -5,17 +5,14 @@ use Prim.Native.Nat.{ℕ, _+_, _-_, _/_, _^_, _≤_}
 use native.Mathlib.Omega.{arith}
 use Rattle.bits.specs.Bits.{value, bitsLeft}
 use Rattle.bits.specs.Read.{got, field}
-use Rattle.bits.proofs.Value.{value-first}
+use Rattle.bits.proofs.Value.{window-first}
 use Rattle.bits.proofs.Fields.{field-at, field-short}
 use borrow.Author.Needs.{needs}
 use Rattle.bits.proofs.field.Statement.{statement}
 use Rattle.bits.proofs.field.Tie as tie
 
 got-is : (s : List ℕ) (n at k w : ℕ) → k ≤ 24 → k ≤ n - at → w ≡ value s at 24 → got (w / 2 ^ (24 - k)) (bitsLeft s n (at + k)) (at + k) ≡ field k (bitsLeft s n at) at
-got-is s n at k w h l e =
-    let t : 24 ≡ k + (24 - k) = omega arith in
-    let v : w / 2 ^ (24 - k) ≡ value s at k = ap (λ (x : ℕ). x / 2 ^ (24 - k)) (e ∙ ap (value s at) t) ∙ value-first s at k (24 - k) in
-    ap (λ (x : ℕ). got x (bitsLeft s n (at + k)) (at + k)) v ∙ sym (field-at s n at k l)
+got-is s n at k w h l e = ap (λ (x : ℕ). got x (bitsLeft s n (at + k)) (at + k)) (window-first s at w k e h) ∙ sym (field-at s n at k l)
 
 returns : tie.Need-returns
 returns c =

@@ -1,12 +1,14 @@
 -- `h261_words::tables` meets its contract: antt computes each test over the array.
+use Rattle.laws.specs.Lists.{alike}
 use Rattle.bits.specs.Code.{wordOf, has}
+use Rattle.bits.specs.Entries.{entriesFrom}
 use Rattle.h261_words.specs.Tables.{table1, table2, table3, table4, pairs, firstTable5, laterTable5}
 use Rattle.h261_words.specs.Lookup.{agrees, looks, spells, spelt}
 use Rattle.h261_words.proofs.tables.Statement.{statement}
 use Rattle.h261_words.proofs.tables.Tie as tie
 
 returns : tie.Need-returns
-unfolding table1 table2 table3 table4 pairs firstTable5 laterTable5 agrees looks spells spelt wordOf has
+unfolding table1 table2 table3 table4 pairs firstTable5 laterTable5 agrees looks spells spelt wordOf has alike entriesFrom
 returns c =
     record {
       mba = tt;
@@ -20,6 +22,10 @@ returns c =
       mvdWords = tt;
       cbpWords = tt;
       pairWords = tt;
+      mbaEntries = tt;
+      mtypeEntries = tt;
+      mvdEntries = tt;
+      cbpEntries = tt;
     }
 
 pub tables-spec : {M : Type 1} → statement M
