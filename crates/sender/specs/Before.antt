@@ -1,5 +1,5 @@
--- Document 02, T-08: "a sender below 4,096 pictures writes the same bytes as before." A sender from before it sent 4,096 pictures and made their blocks by the rules of that time;
--- it was otherwise as it is now. Assumes nothing.
+-- Document 02, T-08: "a sender below 4,096 pictures writes the same bytes as before." A sender from before it had room for 4,096 pictures and made
+-- their blocks by the rules of that time; it was otherwise as it is now. Assumes nothing.
 use Prim.Native.Nat.{ℕ, _*_, _<_}
 use mathlib.Core.Path.{_≡_}
 use mathlib.Core.List.{List, _++_}

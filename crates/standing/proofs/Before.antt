@@ -6,7 +6,7 @@ use Rattle.coding.specs.Kind.{kindSize}
 use Rattle.vault.specs.declared.Header.{Header}
 use Rattle.vault.proofs.Before.{earlier-judged-alike, taken-refused-before}
 use Rattle.standing.specs.Receive.{lentLengths, judgedBlock, byJudgement, decide, cameTo, step}
-use Rattle.standing.specs.Before.{judgedBefore, stepBefore, EarlierReceivedAlike, LaterPassedBefore}
+use Rattle.standing.specs.Before.{judgedBefore, stepBefore, EarlierReceivedAlike, LaterIgnoredBefore}
 
 pub earlier-received-alike : EarlierReceivedAlike
 unfolding step decide stepBefore judgedBlock judgedBefore
@@ -14,7 +14,7 @@ earlier-received-alike D coding r block b l =
     ap (λ (told : Told Header). cameTo coding r block b (byJudgement coding (pick (lentLengths (kindSize (r .kind)) b) told (refused 1 0)) r block (b .collection)))
     (earlier-judged-alike (kindSize (r .kind)) block l .1 (r .clip))
 
-pub later-passed-before : LaterPassedBefore
+pub later-ignored-before : LaterIgnoredBefore
 unfolding stepBefore judgedBefore byJudgement cameTo
-later-passed-before D coding r block b header named good l =
+later-ignored-before D coding r block b header named good l =
     rw (named, taken-refused-before (kindSize (r .kind)) block header good l .1 (r .clip))

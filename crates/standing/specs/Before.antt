@@ -30,7 +30,7 @@ EarlierReceivedAlike = (D : Type 0) (coding : Kind → Coding D) (r : Receiver) 
     → step coding r block b ≡ stepBefore coding r block b
 
 -- a later one that is good now was refused by 22, and nothing changed by it: no state and no buffer, so that what was shown stayed
-abbrev pub LaterPassedBefore : Type 1
-LaterPassedBefore = (D : Type 0) (coding : Kind → Coding D) (r : Receiver) (block : List ℕ) (b : Buffers) (header : Header) → lentLengths (kindSize (r .kind)) b ≡ true
+abbrev pub LaterIgnoredBefore : Type 1
+LaterIgnoredBefore = (D : Type 0) (coding : Kind → Coding D) (r : Receiver) (block : List ℕ) (b : Buffers) (header : Header) → lentLengths (kindSize (r .kind)) b ≡ true
     → checkOf (kindSize (r .kind)) block ≡ accepted header → picturesBefore ≤ header .picture
     → stepBefore coding r block b ≡ record { gave = reply (A.refused 22 0) r; left = b }

@@ -76,7 +76,7 @@ headerOf block = record {
 abbrev pub clipRule : Header → Bool
 clipRule header = leb 1 (header .clip)
 
--- document 02, T-08: "Raise the limit to 1,048,576 per clip." That is 16 times 65,536, so that a high byte above 15 is a number above the limit
+-- document 02, T-08: "Raise the limit to 1,048,576 per clip." That is 16 times 65,536: a high byte above 15 makes a number that isn't below it
 abbrev pub pictures : ℕ
 pictures = 1048576
 
