@@ -7,10 +7,15 @@ use crate::refusal::Refusal;
 pub const BLOCK_LENGTH: usize = 512;
 pub const PAYLOAD_LENGTH: usize = 500;
 pub const PAYLOAD_BITS: usize = 4000;
-pub const LAST_PICTURE: u16 = 4095;
+/// Document 02, T-08: "Raise the limit to 1,048,576 per clip."
+pub const PICTURES: u32 = 1_048_576;
 
 const PAYLOAD_FROM: usize = 8;
 const PAYLOAD_TO: usize = PAYLOAD_FROM + PAYLOAD_LENGTH;
+/// "Byte 508 becomes the high byte of the picture number, 0..15; bytes 2-3 hold the rest."
+const HIGH_AT: usize = 508;
+const MOST_HIGH: u8 = 15;
+const ZERO_AT: usize = 509;
 const CHECK_FROM: usize = 510;
 const LAST_MARK: u8 = 1;
 const REFRESH_MARK: u8 = 2;
@@ -18,7 +23,7 @@ const REFRESH_MARK: u8 = 2;
 /// A place in a clip; compares by picture, then part.
 #[derive(Clone, Copy, PartialEq, Eq, PartialOrd, Ord, Debug)]
 pub struct Position {
-    pub picture: u16,
+    pub picture: u32,
     pub part: u8,
 }
 
@@ -53,7 +58,9 @@ impl Block {
     pub fn to_bytes(&self) -> [u8; BLOCK_LENGTH] {
         let mut bytes = [0; BLOCK_LENGTH];
         bytes[0..2].copy_from_slice(&self.clip.to_be_bytes());
-        bytes[2..4].copy_from_slice(&self.position.picture.to_be_bytes());
+        let [_, high, rest @ ..] = self.position.picture.to_be_bytes();
+        bytes[2..4].copy_from_slice(&rest);
+        bytes[HIGH_AT] = high;
         bytes[4] = self.position.part;
         bytes[5] = u8::from(self.is_last) * LAST_MARK + u8::from(self.is_refresh) * REFRESH_MARK;
         bytes[6..8].copy_from_slice(&(self.bits_used as u16).to_be_bytes());
@@ -77,7 +84,7 @@ impl Block {
         let block = Block {
             clip: pair(0),
             position: Position {
-                picture: pair(2),
+                picture: 65_536 * u32::from(bytes[HIGH_AT]) + u32::from(pair(2)),
                 part: bytes[4],
             },
             is_last: marks & LAST_MARK != 0,
@@ -85,8 +92,11 @@ impl Block {
             bits_used: usize::from(pair(6)),
             payload,
         };
-        let spare_bytes = pair(PAYLOAD_TO);
-        if marks > (LAST_MARK | REFRESH_MARK) || spare_bytes != 0 || !block.keeps_rules(format) {
+        let keeps_rules = marks <= (LAST_MARK | REFRESH_MARK)
+            && bytes[HIGH_AT] <= MOST_HIGH
+            && bytes[ZERO_AT] == 0
+            && block.keeps_rules(format);
+        if !keeps_rules {
             return Err(Refusal::plain(22));
         }
         Ok(block)
@@ -94,7 +104,6 @@ impl Block {
 
     fn keeps_rules(&self, format: Format) -> bool {
         self.clip != 0
-            && self.position.picture <= LAST_PICTURE
             && self.position.part <= format.last_part()
             && (!self.is_refresh || self.position.part == 0)
             && (1..=PAYLOAD_BITS).contains(&self.bits_used)
@@ -104,7 +113,7 @@ impl Block {
 }
 
 /// The blocks of a picture.
-pub fn blocks_of(clip: u16, picture: u16, is_refresh: bool, bits: &Bits) -> Vec<Block> {
+pub fn blocks_of(clip: u16, picture: u32, is_refresh: bool, bits: &Bits) -> Vec<Block> {
     let parts = bits.bytes.chunks(PAYLOAD_LENGTH);
     let last = parts.len() - 1;
     parts
@@ -129,6 +138,6 @@ pub fn blocks_of(clip: u16, picture: u16, is_refresh: bool, bits: &Bits) -> Vec<
 
 /// "1001 times the tick, over 30000, in f64: one division, rounded once, of two exactly converted whole
 /// numbers."
-pub fn due(tick: u16) -> f64 {
-    f64::from(1001 * u32::from(tick)) / 30_000.0
+pub fn due(tick: u32) -> f64 {
+    f64::from(1001 * tick) / 30_000.0
 }

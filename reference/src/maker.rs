@@ -1,7 +1,7 @@
 //! Random descriptions, loose writing, damage, and deliveries of blocks.
 
 use crate::bits::Bits;
-use crate::block::{self, BLOCK_LENGTH, PAYLOAD_LENGTH};
+use crate::block::{self, BLOCK_LENGTH, PAYLOAD_LENGTH, PICTURES};
 use crate::description::{self, Description, Macroblock, Vector};
 use crate::edges::edges;
 use crate::format::Format;
@@ -365,9 +365,25 @@ pub struct SentPicture {
     pub store: Vec<u8>,
 }
 
-/// A clip of so many pictures from a sender; one of six after the first is a refresh.
-pub fn clip(random: &mut Random, format: Format, clip: u16, pictures: usize) -> Vec<SentPicture> {
-    let mut sender = Sender::open(format, clip).expect("a clip that isn't 0");
+/// A number to begin with: 0, or one from which a clip soon passes 4095 or 65,535 or comes to its end.
+pub fn first_number(random: &mut Random, pictures: usize) -> u32 {
+    let past = random.pick(&[0, 0, 4_096, 65_536, PICTURES]);
+    if past == PICTURES {
+        return PICTURES - pictures as u32;
+    }
+    past.saturating_sub(random.below(pictures) as u32)
+}
+
+/// So many pictures from a sender, from the given number on; the first is a refresh, and one of six after it.
+pub fn clip(
+    random: &mut Random,
+    format: Format,
+    clip: u16,
+    first: u32,
+    pictures: usize,
+) -> Vec<SentPicture> {
+    let opened = Sender::open(format, clip).expect("a clip that isn't 0");
+    let mut sender = opened.before(first);
     let mut stores = [
         vec![0; format.store_length()],
         vec![0; format.store_length()],
@@ -526,12 +542,13 @@ fn forged(random: &mut Random, block: &[u8; BLOCK_LENGTH]) -> Vec<u8> {
         6 => bad[6..8].copy_from_slice(
             &(random.pick(&[0, 1, 3999, 4000, 4001, 65_535]) as u16).to_be_bytes(),
         ),
-        7 => bad[508 + random.below(2)] = 1,
+        7 => bad[508] = random.pick(&[1, 15, 16, 255]),
         8 => bad[507] ^= 1,
         9 => {
             let at = 8 + random.below(16);
             bad[at] ^= 1 << random.below(8);
         }
+        10 => bad[509] = 1,
         _ => {
             let at = 8 + random.below(PAYLOAD_LENGTH);
             bad[at] ^= 1 << random.below(8);

@@ -11,14 +11,14 @@ use crate::stores::Which;
 pub enum Stand {
     Lost,
     Catching,
-    InStep(u16),
+    InStep(u32),
 }
 
 #[derive(Clone, Copy, PartialEq, Eq, Debug)]
 pub struct Receiver {
     format: Format,
     clip: u16,
-    /// The part after the last and the picture after 4095 can be wanted, but never come.
+    /// The part after the last and the picture after the last can be wanted, but never come.
     wanted: Position,
     stand: Stand,
     /// The mark of the collection's part 0.
@@ -31,7 +31,7 @@ pub struct Receiver {
 pub enum Answer {
     Old(Position),
     Taken(Position),
-    Finished(u16),
+    Finished(u32),
     Lost,
     Refused(Refusal),
 }

@@ -1,6 +1,6 @@
 //! The sender: descriptions to blocks, keeping the store that a receiver in step has.
 
-use crate::block::{blocks_of, BLOCK_LENGTH};
+use crate::block::{blocks_of, BLOCK_LENGTH, PICTURES};
 use crate::description::Description;
 use crate::format::Format;
 use crate::reconstruction::reconstruct;
@@ -8,14 +8,12 @@ use crate::refusal::Refusal;
 use crate::stores::Which;
 use crate::writer::write_picture;
 
-pub const PICTURES: u16 = 4096;
-
 #[derive(Clone, Copy, PartialEq, Eq, Debug)]
 pub struct Sender {
     format: Format,
     clip: u16,
     /// The number of the next picture.
-    next: u16,
+    next: u32,
     /// The store that the next picture goes into; the other is its reference.
     into: Which,
 }
@@ -23,7 +21,7 @@ pub struct Sender {
 /// What was sent: the picture's number and how many blocks it took.
 #[derive(Clone, Copy, PartialEq, Eq, Debug)]
 pub struct Sent {
-    pub picture: u16,
+    pub picture: u32,
     pub blocks: usize,
 }
 
@@ -39,6 +37,11 @@ impl Sender {
             next: 0,
             into: Which::First,
         })
+    }
+
+    /// The sender as it stands before a later picture.
+    pub fn before(self, next: u32) -> Sender {
+        Sender { next, ..self }
     }
 
     /// Refusals in the order 1, 34, 31, 33, 32; then nothing changes.
@@ -57,7 +60,7 @@ impl Sender {
         {
             return Err(Refusal::plain(1));
         }
-        if self.next == PICTURES {
+        if self.next >= PICTURES {
             return Err(Refusal::plain(34));
         }
         if !description.is_valid(self.format) {

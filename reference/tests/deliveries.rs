@@ -1,7 +1,7 @@
 //! Demand 3 on random deliveries, and the receiver's refusals.
 
 use reference::bits::Bits;
-use reference::block::{blocks_of, seal, Block, Position};
+use reference::block::{blocks_of, seal, Block, Position, PICTURES};
 use reference::description::Description;
 use reference::format::Format;
 use reference::maker::{self, Honesty, Style};
@@ -60,14 +60,15 @@ fn in_step_shows_what_the_sender_has() {
         } else {
             Format::Qcif
         };
-        let sent = maker::clip(&mut random, format, 7, 12);
+        let first = maker::first_number(&mut random, 12);
+        let sent = maker::clip(&mut random, format, 7, first, 12);
         let blocks: Vec<_> = sent.iter().flat_map(|one| one.blocks.clone()).collect();
         let mut bench = Bench::new(format, 7);
         for block in maker::delivery(&mut random, format, &blocks, Honesty::Honest) {
             let answer = bench.receive(&block);
             match bench.receiver.stand() {
                 Stand::InStep(k) => {
-                    let store = &sent[usize::from(k)].store;
+                    let store = &sent[(k - first) as usize].store;
                     assert!(bench.shown(&answer) == Some(&store[..]), "picture {k}");
                 }
                 _ => assert!(bench.shown(&answer).is_none()),
@@ -83,10 +84,11 @@ fn in_step_shows_what_the_sender_has() {
 #[test]
 fn older_blocks_between_do_no_harm() {
     let mut random = Random::new(12);
-    let sent = maker::clip(&mut random, Format::Qcif, 1, 10);
+    let first = PICTURES - 10;
+    let sent = maker::clip(&mut random, Format::Qcif, 1, first, 10);
     let mut bench = Bench::new(Format::Qcif, 1);
     let mut earlier: Vec<Vec<u8>> = Vec::new();
-    for (number, one) in sent.iter().enumerate() {
+    for (number, one) in (first..).zip(&sent) {
         for block in &one.blocks {
             if !earlier.is_empty() && random.chance(2) {
                 let again = &earlier[random.below(earlier.len())];
@@ -95,7 +97,7 @@ fn older_blocks_between_do_no_harm() {
             bench.receive(block);
             earlier.push(block.to_vec());
         }
-        assert_eq!(bench.receiver.stand(), Stand::InStep(number as u16));
+        assert_eq!(bench.receiver.stand(), Stand::InStep(number));
     }
 }
 
@@ -109,7 +111,7 @@ fn refresh_bits() -> Bits {
     write_picture(&made, Format::Qcif).unwrap()
 }
 
-fn send(bench: &mut Bench, picture: u16, mark: bool, bits: &Bits) -> Vec<Answer> {
+fn send(bench: &mut Bench, picture: u32, mark: bool, bits: &Bits) -> Vec<Answer> {
     blocks_of(7, picture, mark, bits)
         .iter()
         .map(|block| bench.receive(&block.to_bytes()))
@@ -197,7 +199,7 @@ fn wrong_lengths_are_1_and_show_nothing() {
 fn each_rule_of_a_block() {
     let bits = refresh_bits();
     let good = blocks_of(7, 0, true, &bits)[0].to_bytes();
-    let last = blocks_of(7, 4095, false, &empty_bits())[0].to_bytes();
+    let last = blocks_of(7, PICTURES - 1, false, &empty_bits())[0].to_bytes();
     assert!(Block::judge(&good, Format::Qcif).is_ok());
     assert!(Block::judge(&last, Format::Qcif).is_ok());
     let changed = |block: &[u8; 512], at: usize, byte: u8| {
@@ -207,7 +209,12 @@ fn each_rule_of_a_block() {
         Block::judge(&bad, Format::Qcif).err()
     };
     let against_rule = Some(Refusal::plain(22));
-    assert_eq!(changed(&good, 2, 16), against_rule); // picture 4096
+    assert_eq!(changed(&good, 2, 16), None); // picture 4096
+    assert_eq!(changed(&good, 2, 255), None);
+    assert_eq!(changed(&good, 508, 1), None); // picture 65,536
+    assert_eq!(changed(&good, 508, 15), None);
+    assert_eq!(changed(&good, 508, 16), against_rule); // picture 1,048,576
+    assert_eq!(changed(&good, 508, 255), against_rule);
     assert_eq!(changed(&last, 4, 16), None);
     assert_eq!(changed(&last, 4, 17), against_rule);
     assert_eq!(changed(&good, 5, 6), against_rule);
@@ -217,7 +224,7 @@ fn each_rule_of_a_block() {
     assert_eq!(changed(&last, 7, 0), against_rule); // no bits
     assert_eq!(changed(&last, 6, 0x10), against_rule); // above 4000
     assert_eq!(changed(&last, 507, 1), against_rule);
-    assert_eq!(changed(&last, 508, 1), against_rule);
+    assert_eq!(changed(&last, 508, 16), against_rule);
     assert_eq!(changed(&last, 509, 1), against_rule);
     let mut of_no_clip = good;
     of_no_clip[..2].copy_from_slice(&[0, 0]);
@@ -227,12 +234,35 @@ fn each_rule_of_a_block() {
 }
 
 #[test]
-fn after_picture_4095_all_is_old() {
+fn a_number_is_a_high_byte_and_two_others() {
+    let numbers = [
+        (0, [0, 0, 0]),
+        (4095, [15, 255, 0]),
+        (4096, [16, 0, 0]),
+        (65_535, [255, 255, 0]),
+        (65_536, [0, 0, 1]),
+        (1_048_575, [255, 255, 15]),
+    ];
+    for (number, [two, three, high]) in numbers {
+        let bytes = blocks_of(7, number, false, &empty_bits())[0].to_bytes();
+        assert_eq!(
+            [bytes[2], bytes[3], bytes[508], bytes[509]],
+            [two, three, high, 0]
+        );
+        let block = Block::judge(&bytes, Format::Qcif).unwrap();
+        assert_eq!(block.position.picture, number);
+    }
+}
+
+#[test]
+fn after_the_last_picture_all_is_old() {
     let mut bench = Bench::new(Format::Qcif, 7);
-    send(&mut bench, 4095, true, &refresh_bits());
-    assert_eq!(bench.receiver.stand(), Stand::InStep(4095));
-    let answers = send(&mut bench, 4095, true, &refresh_bits());
-    assert!(answers
-        .iter()
-        .all(|answer| matches!(answer, Answer::Old(_))));
+    send(&mut bench, PICTURES - 1, true, &refresh_bits());
+    assert_eq!(bench.receiver.stand(), Stand::InStep(PICTURES - 1));
+    for number in [0, 4095, 4096, 65_535, 65_536, PICTURES - 1] {
+        let answers = send(&mut bench, number, true, &refresh_bits());
+        assert!(answers
+            .iter()
+            .all(|answer| matches!(answer, Answer::Old(_))));
+    }
 }

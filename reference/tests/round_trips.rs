@@ -1,5 +1,6 @@
 //! Random descriptions, written and read back; refusals of the writer and the sender.
 
+use reference::block::PICTURES;
 use reference::description::Description;
 use reference::format::Format;
 use reference::maker::{self, Style};
@@ -235,7 +236,7 @@ fn the_senders_refusals_in_order() {
     let mut out = vec![3; format.sent_length()];
     let mut random = Random::new(8);
     let refresh = maker::description(&mut random, format, Style::Refresh);
-    let mut send = |description: &Description| {
+    let mut send = |sender: &mut Sender, description: &Description| {
         let slices = (
             &description.head()[..],
             &description.macroblock_bytes()[..],
@@ -246,14 +247,16 @@ fn the_senders_refusals_in_order() {
     let empty = Description::empty(format);
     let mut invalid = empty.clone();
     invalid.indicators = 8;
-    assert_eq!(send(&invalid), Err(Refusal::plain(31)));
-    assert_eq!(send(&empty), Err(Refusal::plain(33)));
+    assert_eq!(send(&mut sender, &invalid), Err(Refusal::plain(31)));
+    assert_eq!(send(&mut sender, &empty), Err(Refusal::plain(33)));
     let other = Description::empty(Format::Cif);
-    assert_eq!(send(&other), Err(Refusal::plain(31)));
-    for number in 0..4096 {
-        let sent = if number == 0 { &refresh } else { &empty };
-        assert_eq!(send(sent).unwrap().picture, number);
+    assert_eq!(send(&mut sender, &other), Err(Refusal::plain(31)));
+    assert_eq!(send(&mut sender, &refresh).unwrap().picture, 0);
+    for number in 1..4100 {
+        assert_eq!(send(&mut sender, &empty).unwrap().picture, number);
     }
-    assert_eq!(send(&empty), Err(Refusal::plain(34)));
-    assert_eq!(send(&invalid), Err(Refusal::plain(34)));
+    sender = sender.before(PICTURES - 1);
+    assert_eq!(send(&mut sender, &empty).unwrap().picture, PICTURES - 1);
+    assert_eq!(send(&mut sender, &empty), Err(Refusal::plain(34)));
+    assert_eq!(send(&mut sender, &invalid), Err(Refusal::plain(34)));
 }

@@ -57,6 +57,13 @@ pub fn clip_of(a: u8, b: u8) -> u16
     two(a, b) as u16
 }
 
+// A picture's number, or its tick, in four bytes, high byte first.
+pub fn picture_of(a: u8, b: u8, c: u8, d: u8) -> u32
+    ensures { λ r. ⌜ r ≡ 16777216 * a + 65536 * b + 256 * c + d ⌝ }
+{
+    four(a, b, c, d) as u32
+}
+
 // The format that a record names: 0 QCIF, else CIF.
 pub fn format_of(byte: u8) -> Format
     ensures { λ r. ⌜ r ≡ pick (eqb byte 0) Qcif Cif ⌝ }

@@ -51,7 +51,7 @@ decodeRules k bytes n reference store =
 abbrev pub writeRules : Format → Flat → ℕ → List Verdict
 writeRules f d room = when 1 (opposite (lentLengths f d room)) ∷ when 31 (opposite (valid f d)) ∷ when 32 (ltb (limit (sizeOf f)) (length (pictureBits f d))) ∷ []
 
--- "Sender: 1, 34, 31, 33, 32." 34: "4,096 pictures sent"; 33: "picture 0 not a refresh"
+-- "Sender: 1, 34, 31, 33, 32." Document 02, T-08: "34 at the new limit"; 33: "picture 0 not a refresh"
 abbrev pub sendRules : Sender → Flat → S.Buffers → List Verdict
 sendRules s d b =
     when 1 (opposite (both (codingOf (s .kind) .named d) (S.lentLengths (kindSize (s .kind)) b))) ∷

@@ -11,6 +11,7 @@ use Rattle.layout.specs.Flat.{Flat}
 use Rattle.coding.specs.Kind.{kindSize, codingOf}
 use Rattle.coding.specs.Described.{BlankFor}
 use Rattle.vault.specs.declared.Header.{Header}
+use Rattle.vault.specs.Block.{pictures}
 use Rattle.standing.specs.Stores.{Stores}
 use Rattle.standing.specs.declared.Receiver.{Receiver}
 use Rattle.standing.specs.declared.Received.{Received}
@@ -23,7 +24,7 @@ ReceiveDoes r block b gave left = outcome gave left ≡ step codingOf r block b
 
 -- the header of a good block, and two stores of their named length
 pub record Fitting (kind : Kind) (header : Header) (first second : List ℕ) : Type 0 where
-  pub picture-is : header .picture < 4096
+  pub picture-is : header .picture < pictures
   pub part-is : header .part ≤ 65
   pub used-is : header .used ≤ 4000
   pub first-long : length first ≡ storeLength (kindSize kind)

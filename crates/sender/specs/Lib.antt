@@ -1,3 +1,4 @@
 pub mod Send
 pub mod Sending
 pub mod Run
+pub mod Before

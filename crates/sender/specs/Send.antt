@@ -90,7 +90,7 @@ module _ {D : Type 0} (coding : Kind → Coding D) where
       let c = coding (s .kind) in
       -- 1: "a lent buffer hasn't its named length"
       pick (both (c .named d) (lentLengths (kindSize (s .kind)) b))
-      -- 34: "4,096 pictures sent"
+      -- document 02, T-08: "34 at the new limit"
       (pick (ltb (s .picture) pictures)
       -- 31: "invalid description, or one of another format than opened"
       (pick (c .valid d)

@@ -3,3 +3,4 @@ pub mod Answered
 pub mod Receive
 pub mod Shown
 pub mod Run
+pub mod Before

@@ -10,6 +10,7 @@ ghost use lib.Dec.{eqb};
 ghost use Rattle.laws.specs.Choice.{both, opposite, alike};
 ghost use Rattle.refusals.specs.Number.{number};
 ghost use Rattle.refusals.specs.Told.{byTable};
+ghost use Rattle.vault.specs.Block.{pictures};
 ghost use Rattle.standing.specs.Answered.{toldOpened, old, taken, lost, picture, refused, said, reply, toldReceived};
 ghost use Rattle.standing.specs.Stores.{storesSized as sizedOf, goesInto, HandsBack};
 ghost use Rattle.standing.specs.Receive.{openedReceiver, earlierPlace as earlierOf, samePlace as sameOf, isLost, placeOf, lineOf, markOf, namedLengths as namedOf, lostProgress, takenProgress, endedProgress, withProgress, failedReceiver, finishedReceiver};
@@ -281,7 +282,7 @@ fn next_part(progress: Progress, header: Header, standing: Standing) -> Progress
 
 // Part 0 of the next picture is wanted.
 fn next_picture(progress: Progress, header: Header, standing: Standing) -> Progress
-    requires { ⌜ header .picture < 4096 ⌝ }
+    requires { ⌜ header .picture < pictures ⌝ }
     ensures { λ r. ⌜ r ≡ endedProgress progress header standing ⌝ }
 {
     let mark = mark_with(progress, header);
@@ -367,7 +368,7 @@ pub fn take(receiver: Receiver, header: Header, standing: Standing) -> Received
 
 // A last part, whose picture is refused: "refused means lost".
 pub fn fail(receiver: Receiver, header: Header, why: Refusal) -> Received
-    requires { ⌜ header .picture < 4096 ⌝ }
+    requires { ⌜ header .picture < pictures ⌝ }
     ensures { λ r. ⌜ toldReceived r ≡ reply (byTable refused why) (failedReceiver receiver header) ⌝ }
 {
     let progress = receiver.progress;
@@ -381,7 +382,7 @@ pub fn fail(receiver: Receiver, header: Header, why: Refusal) -> Received
 
 // A last part, whose picture is accepted: "accepted means in step at that picture".
 pub fn succeed(receiver: Receiver, header: Header) -> Received
-    requires { ⌜ header .picture < 4096 ⌝ }
+    requires { ⌜ header .picture < pictures ⌝ }
     ensures { λ r. ⌜ toldReceived r ≡ reply (picture (header .picture)) (finishedReceiver receiver header) ⌝ }
 {
     let kind = receiver.kind;

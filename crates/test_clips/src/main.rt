@@ -1,7 +1,7 @@
 // Tests clips sent and delivered: `test_clips send` or `test_clips deliver`.
 //
-// A session on standard input is the format (0 QCIF, 1 CIF), the clip in two bytes, the number of calls in four, and the calls; src/send.rt and deliver.rt say how a call and
-// its line look. Before a session every byte of the sender's output is 165, of the receiver's collection buffer 51, of the first store 17, of the second 34. Lines: "opened"
+// A session on standard input is the format (0 QCIF, 1 CIF), the clip in two bytes, the number of calls in four, of a sender also the number of its next picture in four, and
+// the calls; src/send.rt and deliver.rt say how a call and its line look. Before a session every byte of the sender's output is 165, of the receiver's collection buffer 51, of the first store 17, of the second 34. Lines: "opened"
 // or "refused 22", those of the calls, and after a receiver's calls "end COLLECTION FIRST SECOND" with the checks of the buffers. Stops at the end of the input and at a
 // record that has no such form.
 use checks::lent;
@@ -186,12 +186,21 @@ fn refused(why: Refusal) -> bool {
     true
 }
 
+fn open_sender(clip: u16, format: Format, count: usize) -> bool {
+    let mut number = [0u8; 4];
+    if !checks::fills(&mut number) {
+        return false;
+    }
+    let next = checks::picture_of(number[0], number[1], number[2], number[3]);
+    match sender::open(clip, coding::kind_of(format)) {
+        sender::Opened::Open(sender) => session(Party::Sending(send::before(sender, next)), count),
+        sender::Opened::Refused(why) => refused(why),
+    }
+}
+
 fn open(case: Case, clip: u16, format: Format, count: usize) -> bool {
     match case {
-        Case::Send => match sender::open(clip, coding::kind_of(format)) {
-            sender::Opened::Open(sender) => session(Party::Sending(sender), count),
-            sender::Opened::Refused(why) => refused(why),
-        },
+        Case::Send => open_sender(clip, format, count),
         Case::Deliver => match standing::open(clip, coding::kind_of(format)) {
             standing::Opened::Open(receiver) => session(Party::Receiving(receiver), count),
             standing::Opened::Refused(why) => refused(why),

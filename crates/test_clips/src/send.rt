@@ -7,6 +7,18 @@ use checks::part;
 use sender::Answer;
 use sender::Sender;
 
+// The sender as it stands before a later picture: a state is a value, so the clip's end need not be reached by sending.
+pub fn before(sender: Sender, picture: u32) -> Sender {
+    let kind = sender.kind;
+    let holder = sender.holder;
+    Sender {
+        clip: sender.clip,
+        kind,
+        picture,
+        holder,
+    }
+}
+
 fn say_answer(picture: u32, answer: Answer) {
     match answer {
         Answer::Blocks(blocks) => {

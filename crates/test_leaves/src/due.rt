@@ -1,4 +1,4 @@
-// Due times: a line "TICK BITS" for each tick of two bytes, high byte first, with the time's 64 bits as a whole number.
+// Due times: a line "TICK BITS" for each tick of four bytes, high byte first, with the time's 64 bits as a whole number.
 use libc::STDOUT_FILENO;
 
 // What is no number has no bits; every due time is one.
@@ -17,10 +17,11 @@ fn answer(tick: u32) {
 
 // One tick, and whether to go on.
 pub fn one() -> bool {
-    let mut record = [0u8; 2];
+    let mut record = [0u8; 4];
     if !checks::fills(&mut record) {
         return false;
     }
-    answer(checks::clip_of(record[0], record[1]) as u32);
+    let tick = checks::picture_of(record[0], record[1], record[2], record[3]);
+    answer(tick);
     true
 }

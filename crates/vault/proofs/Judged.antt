@@ -2,10 +2,10 @@
 -- Assumes nothing.
 use mathlib.Core.Path.{_≡_, refl, sym, ap, _∙_}
 use mathlib.Core.Bool.{Bool, true, false, false≢true}
-use mathlib.Core.List.{List, [], _∷_, _++_, append-assoc}
+use mathlib.Core.List.{List, _++_, append-assoc}
 use Prim.Native.Nat.{ℕ, _+_, _*_, _/_, _%_, _≤_, _<_}
 use native.Mathlib.Omega.{arith}
-use lib.ListN.{length, take}
+use lib.ListN.{length, getD, take}
 use lib.Seq.{take-at}
 use lib.Dec.{eqb, leb}
 use borrow.Author.Tests.{leb-true, ltb-true, eqb-true, eq-eqb}
@@ -17,13 +17,17 @@ use Rattle.refusals.specs.Told.{Told, accepted, refused}
 use Rattle.refusals.proofs.Told.{accepted-once, told-apart, refused-once}
 use Rattle.vault.specs.declared.Header.{Header}
 use Rattle.vault.specs.declared.Checked.the-variants.{Good, Refused}
-use Rattle.vault.specs.Block.{twoBytes, pairAt, headerOf, payloadOf, zerosOf, checkSumOf, marksOf, pictures, greatestPart, clipRule, pictureRule, partRule, refreshRule, usedRule, headerRuled, unusedClear, fieldsFollow, sumOf, CheckedToldOnce, checkOf, ofClip, judgeOf, bit, headBytes, bodyFor, blockFor}
-use Rattle.vault.proofs.Made.{before-zeros, body-length, block-length, sum-body}
+use Rattle.vault.specs.Block.{twoBytes, pairAt, pictureOf, headerOf, payloadOf, zeroOf, checkSumOf, marksOf, pictures, greatestPart, clipRule, pictureRule, partRule, refreshRule, usedRule, headerRuled, unusedClear, fieldsFollow, sumOf, CheckedToldOnce, checkOf, ofClip, judgeOf, bit, headBytes, endBytes, bodyFor, blockFor}
+use Rattle.vault.proofs.Made.{before-end, body-length, block-length, sum-body}
 
 -- ---- a block that was made
 -- the number of a number's two bytes
 pub pair-back : (n : ℕ) → 256 * (n / 256) + n % 256 ≡ n
 pair-back n = omega arith
+
+-- the number of a number's high byte and its two others
+number-back : (n : ℕ) → 65536 * (n / 65536) + (256 * (n % 65536 / 256) + n % 65536 % 256) ≡ n
+number-back n = omega arith
 
 last-back : (last refresh : Bool) → eqb ((bit last + 2 * bit refresh) % 2) 1 ≡ last
 last-back true true = refl
@@ -47,11 +51,25 @@ module _ (header : Header) (payload : List ℕ) (e : length payload ≡ 500) whe
   abbrev made : List ℕ
   made = blockFor header payload
 
+  -- what stands after the payload
+  abbrev ending : List ℕ
+  ending = endBytes header ++ twoBytes (sumOf (bodyFor header payload))
+
+  made-end : (k : ℕ) → getD made (508 + k) 0 ≡ getD ending k 0
+  unfolding blockFor bodyFor
+  made-end k =
+      ap (λ (block : List ℕ). getD block (508 + k) 0) (append-assoc (headBytes header ++ payload) (endBytes header) (twoBytes (sumOf (bodyFor header payload))))
+      ∙ getD-past (headBytes header ++ payload) ending 508 k 0 (before-end header payload e)
+
+  made-picture : pictureOf made ≡ header .picture
+  unfolding blockFor bodyFor
+  made-picture = ap (λ (high : ℕ). 65536 * high + pairAt made 2) (made-end 0) ∙ number-back (header .picture)
+
   pub made-header : headerOf made ≡ header
   unfolding blockFor bodyFor
   made-header = λ i. record {
     clip = pair-back (header .clip) i;
-    picture = pair-back (header .picture) i;
+    picture = made-picture i;
     part = header .part;
     last = last-back (header .last) (header .refresh) i;
     refresh = refresh-back (header .last) (header .refresh) i;
@@ -64,15 +82,10 @@ module _ (header : Header) (payload : List ℕ) (e : length payload ≡ 500) whe
 
   pub made-payload : payloadOf made ≡ payload
   unfolding blockFor bodyFor
-  made-payload = ap (take 500) (append-assoc payload (0 ∷ 0 ∷ []) _) ∙ take-at payload _ 500 e
+  made-payload = ap (take 500) (append-assoc payload (endBytes header) _) ∙ take-at payload _ 500 e
 
-  made-zeros : zerosOf made ≡ 0
-  unfolding blockFor bodyFor
-  made-zeros =
-      let end : List ℕ = 0 ∷ 0 ∷ twoBytes (sumOf (bodyFor header payload)) in
-      ap (λ (block : List ℕ). pairAt block 508) (append-assoc (headBytes header ++ payload) (0 ∷ 0 ∷ []) (twoBytes (sumOf (bodyFor header payload))))
-      ∙ (λ i. 256 * getD-past (headBytes header ++ payload) end 508 0 0 (before-zeros header payload e) i
-      + getD-past (headBytes header ++ payload) end 508 1 0 (before-zeros header payload e) i)
+  made-zero : zeroOf made ≡ 0
+  made-zero = made-end 1
 
   made-sum : sumOf made ≡ checkSumOf made
   unfolding blockFor
@@ -103,7 +116,7 @@ made-good size header payload e r k =
         both-true (ap (headerRuled size) (made-header header payload e) ∙ r)
         (both-true (made-marks header payload e)
         (both-true ((λ i. unusedClear (made-header header payload e i .used) (made-payload header payload e i) 500) ∙ k)
-        (eq-eqb (zerosOf (blockFor header payload)) 0 (made-zeros header payload e))))
+        (eq-eqb (zeroOf (blockFor header payload)) 0 (made-zero header payload e))))
 
 -- ---- a block that is good
 pub record Sound (size : Size) (block : List ℕ) (header : Header) : Type 0 where
@@ -122,7 +135,7 @@ unless true b e f = absurd (false≢true (sym f))
 unless false b e f = e
 
 -- a test whose failure refuses
-good-of : (t : Bool) (x : Told Header) (n : ℕ) (header : Header) → pick t x (refused n 0) ≡ accepted header → (t ≡ true) × (x ≡ accepted header)
+pub good-of : (t : Bool) (x : Told Header) (n : ℕ) (header : Header) → pick t x (refused n 0) ≡ accepted header → (t ≡ true) × (x ≡ accepted header)
 good-of true x n header e = (refl, e)
 good-of false x n header e = absurd (told-apart (sym e))
 

@@ -1,3 +1,4 @@
+pub mod Before
 pub mod Clear
 pub mod Collected
 pub mod Cut

@@ -1,4 +1,5 @@
--- Document 01, "A block of 512 bytes": its fields and their rules, the check sum, judging a block and making one. A block is its list of bytes.
+-- Document 01, "A block of 512 bytes", with the picture numbers of document 02, T-08: its fields and their rules, the check sum, judging a block and making one. A block is
+-- its list of bytes.
 -- Assumes nothing.
 use Prim.Native.Nat.{ℕ, zero, suc, _+_, _-_, _*_, _/_, _%_, _^_, min}
 use mathlib.Core.Path.{_≡_}
@@ -26,9 +27,9 @@ twoBytes n = n / 256 ∷ n % 256 ∷ []
 abbrev pub clipOf : List ℕ → ℕ
 clipOf block = pairAt block 0
 
--- "2-3 picture"
+-- document 02, T-08: "Byte 508 becomes the high byte of the picture number, 0..15; bytes 2-3 hold the rest."
 abbrev pub pictureOf : List ℕ → ℕ
-pictureOf block = pairAt block 2
+pictureOf block = 65536 * getD block 508 0 + pairAt block 2
 
 -- "4 part"
 abbrev pub partOf : List ℕ → ℕ
@@ -52,9 +53,9 @@ usedOf block = pairAt block 6
 abbrev pub payloadOf : List ℕ → List ℕ
 payloadOf block = take 500 (drop 8 block)
 
--- "508-509 zero"
-abbrev pub zerosOf : List ℕ → ℕ
-zerosOf block = pairAt block 508
+-- "508-509 zero", of which 508 is the picture's now
+abbrev pub zeroOf : List ℕ → ℕ
+zeroOf block = getD block 509 0
 
 -- "510-511 the sum"
 abbrev pub checkSumOf : List ℕ → ℕ
@@ -75,9 +76,9 @@ headerOf block = record {
 abbrev pub clipRule : Header → Bool
 clipRule header = leb 1 (header .clip)
 
--- "picture, 0..4095"
+-- document 02, T-08: "Raise the limit to 1,048,576 per clip." That is 16 times 65,536: a high byte above 15 makes a number that isn't below it
 abbrev pub pictures : ℕ
-pictures = 4096
+pictures = 1048576
 
 abbrev pub pictureRule : Header → Bool
 pictureRule header = ltb (header .picture) pictures
@@ -116,7 +117,7 @@ unusedClear used payload (suc n) = both (unusedClear used payload n) (eqb (getD 
 unfoldable pub fieldsFollow : Size → List ℕ → Bool
 fieldsFollow size block =
     both (headerRuled size (headerOf block))
-    (both (leb (marksOf block) 3) (both (unusedClear (usedOf block) (payloadOf block) 500) (eqb (zerosOf block) 0)))
+    (both (leb (marksOf block) 3) (both (unusedClear (usedOf block) (payloadOf block) 500) (eqb (zeroOf block) 0)))
 
 -- ---- the check sum
 -- the sum of (i+1) times byte i over the first n bytes
@@ -162,13 +163,18 @@ bit false = 0
 abbrev pub marksFor : Header → ℕ
 marksFor header = bit (header .last) + 2 * bit (header .refresh)
 
+-- bytes 0 to 7
 abbrev pub headBytes : Header → List ℕ
 headBytes header =
-    twoBytes (header .clip) ++ twoBytes (header .picture) ++ (header .part ∷ marksFor header ∷ []) ++ twoBytes (header .used)
+    twoBytes (header .clip) ++ twoBytes (header .picture % 65536) ++ (header .part ∷ marksFor header ∷ []) ++ twoBytes (header .used)
+
+-- bytes 508 and 509
+abbrev pub endBytes : Header → List ℕ
+endBytes header = header .picture / 65536 ∷ 0 ∷ []
 
 -- bytes 0 to 509
 unfoldable pub bodyFor : Header → List ℕ → List ℕ
-bodyFor header payload = headBytes header ++ payload ++ (0 ∷ 0 ∷ [])
+bodyFor header payload = headBytes header ++ payload ++ endBytes header
 
 unfoldable pub blockFor : Header → List ℕ → List ℕ
 blockFor header payload = bodyFor header payload ++ twoBytes (sumOf (bodyFor header payload))

@@ -1,3 +1,4 @@
 pub mod Block
 pub mod Parts
 pub mod Collected
+pub mod Before

@@ -29,7 +29,7 @@ pub enum Checked {
 }
 
 // How many pictures a clip can have.
-pub const PICTURES: u32 = 4096;
+pub const PICTURES: u32 = 1048576;
 
 // ---- reading a block
 
@@ -41,11 +41,12 @@ fn pair(block: &[u8], at: usize) -> u16
     256 * (block[at] as u16) + block[at + 1] as u16
 }
 
+// Byte 508 is the high byte, bytes 2 and 3 hold the rest.
 fn picture_of(block: &[u8]) -> u32
     requires { ⌜ length (now block) ≡ 512 ⌝ }
     ensures { λ r. ⌜ r ≡ pictureOf (now (block .entry)) ⌝ }
 {
-    pair(block, 2) as u32
+    65536 * (block[508] as u32) + pair(block, 2) as u32
 }
 
 fn header_of(block: &[u8]) -> Header
@@ -176,7 +177,7 @@ fn follows(size: Size, header: Header, block: &[u8]) -> bool
     if !unused_zero(block, header.used as usize) {
         return false;
     }
-    pair(block, 508) == 0
+    block[509] == 0
 }
 
 // ---- judging a block
@@ -240,17 +241,17 @@ fn marks(header: Header) -> u8
 }
 
 fn write_head(header: Header, block: &mut [u8])
-    requires { ⌜ (length (now block) ≡ 512) × (header .picture < pictures) ⌝ }
+    requires { ⌜ length (now block) ≡ 512 ⌝ }
     ensures { λ _. ⌜ now (block .exit) ≡ sets (now (block .entry)) 0 (headBytes header) ⌝ }
 {
     let clip = header.clip;
-    let picture = header.picture;
+    let low = header.picture % 65536;
     let used = header.used;
     let marked = marks(header);
     block[0] = (clip / 256) as u8;
     block[1] = (clip % 256) as u8;
-    block[2] = (picture / 256) as u8;
-    block[3] = (picture % 256) as u8;
+    block[2] = (low / 256) as u8;
+    block[3] = (low % 256) as u8;
     block[4] = header.part;
     block[5] = marked;
     block[6] = (used / 256) as u8;
@@ -318,7 +319,7 @@ fn write_block(header: Header, bytes: &[u8], count: usize, block: &mut [u8])
     let part = header.part as usize;
     write_head(header, block);
     write_payload(bytes, count, part, block);
-    block[508] = 0;
+    block[508] = (header.picture / 65536) as u8;
     block[509] = 0;
     write_sum(block);
 }

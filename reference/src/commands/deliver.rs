@@ -1,7 +1,7 @@
 //! Sessions of a receiver: what arrives, call by call.
 
 use reference::bits::Bits;
-use reference::block::{blocks_of, Block, Position, BLOCK_LENGTH};
+use reference::block::{blocks_of, Block, Position, BLOCK_LENGTH, PICTURES};
 use reference::check::check;
 use reference::description::Description;
 use reference::format::Format;
@@ -61,7 +61,8 @@ pub fn make(seed: u64, count: usize) -> Made {
 
 fn random_calls(random: &mut Random, format: Format, clip: u16) -> Vec<Call> {
     let pictures = random.between(3, 10) as usize;
-    let sent = maker::clip(random, format, clip, pictures);
+    let first = maker::first_number(random, pictures);
+    let sent = maker::clip(random, format, clip, first, pictures);
     let blocks: Vec<[u8; BLOCK_LENGTH]> = sent.into_iter().flat_map(|one| one.blocks).collect();
     let honesty = random.pick(&[Honesty::Honest, Honesty::Forged]);
     let mut calls = Vec::new();
@@ -91,7 +92,7 @@ fn hand_made(random: &mut Random, format: Format) -> Vec<Vec<Call>> {
     let dense = bits_of(&maker::description(random, format, Style::DenseRefresh));
     let empty = bits_of(&Description::empty(format));
     let cut = empty.cut(empty.count - 1);
-    let picture = |number: u16, mark: bool, bits: &Bits| -> Vec<Vec<u8>> {
+    let picture = |number: u32, mark: bool, bits: &Bits| -> Vec<Vec<u8>> {
         blocks_of(7, number, mark, bits)
             .iter()
             .map(|block| block.to_bytes().to_vec())
@@ -132,11 +133,33 @@ fn hand_made(random: &mut Random, format: Format) -> Vec<Vec<Call>> {
             picture(0, true, &refresh)[..1].to_vec(),
             picture(0, true, &refresh)[..1].to_vec(),
         ],
-        // The last picture's number.
+        // Past 4095, where the limit was, and past 65,535, where the high byte begins; a shortened number is old.
         vec![
             picture(4094, true, &refresh),
             picture(4095, false, &empty),
+            picture(4096, false, &empty),
             picture(4095, false, &empty),
+            picture(0, true, &refresh),
+        ],
+        vec![
+            picture(65_535, true, &refresh),
+            picture(65_536, false, &empty),
+            picture(65_537, false, &empty),
+            picture(1, true, &refresh),
+        ],
+        // A high byte that doesn't follow: lost.
+        vec![
+            picture(0, true, &refresh),
+            picture(65_537, false, &empty),
+            picture(131_072, true, &refresh),
+        ],
+        // The last picture's number, and those after it.
+        vec![
+            picture(PICTURES - 2, true, &refresh),
+            picture(PICTURES - 1, false, &empty),
+            picture(PICTURES - 1, false, &empty),
+            picture(PICTURES, true, &refresh),
+            picture(255 * 65_536, true, &refresh),
             picture(0, true, &refresh),
         ],
         vec![more_parts(format, false, 4000), picture(1, true, &refresh)],

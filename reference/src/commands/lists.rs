@@ -1,6 +1,8 @@
 //! Vaults for the lister.
 
-use reference::block::{blocks_of, BLOCK_LENGTH};
+use std::ops::Range;
+
+use reference::block::{blocks_of, BLOCK_LENGTH, PICTURES};
 use reference::description::{Description, INTRA};
 use reference::format::Format;
 use reference::lister::list;
@@ -22,6 +24,10 @@ pub fn files(seed: u64, count: usize) -> Vec<File> {
         example()[..BLOCK_LENGTH].to_vec(),
         example()[BLOCK_LENGTH..2 * BLOCK_LENGTH].to_vec(),
         maker::edge_blocks(Format::Qcif, 7).concat(),
+        // All of 4,100 pictures; past 65,535; up to the last one, and what is none.
+        numbered(0..4_100),
+        numbered(65_530..65_540),
+        numbered(PICTURES - 5..PICTURES + 2),
     ];
     for _ in 0..count {
         vaults.push(vault(&mut random));
@@ -39,8 +45,8 @@ pub fn files(seed: u64, count: usize) -> Vec<File> {
         .collect()
 }
 
-/// Picture 0 of clip 7 in two parts, the first part again.
-fn example() -> Vec<u8> {
+/// A refresh picture in two parts.
+fn grey() -> Description {
     let mut description = Description::empty(Format::Qcif);
     for macroblock in &mut description.macroblocks {
         macroblock.kind = INTRA;
@@ -48,7 +54,12 @@ fn example() -> Vec<u8> {
             block[0] = 100;
         }
     }
-    let bits = writer::picture(&description, &mut Plain);
+    description
+}
+
+/// Picture 0 of clip 7 in two parts, the first part again.
+fn example() -> Vec<u8> {
+    let bits = writer::picture(&grey(), &mut Plain);
     let blocks: Vec<_> = blocks_of(7, 0, true, &bits)
         .iter()
         .map(|block| block.to_bytes())
@@ -56,10 +67,24 @@ fn example() -> Vec<u8> {
     [blocks[0], blocks[1], blocks[0]].concat()
 }
 
+/// Pictures of these numbers in clip 7: a refresh, and then such in which nothing is sent; the first again.
+fn numbered(numbers: Range<u32>) -> Vec<u8> {
+    let empty = writer::picture(&Description::empty(Format::Qcif), &mut Plain);
+    let refresh = writer::picture(&grey(), &mut Plain);
+    let first = numbers.start;
+    let pictures = numbers.map(|number| (number, number == first));
+    pictures
+        .chain([(first, true)])
+        .flat_map(|(number, mark)| blocks_of(7, number, mark, if mark { &refresh } else { &empty }))
+        .flat_map(|block| block.to_bytes())
+        .collect()
+}
+
 fn vault(random: &mut Random) -> Vec<u8> {
     let clip = random.between(1, 65_535) as u16;
     let pictures = random.between(2, 12) as usize;
-    let sent = maker::clip(random, Format::Qcif, clip, pictures);
+    let first = maker::first_number(random, pictures);
+    let sent = maker::clip(random, Format::Qcif, clip, first, pictures);
     let blocks: Vec<[u8; BLOCK_LENGTH]> = sent.into_iter().flat_map(|one| one.blocks).collect();
     let honesty = random.pick(&[Honesty::Honest, Honesty::Forged]);
     let mut input = maker::delivery(random, Format::Qcif, &blocks, honesty).concat();

@@ -1,5 +1,6 @@
 //! Sessions of a sender.
 
+use reference::block::PICTURES;
 use reference::check::check;
 use reference::description::Description;
 use reference::format::Format;
@@ -39,10 +40,18 @@ pub fn make(seed: u64, count: usize) -> Made {
         input: Vec::new(),
         expected: Vec::new(),
     };
-    session(&mut made, Format::Qcif, 0, &[]);
-    session(&mut made, Format::Cif, 0, &[]);
-    let calls = to_the_last_picture(&mut random);
-    session(&mut made, Format::Qcif, 65_535, &calls);
+    session(&mut made, Format::Qcif, 0, 0, &[]);
+    session(&mut made, Format::Cif, 0, 0, &[]);
+    // All of 4,100 pictures; past 65,535; to the last one, and from a state past it.
+    let calls = many_pictures(&mut random, Format::Qcif, 4_099);
+    session(&mut made, Format::Qcif, 65_535, 0, &calls);
+    for format in Format::ALL {
+        let calls = many_pictures(&mut random, format, 2);
+        session(&mut made, format, 7, 65_534, &calls);
+        session(&mut made, format, 7, PICTURES - 3, &calls);
+        session(&mut made, format, 7, PICTURES, &calls);
+    }
+    session(&mut made, Format::Qcif, 1, u32::MAX, &calls);
     for number in 0..count {
         let format = if number % 4 == 3 {
             Format::Cif
@@ -51,18 +60,18 @@ pub fn make(seed: u64, count: usize) -> Made {
         };
         let clip = random.between(1, 65_535) as u16;
         let calls = random_calls(&mut random, format);
-        session(&mut made, format, clip, &calls);
+        let next = maker::first_number(&mut random, calls.len());
+        session(&mut made, format, clip, next, &calls);
     }
     made
 }
 
-/// 4,096 pictures, and then 34 whatever comes, but for 1.
-fn to_the_last_picture(random: &mut Random) -> Vec<Call> {
-    let format = Format::Qcif;
+/// A refresh, and then pictures in which nothing is sent, one by one after the first `times` of them; at the clip's end 34 whatever comes, but for 1.
+fn many_pictures(random: &mut Random, format: Format, times: usize) -> Vec<Call> {
     let refresh = maker::description(random, format, Style::Refresh);
     let empty = Description::empty(format);
     let mut many = Call::once(&empty);
-    many.times = 4095;
+    many.times = times;
     let mut invalid = empty.clone();
     invalid.temporal_reference = 32;
     let mut short = Call::once(&empty);
@@ -105,12 +114,13 @@ fn random_calls(random: &mut Random, format: Format) -> Vec<Call> {
     calls
 }
 
-fn session(made: &mut Made, format: Format, clip: u16, calls: &[Call]) {
+fn session(made: &mut Made, format: Format, clip: u16, next: u32, calls: &[Call]) {
     made.input.push(format.number());
     super::put16(&mut made.input, usize::from(clip));
     super::put32(&mut made.input, calls.len());
+    super::put32(&mut made.input, next as usize);
     let mut sender = match Sender::open(format, clip) {
-        Ok(sender) => sender,
+        Ok(sender) => sender.before(next),
         Err(refusal) => {
             made.expected.extend(format!("{refusal}\n").bytes());
             return;

@@ -52,11 +52,10 @@ returns-4 c =
       le-leb _ _ (at-if2 .if2 .left),
       of-header (λ (h : Header). unusedClear (h .used) (payloadOf (start .args .block .now)) 500) (c .before .before .unused-zero .ensures) (start .pre .1)
           (not-false _ (c .before .if3 .left)),
-      c .pair .ensures,
     )
 
 pub follows-spec : {M : Type 1} → statement M
 follows-spec =
     tie.close
     (tie.spec (λ c κs. search needs) returns (λ c. search needs) returns-2 (λ c. search needs) (λ c κs. search needs) returns-3
-    (λ c κs. search needs) returns-4)
+    (λ c. search needs) returns-4)

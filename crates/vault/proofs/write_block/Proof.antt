@@ -11,7 +11,7 @@ use Rattle.vault.proofs.write_block.Tie as tie
 
 returns : tie.Need-returns
 returns c =
-    let at-write-payload = c .before .before .before .before .before .before in
+    let at-write-payload = c .before .before .before .before .before .before .before in
     let at-write-head = at-write-payload .before .before .before .before in
     let start = at-write-head .before .before .before .before .before in
     let header = start .args .header in
@@ -26,11 +26,11 @@ write-sum-requires c κs = simp length-set (omega arith)
 
 same-length : tie.Need-same-length
 same-length c =
-    let start = c .before .before .before .before .before .before .before .before .before .before .before .before .before .before .before in
+    let start = c .before .before .before .before .before .before .before .before .before .before .before .before .before .before .before .before in
     ap length (returns c) ∙ block-length (start .args .header) _ (payload-length _ _ _) ∙ sym (start .pre .0 .block-long)
 
 pub write-block-spec : {M : Type 1} → statement M
 write-block-spec =
     tie.close
-    (tie.spec (λ c. search needs) (λ c κs. search needs) (λ c κs. search needs) (λ c. search needs) slice-write-block-2 write-sum-requires
-    same-length returns)
+    (tie.spec (λ c. search needs) (λ c κs. search needs) (λ c κs. search needs) (λ c. search needs) (λ c. search needs) slice-write-block-2
+    write-sum-requires same-length returns)

@@ -12,7 +12,8 @@ use Rattle.vault.proofs.write_head.Tie as tie
 
 abbrev stores : Header → List ℕ → ℕ → List ℕ
 stores h block marks =
-    sets block 0 (h .clip / 256 ∷ h .clip % 256 ∷ h .picture / 256 ∷ h .picture % 256 ∷ h .part ∷ marks ∷ h .used / 256 ∷ h .used % 256 ∷ [])
+    let low = h .picture % 65536 in
+    sets block 0 (h .clip / 256 ∷ h .clip % 256 ∷ low / 256 ∷ low % 256 ∷ h .part ∷ marks ∷ h .used / 256 ∷ h .used % 256 ∷ [])
 
 slice-write-block-5 : tie.Need-slice-write-block-5
 slice-write-block-5 c = simp length-set (omega arith)
@@ -27,11 +28,16 @@ slice-write-block-8 : tie.Need-slice-write-block-8
 slice-write-block-8 c = simp length-set (omega arith)
 
 returns : tie.Need-returns
-returns c = ap (stores (c .before .before .args .header) (c .before .before .args .block .now)) (c .marks .ensures)
+returns c =
+    let start = c .before .before .before in
+    ap (stores (start .args .header) (start .args .block .now)) (c .marks .ensures)
+
+same-length : tie.Need-same-length
+same-length c = simp length-set
 
 pub write-head-spec : {M : Type 1} → statement M
 write-head-spec =
     tie.close
     (tie.spec (λ c κs. search needs) (λ c. search needs) (λ c. search needs) (λ c. search needs) (λ c. search needs) (λ c. search needs)
     (λ c. search needs) (λ c. search needs) (λ c. search needs) slice-write-block-5 slice-write-block-6 (λ c. search needs)
-    slice-write-block-7 (λ c. search needs) slice-write-block-8 (λ c. search needs) returns)
+    slice-write-block-7 (λ c. search needs) slice-write-block-8 same-length returns)
