@@ -2,6 +2,7 @@
 use bits::FieldRead;
 use refusals::Reason;
 use refusals::Refusal;
+use refusals::Table;
 ghost use mathlib.Core.Path.{_≡_};
 ghost use Rattle.bits.specs.Bits.{bitsOf, bitsLeft};
 ghost use Rattle.bits.specs.Code.{word as wordRead, wordOf};
@@ -68,7 +69,7 @@ pub fn mba(tables: &WordTables, bytes: &[u8], count: usize, at: usize) -> FieldR
     requires { ⌜ (Tables (now tables)) × (Within (now bytes) count at) ⌝ }
     ensures { λ r. ⌜ asField (now (bytes .entry)) count r ≡ wordRead table1 (bitsLeft (now (bytes .entry)) count at) at ⌝ }
 {
-    bits::walk(tables, MBA_TREE, bytes, count, at)
+    bits::walk(tables, MBA_TREE, Table::Mba, bytes, count, at)
 }
 
 // MTYPE at `at`: 1 to 10, in the order of document 01's table.
@@ -76,7 +77,7 @@ pub fn mtype(tables: &WordTables, bytes: &[u8], count: usize, at: usize) -> Fiel
     requires { ⌜ (Tables (now tables)) × (Within (now bytes) count at) ⌝ }
     ensures { λ r. ⌜ asField (now (bytes .entry)) count r ≡ wordRead table2 (bitsLeft (now (bytes .entry)) count at) at ⌝ }
 {
-    bits::walk(tables, MTYPE_TREE, bytes, count, at)
+    bits::walk(tables, MTYPE_TREE, Table::Mtype, bytes, count, at)
 }
 
 // A component of MVD at `at`: 16 more than the difference that Table 3 prints first.
@@ -84,7 +85,7 @@ pub fn mvd(tables: &WordTables, bytes: &[u8], count: usize, at: usize) -> FieldR
     requires { ⌜ (Tables (now tables)) × (Within (now bytes) count at) ⌝ }
     ensures { λ r. ⌜ asField (now (bytes .entry)) count r ≡ wordRead table3 (bitsLeft (now (bytes .entry)) count at) at ⌝ }
 {
-    bits::walk(tables, MVD_TREE, bytes, count, at)
+    bits::walk(tables, MVD_TREE, Table::Mvd, bytes, count, at)
 }
 
 // CBP at `at`: 1 to 63.
@@ -92,7 +93,7 @@ pub fn cbp(tables: &WordTables, bytes: &[u8], count: usize, at: usize) -> FieldR
     requires { ⌜ (Tables (now tables)) × (Within (now bytes) count at) ⌝ }
     ensures { λ r. ⌜ asField (now (bytes .entry)) count r ≡ wordRead table4 (bitsLeft (now (bytes .entry)) count at) at ⌝ }
 {
-    bits::walk(tables, CBP_TREE, bytes, count, at)
+    bits::walk(tables, CBP_TREE, Table::Cbp, bytes, count, at)
 }
 
 // The entry of Table 5 for 13 bits of this number.
@@ -134,7 +135,7 @@ pub fn coefficient(
     }
     if meaning == 0 {
         return CoefficientRead::Refused(Refusal {
-            reason: Reason::NoCodeword,
+            reason: Reason::NoCodeword(Table::Tcoeff),
             place: at,
         });
     }

@@ -3,7 +3,7 @@ use Prim.Native.Nat.{ℕ, _+_, _≤_}
 use native.Mathlib.Omega.{arith}
 use mathlib.Core.Path.{_≡_, sym, ap, _∙_}
 use mathlib.Core.List.{List, [], _++_, append-assoc, append-nil}
-use lib.ListN.{length, take, drop, length-append}
+use lib.ListN.{length, take, drop, length-append, take-append-drop}
 use lib.Seq.{length-take-le, take-at, drop-append-add, drop-drop}
 use Rattle.io.specs.Counts.{Counts}
 use Rattle.text.specs.Text.{over}
@@ -41,6 +41,11 @@ puts-as {a} {b} {at} {end} {out} {left} e p = record { end-is = p .end-is ∙ ap
 -- nothing more
 pub puts-none : {a : List ℕ} {at end : ℕ} {out left : List ℕ} → Puts a at out left end → Puts (a ++ []) at out left end
 puts-none {a} p = puts-as (sym (append-nil a)) p
+
+pub puts-nothing : {at : ℕ} {out : List ℕ} → at ≤ length out → Puts [] at out out at
+puts-nothing {at} {out} room =
+    let same : at + 0 ≡ at = omega arith in
+    record { end-is = sym same; left-is = sym (ap (λ (x : List ℕ). x ++ drop (at + 0) out) (append-nil (take at out)) ∙ ap (λ (k : ℕ). take at out ++ drop k out) same ∙ take-append-drop at out) }
 
 -- from the start on
 pub puts-over : {text : List ℕ} {end : ℕ} {out left : List ℕ} → Puts text 0 out left end → (end ≡ length text) × (left ≡ over text out)
