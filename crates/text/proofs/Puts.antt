@@ -3,7 +3,7 @@ use Prim.Native.Nat.{ℕ, _+_, _≤_}
 use native.Mathlib.Omega.{arith}
 use mathlib.Core.Path.{_≡_, sym, ap, _∙_}
 use mathlib.Core.List.{List, [], _++_, append-assoc, append-nil}
-use lib.ListN.{length, take, drop, length-append, take-append-drop}
+use lib.ListN.{length, take, drop, length-append, length-drop, take-append-drop}
 use lib.Seq.{length-take-le, take-at, drop-append-add, drop-drop}
 use Rattle.io.specs.Counts.{Counts}
 use Rattle.text.specs.Text.{over}
@@ -33,6 +33,16 @@ puts-then {a} {b} {at} {middle} {end} {out} {between} {left} p q room =
           ∙ ap (λ (x : List ℕ). before ++ b ++ x) back
           ∙ ap (λ (x : List ℕ). x ++ drop (at + length (a ++ b)) out) (append-assoc (take at out) a b);
     }
+
+-- what is left is as long as what was there
+pub puts-length : {text : List ℕ} {at end : ℕ} {out left : List ℕ} → Puts text at out left end → end ≤ length out → length left ≡ length out
+puts-length {text} {at} {end} {out} p room =
+    let parts = length-append (take at out ++ text) (drop (at + length text) out) in
+    let front = length-append (take at out) text in
+    let before = length-take-le at out (omega (arith, p .end-is)) in
+    let back = length-drop (at + length text) out in
+    let same : length (placedText at text out) ≡ length out = omega (arith, parts, front, before, back, p .end-is) in
+    ap length (p .left-is) ∙ same
 
 -- the same text
 pub puts-as : {a b : List ℕ} {at end : ℕ} {out left : List ℕ} → a ≡ b → Puts a at out left end → Puts b at out left end

@@ -12,7 +12,7 @@ use Rattle.laws.proofs.Choice.{second-no}
 use Rattle.refusals.specs.Told.{Numbers}
 use Rattle.text.specs.Text.{decimal, atPlace, atWord, tableWord, ofTable, refusedWord, refusalText}
 use Rattle.text.specs.Puts.{Puts}
-use Rattle.text.proofs.Puts.{puts-then, puts-as, puts-none, puts-nothing}
+use Rattle.text.proofs.Puts.{puts-then, puts-length, puts-as, puts-none, puts-nothing}
 
 pub below-three : (numbers : Numbers) {n : ℕ} → n ≡ numbers .number → n < 3 → [] ≡ atPlace numbers
 unfolding atPlace
@@ -42,27 +42,30 @@ from-three numbers l m =
 
 -- a refusal with its place, and a table if it has one
 pub refused-at : {n table at a b c d end : ℕ} {out after-a after-b after-c after-d left : List ℕ} (numbers : Numbers) → n ≡ numbers .number → table ≡ numbers .table
-    → 3 ≤ n → n ≤ 13 → length after-b ≡ length out → length after-c ≡ length out → c ≤ length out → d ≤ length out
+    → 3 ≤ n → n ≤ 13 → d ≤ length out
     → Puts refusedWord at out after-a a → Puts (decimal n) a after-a after-b b → Puts atWord b after-b after-c c → Puts (decimal (numbers .place)) c after-c after-d d
     → Puts (ofTable n table) d after-d left end → Puts (refusalText numbers) at out left end
 unfolding refusalText
-refused-at {n} {table} {at} {a} {b} {c} {d} {end} {out} {after-a} {after-b} {after-c} {after-d} {left} numbers e f l m long-b long-c room-c room-d p q r s t =
+refused-at {n} {table} {at} {a} {b} {c} {d} {end} {out} {after-a} {after-b} {after-c} {after-d} {left} numbers e f l m room-d p q r s t =
     let low : 3 ≤ numbers .number = omega (arith, e, l) in
     let high : numbers .number ≤ 13 = omega (arith, e, m) in
-    let room-b : b ≤ length out = omega (arith, r .end-is) in
-    let room-a : a ≤ length out = omega (arith, q .end-is) in
-    let at-b : c ≤ length after-b = omega arith in
-    let at-d : d ≤ length after-b = omega arith in
+    let room-c : c ≤ length out = omega (arith, s .end-is, room-d) in
+    let room-b : b ≤ length out = omega (arith, r .end-is, room-c) in
+    let room-a : a ≤ length out = omega (arith, q .end-is, room-b) in
+    let long-a : length after-a ≡ length out = puts-length p room-a in
+    let long-b : length after-b ≡ length after-a = puts-length q (omega (arith, long-a, room-b)) in
+    let at-b : c ≤ length after-b = omega (arith, long-a, long-b, room-c) in
+    let at-d : d ≤ length after-b = omega (arith, long-a, long-b, room-d) in
     let placed : Puts (atWord ++ decimal (numbers .place) ++ ofTable n table) b after-b left end = puts-then (puts-then r s at-b) t at-d in
     let told : Puts (atPlace numbers) b after-b left end = puts-as (ap (λ (x : List ℕ). atWord ++ decimal (numbers .place) ++ x) (λ i. ofTable (e i) (f i)) ∙ from-three numbers low high) placed in
     puts-as (ap (λ (k : ℕ). refusedWord ++ decimal k ++ atPlace numbers) e) (puts-then (puts-then p q room-a) told room-b)
 
 -- ---- the table
-pub no-table : {n table at : ℕ} {out : List ℕ} → at ≤ length out → (n ≡ 8 → ⊥) → Puts (ofTable n table) at out out at
+pub no-table : (n table : ℕ) {at : ℕ} {out : List ℕ} → at ≤ length out → (n ≡ 8 → ⊥) → Puts (ofTable n table) at out out at
 unfolding ofTable
-no-table {n} {table} {at} {out} room other =
+no-table n table room other =
     puts-as (sym (ap (λ (b : Bool). pick b (tableWord ++ decimal table) []) (ne-eqb n 8 other))) (puts-nothing room)
 
-pub with-table : {n table at end : ℕ} {out left : List ℕ} → n ≡ 8 → Puts (tableWord ++ decimal table) at out left end → Puts (ofTable n table) at out left end
+pub with-table : (n table : ℕ) {at end : ℕ} {out left : List ℕ} → n ≡ 8 → Puts (tableWord ++ decimal table) at out left end → Puts (ofTable n table) at out left end
 unfolding ofTable
-with-table {n} {table} is p = puts-as (sym (ap (λ (b : Bool). pick b (tableWord ++ decimal table) []) (eq-eqb n 8 is))) p
+with-table n table is p = puts-as (sym (ap (λ (b : Bool). pick b (tableWord ++ decimal table) []) (eq-eqb n 8 is))) p

@@ -30,7 +30,7 @@ returns-2 c =
 returns-3 : tie.Need-returns-3
 returns-3 c =
     let at-put-table = c .before .before in
-    let at-table-of = at-put-table .before .before .before in
+    let at-table-of = at-put-table .before .before in
     let at-put-number2 = at-table-of .before .before .before in
     let at-put2 = at-put-number2 .before .before .before .before in
     let at-if2 = at-put2 .before .before .before in
@@ -40,8 +40,8 @@ returns-3 c =
     let at-number-of = at-put .before .before .before in
     let start = at-number-of .before .before in (
       search needs,
-      refused-at (numbersOf (start .args .why)) (at-number-of .number-of .ensures) (at-table-of .table-of .ensures) (at-if1 .if1 .left) (at-if2 .if2 .left) (search needs) (search needs)
-          (search needs) (search needs) (at-put .put .ensures .1) (at-put-number .put-number .ensures .1) (at-put2 .put2 .ensures .1)
+      refused-at (numbersOf (start .args .why)) (at-number-of .number-of .ensures) (at-table-of .table-of .ensures) (at-if1 .if1 .left) (at-if2 .if2 .left) (search needs)
+          (at-put .put .ensures .1) (at-put-number .put-number .ensures .1) (at-put2 .put2 .ensures .1)
           (at-put-number2 .put-number2 .ensures .1) (at-put-table .put-table .ensures .1),
     )
 
