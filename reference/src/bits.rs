@@ -63,7 +63,7 @@ impl<'a> BitReader<'a> {
         loop {
             let bit = self.next_bit().ok_or(Refusal::at(3, start))?;
             match book.nodes[node][bit] {
-                Branch::None => return Err(Refusal::at(8, start)),
+                Branch::None => return Err(Refusal::no_codeword(start, book.table)),
                 Branch::Node(next) => node = next,
                 Branch::Meaning(meaning) => return Ok(meaning),
             }
@@ -85,13 +85,16 @@ enum Branch<T> {
 /// A set of codewords as a binary tree. Every inner node has a codeword below it, so that a walk that
 /// stops at one has seen a proper beginning, and a walk that leaves the tree fits no codeword.
 pub struct Codebook<T> {
+    /// The number that a refusal carries.
+    table: u8,
     nodes: Vec<[Branch<T>; 2]>,
 }
 
 impl<T: Copy> Codebook<T> {
     /// Panics where a codeword begins with another: the tables would be wrong.
-    pub fn new(words: impl IntoIterator<Item = (T, String)>) -> Codebook<T> {
+    pub fn new(table: u8, words: impl IntoIterator<Item = (T, String)>) -> Codebook<T> {
         let mut book = Codebook {
+            table,
             nodes: vec![[Branch::None; 2]],
         };
         for (meaning, word) in words {

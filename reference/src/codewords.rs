@@ -6,15 +6,16 @@ use crate::bits::{BitReader, Codebook};
 use crate::refusal::Refusal;
 use crate::tables;
 
-pub static MBA: LazyLock<Codebook<u8>> = LazyLock::new(|| book(&tables::MBA));
-pub static MTYPE: LazyLock<Codebook<u8>> = LazyLock::new(|| book(&tables::MTYPE));
-pub static MVD: LazyLock<Codebook<i8>> = LazyLock::new(|| book(&tables::MVD));
-pub static CBP: LazyLock<Codebook<u8>> = LazyLock::new(|| book(&tables::CBP));
+pub static MBA: LazyLock<Codebook<u8>> = LazyLock::new(|| book(1, &tables::MBA));
+pub static MTYPE: LazyLock<Codebook<u8>> = LazyLock::new(|| book(2, &tables::MTYPE));
+pub static MVD: LazyLock<Codebook<i8>> = LazyLock::new(|| book(3, &tables::MVD));
+pub static CBP: LazyLock<Codebook<u8>> = LazyLock::new(|| book(4, &tables::CBP));
 static TCOEFF_FIRST: LazyLock<Codebook<Tabled>> = LazyLock::new(|| tcoeff_book(Position::First));
 static TCOEFF_LATER: LazyLock<Codebook<Tabled>> = LazyLock::new(|| tcoeff_book(Position::Later));
 
-fn book<T: Copy>(table: &[(T, &str)]) -> Codebook<T> {
+fn book<T: Copy>(number: u8, table: &[(T, &str)]) -> Codebook<T> {
     Codebook::new(
+        number,
         table
             .iter()
             .map(|&(meaning, word)| (meaning, word.to_string())),
@@ -54,7 +55,7 @@ fn tcoeff_book(position: Position) -> Codebook<Tabled> {
             words.push((Tabled::Coefficient { run, level }, word));
         }
     }
-    Codebook::new(words)
+    Codebook::new(5, words)
 }
 
 /// Table 5's word for a pair, with its sign bit, where it has one.

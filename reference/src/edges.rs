@@ -14,6 +14,13 @@ pub struct Edge {
     pub refusal: Option<Refusal>,
 }
 
+/// The tables' numbers, as T-06 has them.
+const MBA: u8 = 1;
+const MTYPE: u8 = 2;
+const MVD: u8 = 3;
+const CBP: u8 = 4;
+const TCOEFF: u8 = 5;
+
 const PICTURE_START_CODE: &str = "0000 0000 0000 0001 0000";
 const GROUP_START_CODE: &str = "0000 0000 0000 0001";
 const STUFFING: &str = "0000 0001 111";
@@ -144,6 +151,11 @@ impl Edges {
         self.push(name, draft, Some(Refusal::at(number, place)));
     }
 
+    /// 8: no codeword of the table stands at the place.
+    fn no_such(&mut self, name: &str, draft: Draft, place: usize, table: u8) {
+        self.push(name, draft, Some(Refusal::no_codeword(place, table)));
+    }
+
     /// The picture ends before or in the middle of `word`, which would stand at the draft's end: 3 there
     /// each time.
     fn cut_inside(&mut self, name: &str, draft: &Draft, word: &str) {
@@ -162,14 +174,14 @@ impl Edges {
         }
     }
 
-    /// `word` is no codeword at the draft's end, and neither are longer rows of bits that begin so; all
-    /// its proper beginnings begin one.
-    fn no_codeword(&mut self, name: &str, draft: &Draft, word: &str) {
+    /// `word` is no codeword of the table at the draft's end, and neither are longer rows of bits that
+    /// begin so; all its proper beginnings begin one.
+    fn no_codeword(&mut self, name: &str, draft: &Draft, word: &str, table: u8) {
         self.cut_after_a_bit(name, draft, word);
         let place = draft.place();
-        self.refused(name, draft.clone().word(word), 8, place);
+        self.no_such(name, draft.clone().word(word), place, table);
         for more in ["0", "1", "0000 0000 0000 0001 0011 00001 0", "1111 1111"] {
-            self.refused(name, draft.clone().word(word).word(more), 8, place);
+            self.no_such(name, draft.clone().word(word).word(more), place, table);
         }
     }
 }
@@ -372,20 +384,19 @@ fn ends(edges: &mut Edges, format: Format) {
         let place = draft.place();
         for zeros in 1..=40 {
             let left_over = (0..zeros).fold(draft.clone(), |draft, _| draft.word("0"));
-            // Up to fifteen zeros begin a start code.
-            let number = if zeros <= 15 { 3 } else { 8 };
-            edges.refused(
-                &format!("zeros left over, {name}"),
-                left_over,
-                number,
-                place,
-            );
+            let name = format!("zeros left over, {name}");
+            // Up to fifteen zeros begin a start code, which belongs to MBA's table.
+            if zeros <= 15 {
+                edges.refused(&name, left_over, 3, place);
+            } else {
+                edges.no_such(&name, left_over, place, MBA);
+            }
         }
-        edges.refused(
+        edges.no_such(
             &format!("zeros, then a one, {name}"),
             draft.clone().word("0000 0000 0000 0000 1"),
-            8,
             place,
+            MBA,
         );
         // The first of the zeros after stuffing has its own place.
         edges.refused(
@@ -394,12 +405,12 @@ fn ends(edges: &mut Edges, format: Format) {
             3,
             place + 11,
         );
-        edges.no_codeword(&format!("no MBA, {name}"), draft, "0000 0001 110");
-        edges.no_codeword(&format!("no MBA, {name}"), draft, "0000 0001 10");
-        edges.no_codeword(&format!("no MBA, {name}"), draft, "0000 0001 0");
-        edges.no_codeword(&format!("no MBA, {name}"), draft, "0000 0010");
-        edges.no_codeword(&format!("no MBA, {name}"), draft, "0000 0000 1");
-        edges.no_codeword(&format!("no MBA, {name}"), draft, "0000 0000 0000 001");
+        edges.no_codeword(&format!("no MBA, {name}"), draft, "0000 0001 110", MBA);
+        edges.no_codeword(&format!("no MBA, {name}"), draft, "0000 0001 10", MBA);
+        edges.no_codeword(&format!("no MBA, {name}"), draft, "0000 0001 0", MBA);
+        edges.no_codeword(&format!("no MBA, {name}"), draft, "0000 0010", MBA);
+        edges.no_codeword(&format!("no MBA, {name}"), draft, "0000 0000 1", MBA);
+        edges.no_codeword(&format!("no MBA, {name}"), draft, "0000 0000 0000 001", MBA);
     }
     let place = last.place();
     let start = |draft: &Draft| draft.clone().word(GROUP_START_CODE);
@@ -480,7 +491,7 @@ fn ends(edges: &mut Edges, format: Format) {
 /// MTYPE, MQUANT and CBP.
 fn macroblocks(edges: &mut Edges, format: Format) {
     let start = Draft::header(format).groups_to_last().word("1");
-    edges.no_codeword("no MTYPE", &start, "0000 0000 00");
+    edges.no_codeword("no MTYPE", &start, "0000 0000 00", MTYPE);
     for kind in [INTRA_MQUANT, INTER_MQUANT, MC_MQUANT, FIL_MQUANT] {
         let at_mquant = start.clone().word(kind);
         let place = at_mquant.place();
@@ -502,7 +513,7 @@ fn macroblocks(edges: &mut Edges, format: Format) {
         (FIL_MQUANT, "11111 1 1"),
     ] {
         let at_cbp = start.clone().words(&[kind, before]);
-        edges.no_codeword("no CBP", &at_cbp, "0000 0000");
+        edges.no_codeword("no CBP", &at_cbp, "0000 0000", CBP);
         edges.cut_inside("cut CBP", &at_cbp, "0000 0001 0");
         // CBP 1: CR alone, which is level 1 and EOB.
         edges.accepted("CBP 1", at_cbp.words(&["0101 1", "10", "10"]));
@@ -562,7 +573,7 @@ fn coefficients(edges: &mut Edges, format: Format) {
 fn block_edges(edges: &mut Edges, name: &str, draft: &Draft, next: u32) {
     let place = draft.place();
     let name = |what: &str| format!("{what}, {name}");
-    edges.no_codeword(&name("no TCOEFF"), draft, "0000 0000 0");
+    edges.no_codeword(&name("no TCOEFF"), draft, "0000 0000 0", TCOEFF);
     let whole_escape = "0000 01 000000 0000 0000";
     edges.cut_inside(&name("cut escape"), draft, whole_escape);
     edges.cut_inside(&name("cut long word"), draft, "0000 0000 1000 0 1");
@@ -611,11 +622,11 @@ fn block_edges(edges: &mut Edges, name: &str, draft: &Draft, next: u32) {
         after,
     );
     edges.refused(&name("a cut 65th"), past("0000 0000 1101 1"), 3, after);
-    edges.refused(
+    edges.no_such(
         &name("no codeword after the 64th"),
         past("0000 0000 0"),
-        8,
         after,
+        TCOEFF,
     );
     // All places filled one by one, then one more.
     let mut full = draft.clone();
@@ -638,10 +649,10 @@ fn vectors(edges: &mut Edges, format: Format) {
         let place = at_mvd.place();
         let with = |words: &[&str]| at_mvd.clone().words(words);
         edges.cut_inside("cut horizontal MVD", &at_mvd, NO_MVD);
-        edges.no_codeword("no horizontal MVD", &at_mvd, NO_MVD);
-        edges.no_codeword("no horizontal MVD", &at_mvd, "0000 0010");
-        edges.no_codeword("no vertical MVD", &with(&[BY_0]), NO_MVD);
-        edges.no_codeword("no vertical MVD", &with(&[BY_0]), "0000 000");
+        edges.no_codeword("no horizontal MVD", &at_mvd, NO_MVD, MVD);
+        edges.no_codeword("no horizontal MVD", &at_mvd, "0000 0010", MVD);
+        edges.no_codeword("no vertical MVD", &with(&[BY_0]), NO_MVD, MVD);
+        edges.no_codeword("no vertical MVD", &with(&[BY_0]), "0000 000", MVD);
         // The vertical word isn't read where the horizontal component is out of range.
         edges.refused("-16 & 16 from 0", with(&[BY_MINUS_16]), 12, place);
         edges.refused("then no codeword", with(&[BY_MINUS_16, NO_MVD]), 12, place);
@@ -679,7 +690,7 @@ fn vectors(edges: &mut Edges, format: Format) {
             &with(&[BY_MINUS_1]),
             "0000 0100 000",
         );
-        edges.no_codeword("out on the left, no MVD", &with(&[BY_MINUS_1]), NO_MVD);
+        edges.no_codeword("out on the left, no MVD", &with(&[BY_MINUS_1]), NO_MVD, MVD);
         edges.refused(
             "out on the left, vertical out of range",
             with(&[BY_MINUS_1, BY_MINUS_16]),
@@ -841,6 +852,12 @@ mod tests {
                 .iter()
                 .any(|edge| edge.refusal.is_some_and(|refusal| refusal.number == number));
             assert!(found, "no edge of refusal {number}");
+        }
+        for table in [MBA, MTYPE, MVD, CBP, TCOEFF] {
+            let found = list
+                .iter()
+                .any(|edge| edge.refusal.is_some_and(|refusal| refusal.table == table));
+            assert!(found, "no edge of table {table}");
         }
         assert!(list.len() > 1000);
     }

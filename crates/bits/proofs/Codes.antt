@@ -13,7 +13,7 @@ use Rattle.laws.proofs.Choice.{both-left, both-right}
 use Rattle.refusals.specs.declared.Refusal.{Refusal}
 use Rattle.bits.specs.Bits.{Bit, O, I, same}
 use Rattle.bits.specs.Read.{Read, got, refused}
-use Rattle.bits.specs.Code.{Entry, entry, starts, lookup, word, wordOf, has}
+use Rattle.bits.specs.Code.{Entry, entry, CodeTable, starts, lookup, word, wordIn, wordOf, hasIn, has}
 use Rattle.bits.proofs.Tree.{hit, miss}
 
 -- ---- where a codeword ended, and what it means
@@ -59,9 +59,10 @@ found-got p (entry (x ∷ w) m′ ∷ tab) bs at o m cs e t n g =
 never : (r : Refusal) (m : ℕ) (cs : List Bit) (e : ℕ) → refused r ≡ got m cs e → ⊥
 never r m cs e q = let z : _≡_ {A = ℕ} 0 1 = cc in omega arith
 
-pub word-got : (p : ℕ → Bool) (tab : List Entry) (bs : List Bit) (at m : ℕ) (cs : List Bit) (e : ℕ) → T (each p tab) → word tab bs at ≡ got m cs e → WordGot p bs at m cs e
+pub word-got : (p : ℕ → Bool) (table : CodeTable) (bs : List Bit) (at m : ℕ) (cs : List Bit) (e : ℕ) → T (each p (table .entries)) → word table bs at ≡ got m cs e
+    → WordGot p bs at m cs e
 unfolding word
-word-got p tab bs at m cs e t g = found-got p tab bs at _ m cs e t (never _ m cs e) g
+word-got p table bs at m cs e t g = found-got p (table .entries) bs at _ m cs e t (never _ m cs e) g
 
 -- ---- read back
 -- neither is a beginning of the other
@@ -96,10 +97,10 @@ apart-case : (e : Bool) (w v u : List Bit) (a h : Bool) → (T a → T h → T (
 apart-case true w v u a h f t k = both-left (differ w v) a t
 apart-case false w v u a h f t k = f (both-right (differ w v) a t) k
 
-apart-word : (w : List Bit) (tab : List Entry) (m : ℕ) → T (apart w tab) → T (has tab m) → T (differ w (wordOf tab m))
-unfolding has wordOf
+apart-word : (w : List Bit) (tab : List Entry) (m : ℕ) → T (apart w tab) → T (hasIn tab m) → T (differ w (wordIn tab m))
+unfolding hasIn wordIn
 apart-word w [] m a h = absurd h
-apart-word w (entry v m′ ∷ tab) m a h = apart-case (eqb m′ m) w v (wordOf tab m) (apart w tab) (has tab m) (apart-word w tab m) a h
+apart-word w (entry v m′ ∷ tab) m a h = apart-case (eqb m′ m) w v (wordIn tab m) (apart w tab) (hasIn tab m) (apart-word w tab m) a h
 
 back-case : (e : Bool) (w u r : List Bit) (m m′ : ℕ) (tab : List Entry) (at : ℕ) (o : Read ℕ) (h : Bool) → (T e → m′ ≡ m) → (T h → T (differ w u))
     → (T h → lookup tab (u ++ r) at o ≡ got m r (at + length u))
@@ -108,18 +109,18 @@ back-case : (e : Bool) (w u r : List Bit) (m m′ : ℕ) (tab : List Entry) (at 
 back-case true w u r m m′ tab at o h f g k t = hit w m′ tab (w ++ r) at o (starts-self w r) ∙ rw (drop-append-seam w r, f tt)
 back-case false w u r m m′ tab at o h f g k t = miss w m′ tab (u ++ r) at o (starts-other w u r (g t)) ∙ k t
 
-found : (tab : List Entry) (m : ℕ) (r : List Bit) (at : ℕ) (o : Read ℕ) → T (free tab) → T (has tab m)
-    → lookup tab (wordOf tab m ++ r) at o ≡ got m r (at + length (wordOf tab m))
-unfolding has wordOf
+found : (tab : List Entry) (m : ℕ) (r : List Bit) (at : ℕ) (o : Read ℕ) → T (free tab) → T (hasIn tab m)
+    → lookup tab (wordIn tab m ++ r) at o ≡ got m r (at + length (wordIn tab m))
+unfolding hasIn wordIn
 found [] m r at o a h = absurd h
 found (entry w m′ ∷ tab) m r at o a h =
-    back-case (eqb m′ m) w (wordOf tab m) r m m′ tab at o (has tab m) (eqb→eq m′ m)
+    back-case (eqb m′ m) w (wordIn tab m) r m m′ tab at o (hasIn tab m) (eqb→eq m′ m)
     (apart-word w tab m (both-left (apart w tab) (free tab) a))
     (found tab m r at o (both-right (apart w tab) (free tab) a))
     h
 
 -- the codeword of m is read as m, whatever follows
-pub word-back : (tab : List Entry) (m : ℕ) (rest : List Bit) (at : ℕ) → T (free tab) → T (has tab m)
-    → word tab (wordOf tab m ++ rest) at ≡ got m rest (at + length (wordOf tab m))
+pub word-back : (table : CodeTable) (m : ℕ) (rest : List Bit) (at : ℕ) → T (free (table .entries)) → T (has table m)
+    → word table (wordOf table m ++ rest) at ≡ got m rest (at + length (wordOf table m))
 unfolding word
-word-back tab m rest at a h = found tab m rest at _ a h
+word-back table m rest at a h = found (table .entries) m rest at _ a h

@@ -16,7 +16,7 @@ use Rattle.laws.proofs.Lists.{alike-equal}
 use Rattle.refusals.specs.declared.Reason.the-variants.{NoCodeword}
 use Rattle.bits.specs.Bits.{Bit, bitsOf, value, bitsFrom, bitsLeft}
 use Rattle.bits.specs.Read.{got, bad}
-use Rattle.bits.specs.Code.{Entry, entry, word}
+use Rattle.bits.specs.Code.{Entry, entry, CodeTable, word}
 use Rattle.bits.specs.Tree.{step, noEmpty, some, right, walkOf}
 use Rattle.bits.specs.Windows.{Decided, undecided, dead, ended, judge, decide}
 use Rattle.bits.specs.Entries.{entryOf, entriesFrom, entriesOf, entriesAt, entriesRight, entryRead, withoutEntry}
@@ -71,27 +71,27 @@ entry-of t from width table ok i l =
 
 -- ---- a read by the entry
 -- what the bits at a place decide
-abbrev shown : List Entry → List ℕ → ℕ → ℕ → Decided
-shown table s at width = decide table (bitsFrom s at width) 0
+abbrev shown : CodeTable → List ℕ → ℕ → ℕ → Decided
+shown table s at width = decide (table .entries) (bitsFrom s at width) 0
 
 -- an entry with a length
-pub record WithLength (table : List Entry) (s : List ℕ) (n at e : ℕ) : Type 0 where
+pub record WithLength (table : CodeTable) (s : List ℕ) (n at e : ℕ) : Type 0 where
   pub room : at + e % 32 ≤ n
   pub word-is : got (e / 32) (bitsLeft s n (at + e % 32)) (at + e % 32) ≡ word table (bitsLeft s n at) at
 
 -- what an entry makes of the codeword at its bits
-pub record EntryReads (t : List ℕ) (root : ℕ) (table : List Entry) (s : List ℕ) (n at e : ℕ) : Type 0 where
+pub record EntryReads (t : List ℕ) (root : ℕ) (table : CodeTable) (s : List ℕ) (n at e : ℕ) : Type 0 where
   pub found : (e % 32 ≡ 0 → ⊥) → WithLength table s n at e
-  pub without : e % 32 ≡ 0 → withoutEntry t root e (bitsLeft s n at) at ≡ word table (bitsLeft s n at) at
+  pub without : e % 32 ≡ 0 → withoutEntry (table .name) t root e (bitsLeft s n at) at ≡ word table (bitsLeft s n at) at
 
 -- a tree and entries that are right for a table, and the entry that is read
-module _ (t : List ℕ) (root from width : ℕ) (table : List Entry) (tree : T (right 16 t root table)) (ok : T (entriesRight t from width table))
+module _ (t : List ℕ) (root from width : ℕ) (table : CodeTable) (tree : T (right 16 t root (table .entries))) (ok : T (entriesRight t from width (table .entries)))
     (small : width ≤ 24) (s : List ℕ) (n at e : ℕ) (inside : at ≤ n) (is : e ≡ entryRead t from width s n at) where
-  full : T (noEmpty table)
-  full = both-left (noEmpty table) _ tree
+  full : T (noEmpty (table .entries))
+  full = both-left (noEmpty (table .entries)) _ tree
 
-  many : T (some table)
-  many = both-left (some table) _ (both-right (noEmpty table) _ tree)
+  many : T (some (table .entries))
+  many = both-left (some (table .entries)) _ (both-right (noEmpty (table .entries)) _ tree)
 
   -- where too few bits are left, the entry decides nothing
   said-short : ltb (n - at) width ≡ true → e ≡ 32
@@ -100,18 +100,18 @@ module _ (t : List ℕ) (root from width : ℕ) (table : List Entry) (tree : T (
   -- else it says what they decide
   said-shown : ltb (n - at) width ≡ false → e ≡ entryOf (shown table s at width)
   said-shown f =
-      is ∙ rw f (entry-of t from width table ok (value s at width) (value-lt s at width) ∙ ap (λ (bs : List Bit). entryOf (decide table bs 0)) (sym (bits-value s at width)))
+      is ∙ rw f (entry-of t from width (table .entries) ok (value s at width) (value-lt s at width) ∙ ap (λ (bs : List Bit). entryOf (decide (table .entries) bs 0)) (sym (bits-value s at width)))
 
   reach : Reached 0 width (shown table s at width)
-  reach = subst (λ (j : ℕ). Reached 0 j (shown table s at width)) (length-bits s at width) (reached table (bitsFrom s at width) 0)
+  reach = subst (λ (j : ℕ). Reached 0 j (shown table s at width)) (length-bits s at width) (reached (table .entries) (bitsFrom s at width) 0)
 
-  word-dead : (k : ℕ) → shown table s at width ≡ dead k → at + k ≤ n → word table (bitsLeft s n at) at ≡ bad NoCodeword at
-  word-dead k f l = decided-word table width s n at full many (rw f tt) ∙ ap (said s n at) f ∙ rw (le-leb (at + k) n l)
+  word-dead : (k : ℕ) → shown table s at width ≡ dead k → at + k ≤ n → word table (bitsLeft s n at) at ≡ bad (NoCodeword (table .name)) at
+  word-dead k f l = decided-word table width s n at full many (rw f tt) ∙ ap (said (table .name) s n at) f ∙ rw (le-leb (at + k) n l)
 
   word-ended : (k m : ℕ) → shown table s at width ≡ ended k m → at + k ≤ n → word table (bitsLeft s n at) at ≡ got m (bitsLeft s n (at + k)) (at + k)
-  word-ended k m f l = decided-word table width s n at full many (rw f tt) ∙ ap (said s n at) f ∙ rw (le-leb (at + k) n l)
+  word-ended k m f l = decided-word table width s n at full many (rw f tt) ∙ ap (said (table .name) s n at) f ∙ rw (le-leb (at + k) n l)
 
-  walked : walkOf 16 t root (bitsLeft s n at) at at ≡ word table (bitsLeft s n at) at
+  walked : walkOf (table .name) 16 t root (bitsLeft s n at) at at ≡ word table (bitsLeft s n at) at
   walked = walk-right 16 t root table (bitsLeft s n at) at tree
 
   -- ---- an entry with a length is the codeword, and its bits are left
@@ -136,19 +136,19 @@ module _ (t : List ℕ) (root from width : ℕ) (table : List Entry) (tree : T (
       by-left false f = by-shown (ltb-false (n - at) width f) (shown table s at width) refl (said-shown f) reach
 
   -- ---- without one it is as the definition says
-  without-length : e % 32 ≡ 0 → withoutEntry t root e (bitsLeft s n at) at ≡ word table (bitsLeft s n at) at
+  without-length : e % 32 ≡ 0 → withoutEntry (table .name) t root e (bitsLeft s n at) at ≡ word table (bitsLeft s n at) at
   without-length no-length = by-left (ltb (n - at) width) refl
     where
-      by-tree : e ≡ 32 → withoutEntry t root e (bitsLeft s n at) at ≡ word table (bitsLeft s n at) at
+      by-tree : e ≡ 32 → withoutEntry (table .name) t root e (bitsLeft s n at) at ≡ word table (bitsLeft s n at) at
       by-tree q = let z : e ≡ 0 → ⊥ = λ y. omega arith in rw (ne-eqb e 0 z) walked
 
       by-shown : width ≤ n - at → (d : Decided) → shown table s at width ≡ d → e ≡ entryOf d → Reached 0 width d
-          → withoutEntry t root e (bitsLeft s n at) at ≡ word table (bitsLeft s n at) at
+          → withoutEntry (table .name) t root e (bitsLeft s n at) at ≡ word table (bitsLeft s n at) at
       by-shown l undecided f q r = by-tree q
       by-shown l (dead k) f q r = let room : at + k ≤ n = omega arith in rw (eq-eqb e 0 q) (sym (word-dead k f room))
       by-shown l (ended k m) f q r = absurd (omega (arith, r .0, r .1))
 
-      by-left : (b : Bool) → ltb (n - at) width ≡ b → withoutEntry t root e (bitsLeft s n at) at ≡ word table (bitsLeft s n at) at
+      by-left : (b : Bool) → ltb (n - at) width ≡ b → withoutEntry (table .name) t root e (bitsLeft s n at) at ≡ word table (bitsLeft s n at) at
       by-left true f = by-tree (said-short f)
       by-left false f = by-shown (ltb-false (n - at) width f) (shown table s at width) refl (said-shown f) reach
 

@@ -11,11 +11,12 @@ use lib.ListN.{length, drop}
 use Rattle.laws.specs.Choice.{pick, both}
 use Rattle.refusals.specs.declared.Reason.{Reason}
 use Rattle.refusals.specs.declared.Reason.the-variants.{BitsEnd, NoCodeword}
+use Rattle.refusals.specs.declared.Table.{Table}
 use Rattle.refusals.specs.declared.Refusal.{Refusal}
 use Rattle.refusals.specs.Number.{number}
 use Rattle.bits.specs.Bits.{Bit, num}
 use Rattle.bits.specs.Read.{Read, got, refused, endless, Reader, next, _>>=_, done, fieldFrom, field, Judged, fine, against, settle, judgedRead, movedRead, whole, orEnd, loop}
-use Rattle.bits.specs.Code.{Entry, entry, starts, longer, lookup, word}
+use Rattle.bits.specs.Code.{Entry, entry, CodeTable, starts, longer, lookup, word}
 use Rattle.bits.proofs.Codes.{each, word-got}
 use Rattle.bits.proofs.Numbers.{num-small}
 
@@ -201,17 +202,17 @@ lookup-ends Q (entry w m ∷ table) bs at other h = from (starts w bs) (lookup-e
     from true h = tt
     from false h = h
 
-none-listed : (cut : Bool) → T (ofBits (pick cut BitsEnd NoCodeword))
+none-listed : (cut : Bool) (name : Table) → T (ofBits (pick cut BitsEnd (NoCodeword name)))
 unfolding number
-none-listed true = tt
-none-listed false = tt
+none-listed true name = tt
+none-listed false name = tt
 
-pub reads-word : {bound : ℕ} (p : ℕ → Bool) (table : List Entry) → T (each p table) → Reads bound 1 (λ m left. T (p m)) (word table)
+pub reads-word : {bound : ℕ} (p : ℕ → Bool) (table : CodeTable) → T (each p (table .entries)) → Reads bound 1 (λ m left. T (p m)) (word table)
 unfolding word
 reads-word p table t =
     record {
       gives = λ bs at b. from bs at (word table bs at) refl
-          (lookup-ends (Fair (at + length bs)) table bs at _ (record { listed = none-listed (longer table bs); within = omega arith }));
+          (lookup-ends (Fair (at + length bs)) (table .entries) bs at _ (record { listed = none-listed (longer (table .entries) bs) (table .name); within = omega arith }));
     }
   where
     from : (bs : List Bit) (at : ℕ) (x : Read ℕ) → word table bs at ≡ x → Holds (λ m left place. Unit {0}) (Fair (at + length bs)) x

@@ -9,7 +9,7 @@ use lib.Dec.{T}
 use lib.ListN.{length, length-append}
 use Rattle.bits.specs.Bits.{Bit, bitsOf}
 use Rattle.bits.specs.Read.{got, Reader, _>>=_, done, field, Judged, fine, judgedRead, loop}
-use Rattle.bits.specs.Code.{Entry, wordOf, has}
+use Rattle.bits.specs.Code.{CodeTable, wordOf, has}
 use Rattle.bits.proofs.Fields.{length-bitsOf, field-back}
 use Rattle.bits.proofs.Codes.{free, each, word-got, word-back}
 
@@ -49,8 +49,8 @@ pub back-field : (k x : ℕ) (rest : List Bit) → x < 2 ^ k → Back (field k) 
 back-field k x rest l = record { reads = λ at. field-back k x rest at l ∙ ap (λ (n : ℕ). got x rest (at + n)) (sym (length-bitsOf k x)) }
 
 -- a codeword has a bit at least
-pub length-word : (tab : List Entry) (m : ℕ) → T (each (λ m. true) tab) → T (free tab) → T (has tab m) → 1 ≤ length (wordOf tab m)
-length-word tab m t a h =
-    let w = wordOf tab m in
-    let d = word-got (λ m. true) tab (w ++ []) 0 m [] (0 + length w) t (word-back tab m [] 0 a h) in
+pub length-word : (table : CodeTable) (m : ℕ) → T (each (λ m. true) (table .entries)) → T (free (table .entries)) → T (has table m) → 1 ≤ length (wordOf table m)
+length-word table m t a h =
+    let w = wordOf table m in
+    let d = word-got (λ m. true) table (w ++ []) 0 m [] (0 + length w) t (word-back table m [] 0 a h) in
     omega (arith, d .after)

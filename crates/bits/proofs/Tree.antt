@@ -10,9 +10,10 @@ use lib.ListN.{length, getD, drop}
 use Rattle.laws.specs.Choice.{pick, both, either}
 use Rattle.laws.proofs.Choice.{both-left, both-right}
 use Rattle.refusals.specs.declared.Reason.the-variants.{BitsEnd, NoCodeword}
+use Rattle.refusals.specs.declared.Table.{Table}
 use Rattle.bits.specs.Bits.{Bit, O, I, same}
 use Rattle.bits.specs.Read.{Read, got, bad}
-use Rattle.bits.specs.Code.{Entry, entry, starts, longer, lookup, word}
+use Rattle.bits.specs.Code.{Entry, entry, CodeTable, starts, longer, lookup, word}
 use Rattle.bits.specs.Tree.{side, noEmpty, right, isLeaf, none, some, walkOf, step, agree}
 
 -- ---- one entry of the definition
@@ -69,59 +70,61 @@ unfolding longer
 longer-end [] h = absurd h
 longer-end (entry w m ∷ tab) h = refl
 
--- ---- what the table says from place p on, of a codeword that began at `at`
-abbrev pub coded : List Entry → List Bit → ℕ → ℕ → Read ℕ
-coded tab bs at p = lookup tab bs p (bad (pick (longer tab bs) BitsEnd NoCodeword) at)
+-- ---- what a table of this name says from place p on, of a codeword that began at `at`
+abbrev pub coded : Table → List Entry → List Bit → ℕ → ℕ → Read ℕ
+coded name tab bs at p = lookup tab bs p (bad (pick (longer tab bs) BitsEnd (NoCodeword name)) at)
 
-pub coded-step : (b : Bit) (tab : List Entry) (bs : List Bit) (at p : ℕ) → T (noEmpty tab) → coded tab (b ∷ bs) at p ≡ coded (step b tab) bs at (p + 1)
-coded-step b tab bs at p h =
-    rw (longer-step b tab bs, lookup-step b tab bs p (bad (pick (longer (step b tab) bs) BitsEnd NoCodeword) at) h)
+module _ (name : Table) where
+  pub coded-step : (b : Bit) (tab : List Entry) (bs : List Bit) (at p : ℕ) → T (noEmpty tab) → coded name tab (b ∷ bs) at p ≡ coded name (step b tab) bs at (p + 1)
+  coded-step b tab bs at p h =
+      rw (longer-step b tab bs, lookup-step b tab bs p (bad (pick (longer (step b tab) bs) BitsEnd (NoCodeword name)) at) h)
 
-pub coded-end : (tab : List Entry) (at p : ℕ) → T (noEmpty tab) → T (some tab) → bad BitsEnd at ≡ coded tab [] at p
-coded-end tab at p h k = rw (longer-end tab k, lookup-end tab p (bad BitsEnd at) h)
+  pub coded-end : (tab : List Entry) (at p : ℕ) → T (noEmpty tab) → T (some tab) → bad BitsEnd at ≡ coded name tab [] at p
+  coded-end tab at p h k = rw (longer-end tab k, lookup-end tab p (bad BitsEnd at) h)
 
-pub coded-none : (d : List Entry) (bs : List Bit) (at p : ℕ) → T (none d) → bad NoCodeword at ≡ coded d bs at p
-unfolding lookup longer
-coded-none [] bs at p h = refl
-coded-none (e ∷ d) bs at p h = absurd h
+  pub coded-none : (d : List Entry) (bs : List Bit) (at p : ℕ) → T (none d) → bad (NoCodeword name) at ≡ coded name d bs at p
+  unfolding lookup longer
+  coded-none [] bs at p h = refl
+  coded-none (e ∷ d) bs at p h = absurd h
 
-pub coded-leaf : (d : List Entry) (m : ℕ) (bs : List Bit) (at p : ℕ) → T (isLeaf d m) → got m bs p ≡ coded d bs at p
-coded-leaf [] m bs at p h = absurd h
-coded-leaf (entry (x ∷ w) m′ ∷ tab) m bs at p h = absurd h
-coded-leaf (entry [] m′ ∷ []) m bs at p h =
-    (λ i. got (sym (eqb→eq m′ m h) i) bs (sym (add-zero p) i)) ∙ sym (hit [] m′ [] bs p (bad (pick (longer (entry [] m′ ∷ []) bs) BitsEnd NoCodeword) at) refl)
-coded-leaf (entry [] m′ ∷ e ∷ tab) m bs at p h = absurd h
+  pub coded-leaf : (d : List Entry) (m : ℕ) (bs : List Bit) (at p : ℕ) → T (isLeaf d m) → got m bs p ≡ coded name d bs at p
+  coded-leaf [] m bs at p h = absurd h
+  coded-leaf (entry (x ∷ w) m′ ∷ tab) m bs at p h = absurd h
+  coded-leaf (entry [] m′ ∷ []) m bs at p h =
+      (λ i. got (sym (eqb→eq m′ m h) i) bs (sym (add-zero p) i)) ∙ sym (hit [] m′ [] bs p (bad (pick (longer (entry [] m′ ∷ []) bs) BitsEnd (NoCodeword name)) at) refl)
+  coded-leaf (entry [] m′ ∷ e ∷ tab) m bs at p h = absurd h
 
--- ---- the walk
--- one step, by cases on the two tests of the child's number
-turn : (x y : Bool) (d : List Entry) (v : ℕ) (bs : List Bit) (at p : ℕ) (next : Read ℕ) (go : Bool)
-    → (T (noEmpty d) → T (some d) → T go → next ≡ coded d bs at p)
-    → T (pick x (none d) (pick y (both (noEmpty d) (both (some d) go)) (isLeaf d (v - 256))))
-    → pick x (bad NoCodeword at) (pick y next (got (v - 256) bs p)) ≡ coded d bs at p
-turn true y d v bs at p next go k h = coded-none d bs at p h
-turn false true d v bs at p next go k h =
-    k (both-left (noEmpty d) _ h) (both-left (some d) _ (both-right (noEmpty d) _ h)) (both-right (some d) go (both-right (noEmpty d) _ h))
-turn false false d v bs at p next go k h = coded-leaf d (v - 256) bs at p h
+  -- ---- the walk
+  -- one step, by cases on the two tests of the child's number
+  turn : (x y : Bool) (d : List Entry) (v : ℕ) (bs : List Bit) (at p : ℕ) (next : Read ℕ) (go : Bool)
+      → (T (noEmpty d) → T (some d) → T go → next ≡ coded name d bs at p)
+      → T (pick x (none d) (pick y (both (noEmpty d) (both (some d) go)) (isLeaf d (v - 256))))
+      → pick x (bad (NoCodeword name) at) (pick y next (got (v - 256) bs p)) ≡ coded name d bs at p
+  turn true y d v bs at p next go k h = coded-none d bs at p h
+  turn false true d v bs at p next go k h =
+      k (both-left (noEmpty d) _ h) (both-left (some d) _ (both-right (noEmpty d) _ h)) (both-right (some d) go (both-right (noEmpty d) _ h))
+  turn false false d v bs at p next go k h = coded-leaf d (v - 256) bs at p h
 
-walk-coded : (f : ℕ) (t : List ℕ) (q : ℕ) (tab : List Entry) (bs : List Bit) (at p : ℕ) → T (noEmpty tab) → T (some tab) → T (agree f t tab q)
-    → walkOf f t q bs at p ≡ coded tab bs at p
-unfolding walkOf
-walk-coded zero t q tab bs at p h k a = absurd a
-walk-coded (suc f) t q tab [] at p h k a = coded-end tab at p h k
-walk-coded (suc f) t q tab (O ∷ bs) at p h k a =
-    let v = getD t (q * 2 + 0) 0 in
-    turn (eqb v 0) (ltb v 256) (step O tab) v bs at (p + 1) (walkOf f t v bs at (p + 1)) (agree f t (step O tab) v)
-    (λ h′ k′ a′. walk-coded f t v (step O tab) bs at (p + 1) h′ k′ a′) (both-left (side (agree f t) (step O tab) v) (side (agree f t) (step I tab) (getD t (q * 2 + 1) 0)) a)
-    ∙ sym (coded-step O tab bs at p h)
-walk-coded (suc f) t q tab (I ∷ bs) at p h k a =
-    let v = getD t (q * 2 + 1) 0 in
-    turn (eqb v 0) (ltb v 256) (step I tab) v bs at (p + 1) (walkOf f t v bs at (p + 1)) (agree f t (step I tab) v)
-    (λ h′ k′ a′. walk-coded f t v (step I tab) bs at (p + 1) h′ k′ a′) (both-right (side (agree f t) (step O tab) (getD t (q * 2 + 0) 0)) (side (agree f t) (step I tab) v) a)
-    ∙ sym (coded-step I tab bs at p h)
+  walk-coded : (f : ℕ) (t : List ℕ) (q : ℕ) (tab : List Entry) (bs : List Bit) (at p : ℕ) → T (noEmpty tab) → T (some tab) → T (agree f t tab q)
+      → walkOf name f t q bs at p ≡ coded name tab bs at p
+  unfolding walkOf
+  walk-coded zero t q tab bs at p h k a = absurd a
+  walk-coded (suc f) t q tab [] at p h k a = coded-end tab at p h k
+  walk-coded (suc f) t q tab (O ∷ bs) at p h k a =
+      let v = getD t (q * 2 + 0) 0 in
+      turn (eqb v 0) (ltb v 256) (step O tab) v bs at (p + 1) (walkOf name f t v bs at (p + 1)) (agree f t (step O tab) v)
+      (λ h′ k′ a′. walk-coded f t v (step O tab) bs at (p + 1) h′ k′ a′) (both-left (side (agree f t) (step O tab) v) (side (agree f t) (step I tab) (getD t (q * 2 + 1) 0)) a)
+      ∙ sym (coded-step O tab bs at p h)
+  walk-coded (suc f) t q tab (I ∷ bs) at p h k a =
+      let v = getD t (q * 2 + 1) 0 in
+      turn (eqb v 0) (ltb v 256) (step I tab) v bs at (p + 1) (walkOf name f t v bs at (p + 1)) (agree f t (step I tab) v)
+      (λ h′ k′ a′. walk-coded f t v (step I tab) bs at (p + 1) h′ k′ a′) (both-right (side (agree f t) (step O tab) (getD t (q * 2 + 0) 0)) (side (agree f t) (step I tab) v) a)
+      ∙ sym (coded-step I tab bs at p h)
 
 -- a tree that passes the test reads just what the table says
-pub walk-right : (f : ℕ) (t : List ℕ) (q : ℕ) (tab : List Entry) (bs : List Bit) (at : ℕ) → T (right f t q tab) → walkOf f t q bs at at ≡ word tab bs at
+pub walk-right : (f : ℕ) (t : List ℕ) (q : ℕ) (table : CodeTable) (bs : List Bit) (at : ℕ) → T (right f t q (table .entries)) → walkOf (table .name) f t q bs at at ≡ word table bs at
 unfolding word
-walk-right f t q tab bs at h =
-    walk-coded f t q tab bs at at (both-left (noEmpty tab) _ h) (both-left (some tab) _ (both-right (noEmpty tab) _ h))
+walk-right f t q table bs at h =
+    let tab = table .entries in
+    walk-coded (table .name) f t q tab bs at at (both-left (noEmpty tab) _ h) (both-left (some tab) _ (both-right (noEmpty tab) _ h))
     (both-right (some tab) _ (both-right (noEmpty tab) _ h))

@@ -8,6 +8,7 @@ use lib.Dec.{eqb, ltb}
 use lib.ListN.{getD}
 use Rattle.laws.specs.Choice.{pick}
 use Rattle.refusals.specs.declared.Reason.the-variants.{BitsEnd, NoCodeword}
+use Rattle.refusals.specs.declared.Table.{Table}
 use Rattle.bits.specs.Bits.{bitNum, value, bitsLeft}
 use Rattle.bits.specs.Read.{got, bad}
 use Rattle.bits.specs.Tree.{walkOf}
@@ -20,41 +21,41 @@ window-bit s at w k e h =
     ap (λ (x : ℕ). x / 2 ^ (23 - k) % 2) (e ∙ ap (value s at) t) ∙ value-within s at k 1 (23 - k) ∙ value-one s (at + k)
 
 -- the walk has come to node q, k bits on
-abbrev pub Here : List ℕ → List ℕ → ℕ → ℕ → ℕ → ℕ → ℕ → Type 0
-Here t s n root at q k = walkOf 16 t root (bitsLeft s n at) at at ≡ walkOf (16 - k) t q (bitsLeft s n (at + k)) at (at + k)
+abbrev pub Here : Table → List ℕ → List ℕ → ℕ → ℕ → ℕ → ℕ → ℕ → Type 0
+Here name t s n root at q k = walkOf name 16 t root (bitsLeft s n at) at at ≡ walkOf name (16 - k) t q (bitsLeft s n (at + k)) at (at + k)
 
-pub here-first : (t s : List ℕ) (n root at : ℕ) → Here t s n root at root 0
-here-first t s n root at = let z : at + 0 ≡ at = omega arith in rw z
+pub here-first : (name : Table) (t s : List ℕ) (n root at : ℕ) → Here name t s n root at root 0
+here-first name t s n root at = let z : at + 0 ≡ at = omega arith in rw z
 
-module _ (t s : List ℕ) (n root at q k : ℕ) (h : Here t s n root at q k) (l : k < 16) where
+module _ (name : Table) (t s : List ℕ) (n root at q k : ℕ) (h : Here name t s n root at q k) (l : k < 16) where
   f-more : 16 - k ≡ suc (16 - (k + 1))
   f-more = omega arith
 
-  pub walk-end : n - at ≤ k → bad BitsEnd at ≡ walkOf 16 t root (bitsLeft s n at) at at
+  pub walk-end : n - at ≤ k → bad BitsEnd at ≡ walkOf name 16 t root (bitsLeft s n at) at at
   unfolding walkOf
   walk-end e = sym (h ∙ rw (f-more, left-none s n (at + k) (omega arith)))
 
   module _ (b : ℕ) (m : k < n - at) (e : b ≡ bitNum s (at + k)) where
-    step : walkOf (16 - k) t q (bitsLeft s n (at + k)) at (at + k)
-        ≡ pick (eqb (getD t (q * 2 + b) 0) 0) (bad NoCodeword at)
-        (pick (ltb (getD t (q * 2 + b) 0) 256) (walkOf (16 - (k + 1)) t (getD t (q * 2 + b) 0) (bitsLeft s n (at + k + 1)) at (at + k + 1))
+    step : walkOf name (16 - k) t q (bitsLeft s n (at + k)) at (at + k)
+        ≡ pick (eqb (getD t (q * 2 + b) 0) 0) (bad (NoCodeword name) at)
+        (pick (ltb (getD t (q * 2 + b) 0) 256) (walkOf name (16 - (k + 1)) t (getD t (q * 2 + b) 0) (bitsLeft s n (at + k + 1)) at (at + k + 1))
         (got (getD t (q * 2 + b) 0 - 256) (bitsLeft s n (at + k + 1)) (at + k + 1)))
     unfolding walkOf
     step = rw (f-more, left-more s n (at + k) (omega arith), num-bit s (at + k), e)
 
-    pub walk-none : getD t (q * 2 + b) 0 ≡ 0 → bad NoCodeword at ≡ walkOf 16 t root (bitsLeft s n at) at at
+    pub walk-none : getD t (q * 2 + b) 0 ≡ 0 → bad (NoCodeword name) at ≡ walkOf name 16 t root (bitsLeft s n at) at at
     walk-none z = sym (h ∙ step ∙ rw (eq-eqb _ _ z))
 
     on : at + k + 1 ≡ at + (k + 1)
     on = omega arith
 
     pub walk-leaf : (getD t (q * 2 + b) 0 ≡ 0 → ⊥) → 256 ≤ getD t (q * 2 + b) 0
-        → got (getD t (q * 2 + b) 0 - 256) (bitsLeft s n (at + (k + 1))) (at + (k + 1)) ≡ walkOf 16 t root (bitsLeft s n at) at at
+        → got (getD t (q * 2 + b) 0 - 256) (bitsLeft s n (at + (k + 1))) (at + (k + 1)) ≡ walkOf name 16 t root (bitsLeft s n at) at at
     walk-leaf z g = sym (h ∙ step ∙ rw (ne-eqb _ _ z, le-ltb _ _ g, on))
 
-    pub walk-down : (getD t (q * 2 + b) 0 ≡ 0 → ⊥) → getD t (q * 2 + b) 0 < 256 → Here t s n root at (getD t (q * 2 + b) 0) (k + 1)
+    pub walk-down : (getD t (q * 2 + b) 0 ≡ 0 → ⊥) → getD t (q * 2 + b) 0 < 256 → Here name t s n root at (getD t (q * 2 + b) 0) (k + 1)
     walk-down z g = h ∙ step ∙ rw (ne-eqb _ _ z, lt-ltb _ _ g, on)
 
-pub walk-deep : (t s : List ℕ) (n root at q k : ℕ) → Here t s n root at q k → 16 ≤ k → bad NoCodeword at ≡ walkOf 16 t root (bitsLeft s n at) at at
+pub walk-deep : (name : Table) (t s : List ℕ) (n root at q k : ℕ) → Here name t s n root at q k → 16 ≤ k → bad (NoCodeword name) at ≡ walkOf name 16 t root (bitsLeft s n at) at at
 unfolding walkOf
-walk-deep t s n root at q k h l = let z : 16 - k ≡ 0 = omega arith in sym (h ∙ rw z)
+walk-deep name t s n root at q k h l = let z : 16 - k ≡ 0 = omega arith in sym (h ∙ rw z)

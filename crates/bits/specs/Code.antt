@@ -6,12 +6,18 @@ use lib.Dec.{eqb}
 use lib.ListN.{length, drop}
 use Rattle.laws.specs.Choice.{pick, both, either}
 use Rattle.refusals.specs.declared.Reason.the-variants.{BitsEnd, NoCodeword}
+use Rattle.refusals.specs.declared.Table.{Table}
 use Rattle.bits.specs.Bits.{Bit, same}
 use Rattle.bits.specs.Read.{Read, got, bad, Reader}
 
 -- a codeword and its meaning
 pub data Entry : Type 0 where
   entry : List Bit → ℕ → Entry
+
+-- a table: its name, which a refusal carries, and its entries
+pub record CodeTable : Type 0 where
+  pub name : Table
+  pub entries : List Entry
 
 -- w is a beginning of bs
 abbrev pub starts : List Bit → List Bit → Bool
@@ -32,17 +38,24 @@ lookup (entry w m ∷ tab) bs at other =
     elim (starts w bs) [ true ↦ found | false ↦ lookup tab bs at other ]
 
 -- "if the bits left are a proper beginning of one (no bits included), the refusal is 3; if no codeword fits, 8."
-unfoldable pub word : List Entry → Reader ℕ
-word tab = λ bs at.
-    let none = bad (pick (longer tab bs) BitsEnd NoCodeword) at in
-    lookup tab bs at none
+-- "Codeword reads must also say which table was being read"
+unfoldable pub word : CodeTable → Reader ℕ
+word table = λ bs at.
+    let none = bad (pick (longer (table .entries) bs) BitsEnd (NoCodeword (table .name))) at in
+    lookup (table .entries) bs at none
 
 -- the codeword of the meaning m, or nothing where it has none
-unfoldable pub wordOf : List Entry → ℕ → List Bit
-wordOf [] m = []
-wordOf (entry w m′ ∷ tab) m = pick (eqb m′ m) w (wordOf tab m)
+unfoldable pub wordIn : List Entry → ℕ → List Bit
+wordIn [] m = []
+wordIn (entry w m′ ∷ tab) m = pick (eqb m′ m) w (wordIn tab m)
+
+abbrev pub wordOf : CodeTable → ℕ → List Bit
+wordOf table m = wordIn (table .entries) m
 
 -- m has a codeword
-unfoldable pub has : List Entry → ℕ → Bool
-has [] m = false
-has (entry w m′ ∷ tab) m = either (eqb m′ m) (has tab m)
+unfoldable pub hasIn : List Entry → ℕ → Bool
+hasIn [] m = false
+hasIn (entry w m′ ∷ tab) m = either (eqb m′ m) (hasIn tab m)
+
+abbrev pub has : CodeTable → ℕ → Bool
+has table m = hasIn (table .entries) m

@@ -8,6 +8,7 @@ use lib.ListN.{length, getD, take, drop}
 use Rattle.laws.specs.Choice.{pick}
 use Rattle.laws.specs.Lists.{alike}
 use Rattle.refusals.specs.declared.Reason.the-variants.{NoCodeword}
+use Rattle.refusals.specs.declared.Table.{Table}
 use Rattle.bits.specs.Bits.{Bit, bitsOf, value}
 use Rattle.bits.specs.Read.{Read, bad}
 use Rattle.bits.specs.Code.{Entry}
@@ -49,5 +50,5 @@ abbrev pub entryRead : List ℕ → ℕ → ℕ → List ℕ → ℕ → ℕ →
 entryRead t from width s n at = pick (ltb (n - at) width) 32 (getD t (from + value s at width) 0)
 
 -- where the entry e has no length, the tree decides unless no codeword begins so
-abbrev pub withoutEntry : List ℕ → ℕ → ℕ → List Bit → ℕ → Read ℕ
-withoutEntry t root e bs at = pick (eqb e 0) (bad NoCodeword at) (walkOf 16 t root bs at at)
+abbrev pub withoutEntry : Table → List ℕ → ℕ → ℕ → List Bit → ℕ → Read ℕ
+withoutEntry name t root e bs at = pick (eqb e 0) (bad (NoCodeword name) at) (walkOf name 16 t root bs at at)

@@ -7,18 +7,19 @@ use lib.Dec.{eqb, ltb}
 use lib.ListN.{getD}
 use Rattle.laws.specs.Choice.{pick, both}
 use Rattle.refusals.specs.declared.Reason.the-variants.{BitsEnd, NoCodeword}
+use Rattle.refusals.specs.declared.Table.{Table}
 use Rattle.bits.specs.Bits.{Bit, O, I, num, same}
 use Rattle.bits.specs.Read.{Read, got, bad}
 use Rattle.bits.specs.Code.{Entry, entry}
 
--- from node q, over at most f of the bits bs, the first of which has place p; `at` is where the codeword began. Node q has its children at 2 q
--- and 2 q + 1: 0 for none, a node's number below 256, or 256 more than a meaning
-unfoldable pub walkOf : ℕ → List ℕ → ℕ → List Bit → ℕ → ℕ → Read ℕ
-walkOf zero t q bs at p = bad NoCodeword at
-walkOf (suc f) t q [] at p = bad BitsEnd at
-walkOf (suc f) t q (b ∷ bs) at p =
+-- of the table of this name, from node q, over at most f of the bits bs, the first of which has place p; `at` is where the codeword began. Node q
+-- has its children at 2 q and 2 q + 1: 0 for none, a node's number below 256, or 256 more than a meaning
+unfoldable pub walkOf : Table → ℕ → List ℕ → ℕ → List Bit → ℕ → ℕ → Read ℕ
+walkOf name zero t q bs at p = bad (NoCodeword name) at
+walkOf name (suc f) t q [] at p = bad BitsEnd at
+walkOf name (suc f) t q (b ∷ bs) at p =
     let v = getD t (q * 2 + num b) 0 in
-    pick (eqb v 0) (bad NoCodeword at) (pick (ltb v 256) (walkOf f t v bs at (p + 1)) (got (v - 256) bs (p + 1)))
+    pick (eqb v 0) (bad (NoCodeword name) at) (pick (ltb v 256) (walkOf name f t v bs at (p + 1)) (got (v - 256) bs (p + 1)))
 
 -- ---- what is left of a table's codewords after the bit b
 abbrev stepped : Bit → List Bit → ℕ → List Entry → List Entry

@@ -1,6 +1,7 @@
 // Bits of lent bytes, most significant first: fields, codewords by a tree and by entries for their first bits, and the bit writer.
 use refusals::Reason;
 use refusals::Refusal;
+use refusals::Table;
 ghost use mathlib.Core.Path.{_≡_};
 ghost use Prim.Native.Nat.{_+_, _*_, _≤_, _<_};
 ghost use lib.ListN.{length, getD};
@@ -86,11 +87,18 @@ pub fn field(bytes: &[u8], count: usize, at: usize, width: usize) -> FieldRead
     }
 }
 
-// The codeword at `at` by a tree of depth 16 at most, over one window: node q has its two children at 2 q and 2 q + 1. A child is 0 (no
+// The codeword of a table at `at`, by a tree of depth 16 at most, over one window: node q has its two children at 2 q and 2 q + 1. A child is 0 (no
 // codeword goes that way), the number of a node below 256, or 256 more than a codeword's meaning.
-pub fn walk(tree: &[u16], root: usize, bytes: &[u8], count: usize, at: usize) -> FieldRead
+pub fn walk(
+    tree: &[u16],
+    root: usize,
+    table: Table,
+    bytes: &[u8],
+    count: usize,
+    at: usize,
+) -> FieldRead
     requires { ⌜ (Within (now bytes) count at) × (root < 256) ⌝ }
-    ensures { λ r. ⌜ asField (now (bytes .entry)) count r ≡ walkOf 16 (now (tree .entry)) root (bitsLeft (now (bytes .entry)) count at) at at ⌝ }
+    ensures { λ r. ⌜ asField (now (bytes .entry)) count r ≡ walkOf table 16 (now (tree .entry)) root (bitsLeft (now (bytes .entry)) count at) at at ⌝ }
 {
     let bits = window(bytes, at);
     let left = count - at;
@@ -108,14 +116,14 @@ pub fn walk(tree: &[u16], root: usize, bytes: &[u8], count: usize, at: usize) ->
         let i = node * 2 + bit;
         if tree.len() <= i {
             return FieldRead::Refused(Refusal {
-                reason: Reason::NoCodeword,
+                reason: Reason::NoCodeword(table),
                 place: at,
             });
         }
         let v = tree[i];
         if v == 0 {
             return FieldRead::Refused(Refusal {
-                reason: Reason::NoCodeword,
+                reason: Reason::NoCodeword(table),
                 place: at,
             });
         }
@@ -126,7 +134,7 @@ pub fn walk(tree: &[u16], root: usize, bytes: &[u8], count: usize, at: usize) ->
         node = v as usize;
     }
     FieldRead::Refused(Refusal {
-        reason: Reason::NoCodeword,
+        reason: Reason::NoCodeword(table),
         place: at,
     })
 }
@@ -148,21 +156,22 @@ pub fn entry(table: &[u16], from: usize, width: usize, bytes: &[u8], count: usiz
 pub fn without_entry(
     tree: &[u16],
     root: usize,
+    table: Table,
     found: u16,
     bytes: &[u8],
     count: usize,
     at: usize,
 ) -> FieldRead
     requires { ⌜ (Within (now bytes) count at) × (root < 256) ⌝ }
-    ensures { λ r. ⌜ asField (now (bytes .entry)) count r ≡ withoutEntry (now (tree .entry)) root found (bitsLeft (now (bytes .entry)) count at) at ⌝ }
+    ensures { λ r. ⌜ asField (now (bytes .entry)) count r ≡ withoutEntry table (now (tree .entry)) root found (bitsLeft (now (bytes .entry)) count at) at ⌝ }
 {
     if found == 0 {
         return FieldRead::Refused(Refusal {
-            reason: Reason::NoCodeword,
+            reason: Reason::NoCodeword(table),
             place: at,
         });
     }
-    walk(tree, root, bytes, count, at)
+    walk(tree, root, table, bytes, count, at)
 }
 
 // `value` in `width` bits at `at`. The rest of the last byte that they start is zeroed, and no byte after it is touched.

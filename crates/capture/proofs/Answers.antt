@@ -9,7 +9,7 @@ use lib.Dec.{eqb, leb}
 use lib.ListN.{length, drop}
 use Rattle.laws.specs.Choice.{pick, both}
 use Rattle.laws.proofs.Choice.{second-no}
-use Rattle.refusals.specs.Number.{number, refusal}
+use Rattle.refusals.specs.Number.{number, readTable, refusal}
 use Rattle.refusals.specs.Told.{Told, accepted, refused}
 use Rattle.refusals.specs.declared.Reason.the-variants.{Length, Count, NoLock}
 use Rattle.bits.specs.Bits.{Bit, source, bitsLeft}
@@ -27,7 +27,7 @@ byCount capture n b = pick b (replayFrom (source capture n) (lockFrom (source ca
 module _ (capture : List ℕ) (n : ℕ) (out places : List ℕ) where
   refused-length : (b : Bool) → b ≡ false → both (eqb (length out) (length capture)) (eqb (length places) (length capture / 64 + 1)) ≡ b
       → ReplayDoes capture n out places (Refused (refusal Length 0)) out places
-  unfolding replayOf number
+  unfolding replayOf number readTable
   refused-length b e f =
       sym (ap (λ (b : Bool). replayEnd out places (pick b (byCount capture n (leb n (8 * length capture))) (refused 1 0))) (f ∙ e))
 
@@ -47,7 +47,7 @@ module _ (capture : List ℕ) (n : ℕ) (out places : List ℕ) where
         (λ i. pick (right i) (byCount capture n (leb n (8 * length capture))) (refused 1 0)) ∙ ap (byCount capture n) e
 
     pub past-slice : 8 * length capture < n → ReplayDoes capture n out places (Refused (refusal Count 0)) out places
-    unfolding number
+    unfolding number readTable
     past-slice l = sym (ap (replayEnd out places) (by-count false (lt-leb n (8 * length capture) l)))
 
     module _ (lent : n ≤ 8 * length capture) where
@@ -59,7 +59,7 @@ module _ (capture : List ℕ) (n : ℕ) (out places : List ℕ) where
           by-count true (le-leb n (8 * length capture) lent) ∙ ap (λ (bs : List Bit). replayFrom bs (lockFrom bs 0)) left-is ∙ ap (replayFrom (bitsLeft capture n 0)) (sym e)
 
       pub nowhere-locked : noLock ≡ lockFrom (bitsLeft capture n 0) 0 → ReplayDoes capture n out places (Refused (refusal NoLock 0)) out places
-      unfolding number
+      unfolding number readTable
       nowhere-locked e = sym (ap (replayEnd out places) (by-lock noLock e))
 
       pub locked-at : (p : ℕ) (answer : Replayed) (out′ places′ : List ℕ) → lockAt p ≡ lockFrom (bitsLeft capture n 0) 0

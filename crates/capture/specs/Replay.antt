@@ -5,7 +5,7 @@ use Prim.Native.Nat.{ℕ, _+_, _*_, _/_, _≤_}
 use lib.Dec.{eqb, leb}
 use lib.ListN.{length, drop}
 use Rattle.laws.specs.Choice.{pick, both}
-use Rattle.refusals.specs.Told.{Told, accepted, refused, byTable}
+use Rattle.refusals.specs.Told.{numbersOf, Told, accepted, refusedBy, refused}
 use Rattle.bits.specs.Bits.{Bit, source, bitsLeft}
 use Rattle.bits.specs.Write.{bytesWith}
 use Rattle.capture.specs.Capture.{LockPlace, lockAt, noLock, lockFrom, framesIn, dataBits, reportPlaces}
@@ -41,7 +41,7 @@ pub record Figures : Type 0 where
 
 abbrev pub toldReplayed : Replayed → Told Figures
 toldReplayed (Done lock bits places) = accepted (record { lock = lock; bits = bits; places = places })
-toldReplayed (Refused why) = byTable refused why
+toldReplayed (Refused why) = refusedBy (numbersOf why)
 
 -- the answer with both buffers at exit
 pub record ReplayEnd : Type 0 where
@@ -57,7 +57,7 @@ replayEnd out places (accepted r) =
       out = bytesWith out 0 (r .bits);
       places = r .places ++ drop (length (r .places)) places;
     }
-replayEnd out places (refused n place) = record { answer = refused n place; out = out; places = places }
+replayEnd out places (refusedBy numbers) = record { answer = refusedBy numbers; out = out; places = places }
 
 -- a capture whose lock is known, and buffers of their named lengths
 pub record Lockable (capture : List ℕ) (n lock : ℕ) (out places : List ℕ) : Type 0 where

@@ -219,11 +219,11 @@ pub fn say_unspaced(count: usize, text: &[u8])
     }
 }
 
-// "refused 21", "refused 8 at 311"
+// "refused 21", "refused 8 at 311 table 5"
 pub fn say_refusal(why: Refusal)
     ensures { λ r. ⌜ r ≡ tt ⌝ }
 {
-    let mut text = [0u8; 64];
+    let mut text = [0u8; 80];
     let count = text::put_refusal(why, 0, &mut text);
     say_unspaced(count, &text);
 }

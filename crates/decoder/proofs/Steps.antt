@@ -4,7 +4,7 @@ use mathlib.Core.List.{List}
 use Prim.Native.Nat.{ℕ}
 use borrow.Author.Tests.{eq-eqb, ne-eqb}
 use lib.ListN.{length}
-use Rattle.refusals.specs.Told.{Told, accepted, refused, verdictOn, foundOr}
+use Rattle.refusals.specs.Told.{Numbers, Told, accepted, refusedBy, refused, verdictOn, foundOr}
 use Rattle.size.specs.Size.{storeLength}
 use Rattle.coding.specs.declared.Kind.{Kind}
 use Rattle.layout.specs.Flat.{Flat}
@@ -24,8 +24,8 @@ module _ (k : Kind) (s : List ℕ) (n : ℕ) (reference : List ℕ) where
     pub drawn-store : (old new : List ℕ) → new ≡ codingOf k .render d reference → new ≡ foundOr old (drawnStore k s n reference)
     drawn-store old new h = h ∙ sym (ap (foundOr old) (drawn-as e))
 
-  module _ {m place : ℕ} (e : codingOf k .read s n ≡ refused m place) where
-    pub refused-verdict : refused m place ≡ verdictOn (drawnStore k s n reference)
+  module _ {numbers : Numbers} (e : codingOf k .read s n ≡ refusedBy numbers) where
+    pub refused-verdict : refusedBy numbers ≡ verdictOn (drawnStore k s n reference)
     refused-verdict = sym (ap verdictOn (drawn-as e))
 
     pub refused-store : (old : List ℕ) → old ≡ foundOr old (drawnStore k s n reference)

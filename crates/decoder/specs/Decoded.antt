@@ -7,7 +7,7 @@ use lib.ListN.{length}
 use Rattle.laws.specs.Choice.{pick, both}
 use Rattle.size.specs.Size.{storeLength}
 use Rattle.refusals.specs.declared.Verdict.{Verdict}
-use Rattle.refusals.specs.Told.{Told, accepted, refused, toldVerdict, verdictOn, foundOr}
+use Rattle.refusals.specs.Told.{Told, accepted, refusedBy, refused, toldVerdict, verdictOn, foundOr}
 use Rattle.coding.specs.declared.Kind.{Kind}
 use Rattle.coding.specs.Coding.{Coding}
 use Rattle.coding.specs.Kind.{kindSize, codingOf}
@@ -16,7 +16,7 @@ use Rattle.coding.specs.Described.{BlankFor}
 -- what is found, drawn over a reference
 abbrev pub drawnBy : {D : Type 0} → Coding D → List ℕ → Told D → Told (List ℕ)
 drawnBy c reference (accepted d) = accepted (c .render d reference)
-drawnBy c reference (refused n place) = refused n place
+drawnBy c reference (refusedBy numbers) = refusedBy numbers
 
 -- the verdict of the rules and, on acceptance, every sample
 unfoldable pub drawnStore : Kind → List ℕ → ℕ → List ℕ → Told (List ℕ)

@@ -9,8 +9,8 @@ use lib.Dec.{eqb, ltb, leb}
 use lib.ListN.{length}
 use Rattle.laws.specs.Choice.{pick, both, either, opposite, alike}
 use Rattle.laws.proofs.Choice.{two-of}
-use Rattle.refusals.specs.Told.{Told, accepted, refused, verdictOn}
-use Rattle.refusals.proofs.Told.{told-apart}
+use Rattle.refusals.specs.Told.{Numbers, untabled, Told, accepted, refusedBy, refused, verdictOn}
+use Rattle.refusals.proofs.Told.{told-apart, same-numbers}
 use Rattle.size.specs.declared.Size.{Size}
 use Rattle.size.specs.Size.{limit}
 use Rattle.layout.specs.Flat.{Flat}
@@ -45,11 +45,11 @@ opening-due false a = refl
 -- ---- a block: its verdict decides what is judged of it
 abbrev pub withValue : {A : Type 0} → A → Verdict → Told A
 withValue a (accepted t) = accepted a
-withValue a (refused n place) = refused n place
+withValue a (refusedBy numbers) = refusedBy numbers
 
 pub value-verdict : {A : Type 0} (a : A) (v : Verdict) → verdictOn (withValue a v) ≡ v
 value-verdict a (accepted t) = refl
-value-verdict a (refused n place) = refl
+value-verdict a (refusedBy numbers) = refl
 
 checked : (long sum fine : Bool) (header : Header) → pick long (pick sum (pick fine (accepted header) (refused 22 0)) (refused 21 0)) (refused 1 0)
     ≡ withValue header (firstOf (when 1 (opposite long) ∷ when 21 (opposite sum) ∷ when 22 (opposite fine) ∷ []))
@@ -63,7 +63,7 @@ unfolding checkOf
 check-is size block = checked (eqb (length block) 512) (eqb (sumOf block) (checkSumOf block)) (fieldsFollow size block) (headerOf block)
 
 of-clip : (v : Verdict) (header : Header) (clip : ℕ) → ofClip clip (withValue header v) ≡ withValue header (orElse v (firstOf (when 23 (opposite (eqb (header .clip) clip)) ∷ [])))
-of-clip (refused n place) header clip = refl
+of-clip (refusedBy numbers) header clip = refl
 of-clip (accepted t) header clip = go (eqb (header .clip) clip)
   where
     go : (same : Bool) → pick same (accepted header) (refused 23 0) ≡ withValue header (firstOf (when 23 (opposite same) ∷ []))
@@ -98,28 +98,28 @@ module _ (r : Receiver) (block : List ℕ) (b : Buffers) where
 
   -- what a refused event leaves: lost, with the part in the collection
   abbrev Fails : Event Flat → Type 0
-  Fails e = (n place : ℕ) → eventVerdict e ≡ refused n place
+  Fails e = (numbers : Numbers) → eventVerdict e ≡ refusedBy numbers
       → (advance r e ≡ failedReceiver r header) × (collectionAfter block (b .collection) e ≡ after) × (storedBy codingOf r (b .both) e ≡ b .both)
 
   ended-due : (rules : List Verdict) (found : Told Flat) → verdictOn found ≡ firstOf rules → eventVerdict (endedPicture codingOf r header found) ≡ firstOf (rules ++ (markRule r header found ∷ []))
   unfolding endedPicture
-  ended-due rules (refused n place) h = sym (first-append rules (accepted tt ∷ []) ∙ ap (λ (v : Verdict). orElse v (accepted tt)) (sym h))
+  ended-due rules (refusedBy numbers) h = sym (first-append rules (accepted tt ∷ []) ∙ ap (λ (v : Verdict). orElse v (accepted tt)) (sym h))
   ended-due rules (accepted d) h =
       go (alike (codingOf (r .kind) .refresh d) (markOf (r .progress) header))
       ∙ sym (first-append rules (markRule r header (accepted d) ∷ []) ∙ ap (λ (v : Verdict). orElse v (firstOf (markRule r header (accepted d) ∷ []))) (sym h))
     where
-      go : (true-mark : Bool) → eventVerdict (pick true-mark (finished header d) (failed header 24 0)) ≡ firstOf (when 24 (opposite true-mark) ∷ [])
+      go : (true-mark : Bool) → eventVerdict (pick true-mark (finished header d) (failed header (untabled 24 0))) ≡ firstOf (when 24 (opposite true-mark) ∷ [])
       go true = refl
       go false = refl
 
   ended-fails : (found : Told Flat) → Fails (endedPicture codingOf r header found)
   unfolding endedPicture
-  ended-fails (refused n place) = λ m at h. (refl, refl, refl)
+  ended-fails (refusedBy numbers) = λ numbers h. (refl, refl, refl)
   ended-fails (accepted d) = go (alike (codingOf (r .kind) .refresh d) (markOf (r .progress) header))
     where
-      go : (true-mark : Bool) → Fails (pick true-mark (finished header d) (failed header 24 0))
-      go true = λ m at h. absurd (told-apart h)
-      go false = λ m at h. (refl, refl, refl)
+      go : (true-mark : Bool) → Fails (pick true-mark (finished header d) (failed header (untabled 24 0)))
+      go true = λ numbers h. absurd (told-apart h)
+      go false = λ numbers h. (refl, refl, refl)
 
   abbrev lastOnes : List Verdict
   lastOnes = pictureRules (formatOf (r .kind)) after (countOf header) ++ (markRule r header (codingOf (r .kind) .read after (countOf header)) ∷ [])
@@ -138,7 +138,7 @@ module _ (r : Receiver) (block : List ℕ) (b : Buffers) where
     where
       go : (last : Bool) → Fails (pick last (endedPicture codingOf r header (codingOf (r .kind) .read after (countOf header))) (taken header standing))
       go true = ended-fails (codingOf (r .kind) .read after (countOf header))
-      go false = λ m at h. absurd (told-apart h)
+      go false = λ numbers h. absurd (told-apart h)
 
   line-due : (line : Line) → eventVerdict (byLine codingOf line r header block (b .collection)) ≡ firstOf (pick (both (takes line) (lastOf block)) lastOnes [])
   unfolding byLine
@@ -149,32 +149,29 @@ module _ (r : Receiver) (block : List ℕ) (b : Buffers) where
 
   line-fails : (line : Line) → Fails (byLine codingOf line r header block (b .collection))
   unfolding byLine
-  line-fails Earlier = λ m at h. absurd (told-apart h)
+  line-fails Earlier = λ numbers h. absurd (told-apart h)
   line-fails Next = took-fails (r .progress .standing)
   line-fails Anew = took-fails T.Catching
-  line-fails Otherwise = λ m at h. absurd (told-apart h)
+  line-fails Otherwise = λ numbers h. absurd (told-apart h)
 
   -- ---- any block
   record Comes (e : Event Flat) : Type 0 where
     due : eventVerdict e ≡ firstOf (blockRules r block b ++ lastRules r block b)
-    idle : (n place : ℕ) → firstOf (blockRules r block b) ≡ refused n place → e ≡ refusing n place
+    idle : (numbers : Numbers) → firstOf (blockRules r block b) ≡ refusedBy numbers → e ≡ refusing numbers
     fails : firstOf (blockRules r block b) ≡ accepted tt → Fails e
 
   decided : (v : Verdict) → firstOf (blockRules r block b) ≡ v → Comes (byJudgement codingOf (withValue header v) r block (b .collection))
   unfolding byJudgement
-  decided (refused n place) h = record {
+  decided (refusedBy due) h = record {
     due = sym (first-append (blockRules r block b) (lastRules r block b) ∙ ap (λ (v : Verdict). orElse v (firstOf (lastRules r block b))) h);
-    idle = λ m at q. same n m place at (sym h ∙ q);
+    idle = λ numbers q. ap refusing (same-numbers (sym h ∙ q));
     fails = λ q. absurd (told-apart (sym q ∙ h));
   }
-    where
-      same : (n m place at : ℕ) → _≡_ {A = Verdict} (refused n place) (refused m at) → _≡_ {A = Event Flat} (refusing n place) (refusing m at)
-      same n m place at q = cc
   decided (accepted t) h = record {
     due =
         line-due (lineOf (r .progress) header)
         ∙ sym (first-append (blockRules r block b) (lastRules r block b) ∙ ap (λ (v : Verdict). orElse v (firstOf (lastRules r block b))) h);
-    idle = λ m at q. absurd (told-apart (sym h ∙ q));
+    idle = λ numbers q. absurd (told-apart (sym h ∙ q));
     fails = λ _. line-fails (lineOf (r .progress) header);
   }
 
@@ -188,15 +185,15 @@ module _ (r : Receiver) (block : List ℕ) (b : Buffers) where
   event-refuses : (e : Event Flat) → Comes e → BlockRefuses r block b r (λ s. s) (answerOf e) (advance r e) (record { collection = collectionAfter block (b .collection) e; both = storedBy codingOf r (b .both) e })
   event-refuses e c = record {
     due = c .due;
-    stores = λ n place h. stored (firstOf (blockRules r block b)) refl n place h;
-    unchanged = λ n place h.
-        subst (λ (x : Event Flat). (advance r x ≡ r) × (record { collection = collectionAfter block (b .collection) x; both = storedBy codingOf r (b .both) x } ≡ b)) (sym (c .idle n place h)) (refl, refl);
-    at-last = λ n place g h. let f = c .fails g n place h in (f .0, λ i. record { collection = f .1 i; both = f .2 i });
+    stores = λ numbers h. stored (firstOf (blockRules r block b)) refl numbers h;
+    unchanged = λ numbers h.
+        subst (λ (x : Event Flat). (advance r x ≡ r) × (record { collection = collectionAfter block (b .collection) x; both = storedBy codingOf r (b .both) x } ≡ b)) (sym (c .idle numbers h)) (refl, refl);
+    at-last = λ numbers g h. let f = c .fails g numbers h in (f .0, λ i. record { collection = f .1 i; both = f .2 i });
   }
     where
-      stored : (v : Verdict) → firstOf (blockRules r block b) ≡ v → (n place : ℕ) → eventVerdict e ≡ refused n place → storedBy codingOf r (b .both) e ≡ b .both
-      stored (accepted t) g n place h = c .fails g n place h .2
-      stored (refused m at) g n place h = ap (storedBy codingOf r (b .both)) (c .idle m at g)
+      stored : (v : Verdict) → firstOf (blockRules r block b) ≡ v → (numbers : Numbers) → eventVerdict e ≡ refusedBy numbers → storedBy codingOf r (b .both) e ≡ b .both
+      stored (accepted t) g numbers h = c .fails g numbers h .2
+      stored (refusedBy others) g numbers h = ap (storedBy codingOf r (b .both)) (c .idle others g)
 
   pub step-refuses : BlockRefuses r block b r (λ s. s) (step codingOf r block b .gave .answer) (step codingOf r block b .gave .next) (step codingOf r block b .left)
   unfolding step cameTo
@@ -228,7 +225,7 @@ module _ (kind : Kind) (block : List ℕ) where
   found-is = ap (openedBy kind) (check-is (kindSize kind) block) ∙ go (firstOf (checkRules (kindSize kind) block)) refl
     where
       go : (v : Verdict) → firstOf (checkRules (kindSize kind) block) ≡ v → openedBy kind (withValue (headerOf block) v) ≡ withValue own v
-      go (refused n place) e = refl
+      go (refusedBy numbers) e = refl
       go (accepted t) e =
           ap (λ (z : Bool). pick z (refused 22 0) (accepted own))
           (clip-some (kindSize kind) block (all-fine (eqb (length block) 512) (eqb (sumOf block) (checkSumOf block)) (fieldsFollow (kindSize kind) block) e))
@@ -242,7 +239,7 @@ module _ (kind : Kind) (block : List ℕ) where
     where
       or-none : (v : Verdict) → orElse v (accepted tt) ≡ v
       or-none (accepted t) = refl
-      or-none (refused n place) = refl
+      or-none (refusedBy numbers) = refl
 
   opened-is : (b : Buffers) → pick (R.lentLengths (kindSize kind) b) (foundBy kind block) (refused 1 0) ≡ withValue own (firstOf (blockRules own block b))
   opened-is b = go (R.lentLengths (kindSize kind) b)
@@ -262,27 +259,27 @@ as-known r block b =
     record {
       due = x .due;
       stores = x .stores;
-      unchanged = λ n place h. let u = x .unchanged n place h in (ap K.Known (u .0), u .1);
-      at-last = λ n place g h. let u = x .at-last n place g h in (ap K.Known (u .0), u .1);
+      unchanged = λ numbers h. let u = x .unchanged numbers h in (ap K.Known (u .0), u .1);
+      at-last = λ numbers g h. let u = x .at-last numbers g h in (ap K.Known (u .0), u .1);
     }
 
 as-unknown : (kind : Kind) (block : List ℕ) (b : Buffers) (v : Verdict) → firstOf (blockRules (own kind block) block b) ≡ v
     → ListRefuses (own kind block) block b K.Unknown (byOpened (withValue (own kind block) v) block b)
 unfolding byOpened
-as-unknown kind block b (refused m at) e =
+as-unknown kind block b (refusedBy due) e =
     let r : Receiver = own kind block in
     record {
       due = sym (first-append (blockRules r block b) (lastRules r block b) ∙ ap (λ (v : Verdict). orElse v (firstOf (lastRules r block b))) e);
-      stores = λ n place h. refl;
-      unchanged = λ n place h. (refl, refl);
-      at-last = λ n place g h. absurd (told-apart (sym g ∙ e));
+      stores = λ numbers h. refl;
+      unchanged = λ numbers h. (refl, refl);
+      at-last = λ numbers g h. absurd (told-apart (sym g ∙ e));
     }
 as-unknown kind block b (accepted t) e =
     let x = as-known (own kind block) block b in
     record {
       due = x .due;
       stores = x .stores;
-      unchanged = λ n place h. absurd (told-apart (sym e ∙ h));
+      unchanged = λ numbers h. absurd (told-apart (sym e ∙ h));
       at-last = x .at-last;
     }
 
@@ -323,8 +320,8 @@ judge-due s d b =
 came-refuses : (s : Sender) (d : Flat) (b : S.Buffers) (rules : List Verdict) (j : S.Judgement) → judgementVerdict j ≡ firstOf rules
     → (let x = S.cameTo codingOf s d b j in Refuses {W = Sender × S.Buffers} rules (verdictOn (x .gave .answer)) (s, b) (x .gave .next, x .left))
 unfolding S.cameTo
-came-refuses s d b rules S.sends h = record { due = h; unchanged = λ n place q. absurd (told-apart q) }
-came-refuses s d b rules (S.refuses m) h = record { due = h; unchanged = λ n place q. refl }
+came-refuses s d b rules S.sends h = record { due = h; unchanged = λ numbers q. absurd (told-apart q) }
+came-refuses s d b rules (S.refuses m) h = record { due = h; unchanged = λ numbers q. refl }
 
 pub sent-refuses : (s : Sender) (d : Flat) (b : S.Buffers)
     → (let x = S.step codingOf s d b in Refuses {W = Sender × S.Buffers} (sendRules s d b) (verdictOn (x .gave .answer)) (s, b) (x .gave .next, x .left))

@@ -4,7 +4,7 @@ use mathlib.Core.Path.{_≡_, refl, sym, ap, subst, _∙_}
 use mathlib.Core.List.{List}
 use lib.Dec.{eqb}
 use lib.ListN.{length}
-use Rattle.refusals.specs.Told.{Told, accepted, refused, verdictOn, foundOr}
+use Rattle.refusals.specs.Told.{Numbers, Told, accepted, refusedBy, verdictOn, foundOr}
 use Rattle.refusals.proofs.Told.{told-apart}
 use Rattle.bits.specs.Bits.{Bit}
 use Rattle.h261_writer.specs.Output.{pictureBits, outputLeft, writeOf}
@@ -23,20 +23,20 @@ use Rattle.demand1.proofs.Pictures.{reader-due, decoder-due, writer-due
 use Rattle.demand1.proofs.Blocks.{opening-due, value-verdict, check-is, judge-is, step-refuses, listed-refuses, sent-refuses}
 
 -- what is found or was there before
-kept-before : {A : Type 0} (before : A) (x : Told A) (n place : ℕ) → verdictOn x ≡ refused n place → foundOr before x ≡ before
-kept-before before (accepted a) n place h = absurd (told-apart h)
-kept-before before (refused m at) n place h = refl
+kept-before : {A : Type 0} (before : A) (x : Told A) (numbers : Numbers) → verdictOn x ≡ refusedBy numbers → foundOr before x ≡ before
+kept-before before (accepted a) numbers h = absurd (told-apart h)
+kept-before before (refusedBy others) numbers h = refl
 
 -- an answer that is the verdict of what is found, and buffers that hold it or what they held
 found-refuses : {A : Type 0} (rules : List Verdict) (verdict : Verdict) (before left : A) (x : Told A) → verdictOn x ≡ firstOf rules → verdict ≡ verdictOn x → left ≡ foundOr before x
     → Refuses rules verdict before left
-found-refuses rules verdict before left x due says outputLeft = record { due = says ∙ due; unchanged = λ n place h. outputLeft ∙ kept-before before x n place (sym says ∙ h) }
+found-refuses rules verdict before left x due says outputLeft = record { due = says ∙ due; unchanged = λ numbers h. outputLeft ∙ kept-before before x numbers (sym says ∙ h) }
 
 -- an output that a refusal left
-untouched : (out : List ℕ) (bits : List Bit) (x : Told ℕ) (n place : ℕ) → verdictOn x ≡ refused n place → outputLeft out bits x ≡ out
+untouched : (out : List ℕ) (bits : List Bit) (x : Told ℕ) (numbers : Numbers) → verdictOn x ≡ refusedBy numbers → outputLeft out bits x ≡ out
 unfolding outputLeft
-untouched out bits (accepted m) n place h = absurd (told-apart h)
-untouched out bits (refused m at) n place h = refl
+untouched out bits (accepted m) numbers h = absurd (told-apart h)
+untouched out bits (refusedBy others) numbers h = refl
 
 pub promises-meet : PromisesMeet
 promises-meet p keeps = record {
@@ -47,7 +47,7 @@ promises-meet p keeps = record {
       (keeps .decode-says k bytes n reference store) (keeps .decode-leaves k bytes n reference store);
   writes = λ f d out. record {
     due = ap verdictOn (keeps .write-says f d out) ∙ writer-due f d (length out);
-    unchanged = λ n place h. keeps .write-leaves f d out ∙ untouched out (pictureBits f d) (writeOf f d (length out)) n place (sym (ap verdictOn (keeps .write-says f d out)) ∙ h);
+    unchanged = λ numbers h. keeps .write-leaves f d out ∙ untouched out (pictureBits f d) (writeOf f d (length out)) numbers (sym (ap verdictOn (keeps .write-says f d out)) ∙ h);
   };
   checks = λ size block. ap verdictOn (keeps .check-is size block ∙ check-is size block) ∙ value-verdict (headerOf block) (firstOf (checkRules size block));
   judges = λ size clip block. ap verdictOn (keeps .judge-is size clip block ∙ judge-is size clip block) ∙ value-verdict (headerOf block) (firstOf (judgeRules size clip block));

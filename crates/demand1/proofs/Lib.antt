@@ -3,3 +3,4 @@ pub mod Pictures
 pub mod Blocks
 pub mod Demand1
 pub mod WrongRefusals
+pub mod Stays

@@ -9,9 +9,11 @@ use Rattle.laws.specs.Choice.{pick, both, either, opposite}
 use Rattle.laws.proofs.Choice.{both-left, both-right}
 use Rattle.refusals.specs.declared.Reason.{Reason}
 use Rattle.refusals.specs.declared.Reason.the-variants.{Count}
-use Rattle.refusals.specs.Number.{number}
-use Rattle.refusals.specs.Told.{Told, accepted, refused, verdictOn}
-use Rattle.refusals.proofs.Told.{number-once, told-apart}
+use Rattle.refusals.specs.declared.Refusal.{Refusal}
+use Rattle.refusals.specs.Number.{number, readTable}
+use Rattle.refusals.specs.Told.{Numbers, numbersOf, Told, accepted, refusedBy, verdictOn}
+use Rattle.refusals.proofs.Told.{reasonOf, reason-numbered, same-numbers, told-apart}
+use Rattle.refusals.proofs.Tables.{tabled-exactly}
 use Rattle.bits.specs.Bits.{source}
 use Rattle.bits.specs.Read.{Read, got, endless, bad, refused as unread}
 use Rattle.fields.specs.Answer.{mapRead, found}
@@ -42,7 +44,7 @@ found-map f (unread why) = refl
 found-map f endless = refl
 
 counted : (over : Bool) (x : Read Picture) → verdictOn (found (pick over (bad Count 0) x)) ≡ firstOf (when 2 over ∷ verdictOn (found x) ∷ [])
-unfolding number
+unfolding number readTable
 counted true x = refl
 counted false x = sym (alone (verdictOn (found x)))
 
@@ -61,7 +63,7 @@ reader-due f bytes n before = unless-then (lengthsOf f before) 1 (found (describ
 -- ---- drawn over a reference
 drawn-verdict : {D : Type 0} (c : Coding D) (reference : List ℕ) (x : Told D) → verdictOn (drawnBy c reference x) ≡ verdictOn x
 drawn-verdict c reference (accepted d) = refl
-drawn-verdict c reference (refused n place) = refl
+drawn-verdict c reference (refusedBy numbers) = refl
 
 pub kind-due : (k : Kind) (bytes : List ℕ) (n : ℕ) → verdictOn (codingOf k .read bytes n) ≡ firstOf (pictureRules (formatOf k) bytes n)
 unfolding codingOf
@@ -83,24 +85,22 @@ writer-due f d room =
 
 -- ---- the table
 two : (reason : Reason) → number reason ≡ 2 → reason ≡ Count
-unfolding number
-two reason h = number-once reason Count h
+unfolding reasonOf
+two reason h = reason-numbered reason 2 h
 
 pub picture-in-table : PictureInTable
-picture-in-table f bytes n m place e = go (reading f bytes n) refl (read-due f bytes n ∙ e)
+picture-in-table f bytes n numbers e = go (reading f bytes n) refl (read-due f bytes n ∙ e)
   where
-    twice : (a b : ℕ) (p q : ℕ) → _≡_ {A = Verdict} (refused a p) (refused b q) → (a ≡ b) × (p ≡ q)
-    twice a b p q h = (cc, cc)
+    by-rules : (why : Refusal) → Refuses n why → InTable n (numbersOf why)
+    by-rules why t = record {
+      least = leb→le 2 (number (why .reason)) (both-left (leb 2 (number (why .reason))) _ (t .listed));
+      most = leb→le (number (why .reason)) 13 (both-right (leb 2 (number (why .reason))) _ (t .listed));
+      within = t .within;
+      counted = λ z. t .counted (two (why .reason) z);
+      tabled = tabled-exactly why;
+    }
 
-    go : (x : Read Picture) → reading f bytes n ≡ x → verdictOn (found x) ≡ refused m place → InTable n m place
+    go : (x : Read Picture) → reading f bytes n ≡ x → verdictOn (found x) ≡ refusedBy numbers → InTable n numbers
     go (got p left at) q h = absurd (told-apart h)
     go endless q h = absurd (never-endless f bytes n q)
-    go (unread why) q h =
-        let is = twice (number (why .reason)) m (why .place) place h in
-        let t : Refuses n why = refused-by-table f bytes n why q in
-        record {
-          least = subst (λ (k : ℕ). 2 ≤ k) (is .0) (leb→le 2 (number (why .reason)) (both-left (leb 2 (number (why .reason))) _ (t .listed)));
-          most = subst (λ (k : ℕ). k ≤ 13) (is .0) (leb→le (number (why .reason)) 13 (both-right (leb 2 (number (why .reason))) _ (t .listed)));
-          within = subst (λ (k : ℕ). k ≤ n) (is .1) (t .within);
-          counted = λ z. sym (is .1) ∙ t .counted (two (why .reason) (is .0 ∙ z));
-        }
+    go (unread why) q h = subst (λ (x : Numbers). InTable n x) (same-numbers h) (by-rules why (refused-by-table f bytes n why q))

@@ -6,7 +6,7 @@ use mathlib.Core.Path.{_≡_}
 use mathlib.Core.List.{List, _++_}
 use lib.ListN.{length}
 use Rattle.refusals.specs.declared.Verdict.{Verdict}
-use Rattle.refusals.specs.Told.{accepted, refused, toldVerdict, verdictOn}
+use Rattle.refusals.specs.Told.{Numbers, accepted, refusedBy, toldVerdict, verdictOn}
 use Rattle.size.specs.declared.Size.{Size}
 use Rattle.layout.specs.Flat.{Flat}
 use Rattle.h261_groups.specs.declared.Format.{Format}
@@ -64,16 +64,16 @@ verdictSaid (A.old n part) = accepted tt
 verdictSaid (A.taken n part) = accepted tt
 verdictSaid A.lost = accepted tt
 verdictSaid (A.picture n) = accepted tt
-verdictSaid (A.refused n place) = refused n place
+verdictSaid (A.refused numbers) = refusedBy numbers
 
 pub record BlockRefuses {X : Type 0} (r : Receiver) (block : List ℕ) (b : Buffers) (before : X) (state : Receiver → X) (answer : Said) (next : X) (left : Buffers) : Type 0 where
   pub due : verdictSaid answer ≡ firstOf (blockRules r block b ++ lastRules r block b)
   -- "no sample store changes by it"
-  pub stores : (n place : ℕ) → verdictSaid answer ≡ refused n place → left .both ≡ b .both
+  pub stores : (numbers : Numbers) → verdictSaid answer ≡ refusedBy numbers → left .both ≡ b .both
   -- "A refusal changes no buffer and no state"
-  pub unchanged : (n place : ℕ) → firstOf (blockRules r block b) ≡ refused n place → (next ≡ before) × (left ≡ b)
+  pub unchanged : (numbers : Numbers) → firstOf (blockRules r block b) ≡ refusedBy numbers → (next ≡ before) × (left ≡ b)
   -- "except a picture refused at its last part: that part is in the collection buffer and the receiver is lost"
-  pub at-last : (n place : ℕ) → firstOf (blockRules r block b) ≡ accepted tt → verdictSaid answer ≡ refused n place
+  pub at-last : (numbers : Numbers) → firstOf (blockRules r block b) ≡ accepted tt → verdictSaid answer ≡ refusedBy numbers
       → (next ≡ state (failedReceiver r (headerOf block))) × (left ≡ record { collection = placedPayload block (partOf block) (b .collection); both = b .both })
 
 -- the lister's: "takes the first block without 21 or 22 as the clip"

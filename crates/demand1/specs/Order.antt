@@ -4,7 +4,7 @@ use mathlib.Core.Path.{_≡_}
 use mathlib.Core.Bool.{Bool}
 use mathlib.Core.List.{List, [], _∷_}
 use Rattle.laws.specs.Choice.{pick}
-use Rattle.refusals.specs.Told.{Told, accepted, refused}
+use Rattle.refusals.specs.Told.{Numbers, Told, accepted, refusedBy, refused}
 
 -- a verdict without a value: no refusal, or its number and place
 abbrev pub Verdict : Type 0
@@ -18,9 +18,9 @@ when n holds = pick holds (refused n 0) (accepted tt)
 abbrev pub firstOf : List Verdict → Verdict
 firstOf [] = accepted tt
 firstOf (accepted t ∷ rules) = firstOf rules
-firstOf (refused n place ∷ rules) = refused n place
+firstOf (refusedBy numbers ∷ rules) = refusedBy numbers
 
 -- a call's verdict is the first rule's that refuses, and "A refusal changes no buffer and no state"
 pub record Refuses {W : Type 0} (rules : List Verdict) (verdict : Verdict) (before after : W) : Type 0 where
   pub due : verdict ≡ firstOf rules
-  pub unchanged : (n place : ℕ) → verdict ≡ refused n place → after ≡ before
+  pub unchanged : (numbers : Numbers) → verdict ≡ refusedBy numbers → after ≡ before

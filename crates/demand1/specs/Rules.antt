@@ -6,7 +6,8 @@ use mathlib.Core.List.{List, [], _∷_, _++_}
 use lib.Dec.{eqb, ltb, leb}
 use lib.ListN.{length}
 use Rattle.laws.specs.Choice.{pick, both, either, opposite, alike}
-use Rattle.refusals.specs.Told.{Told, accepted, refused, verdictOn}
+use Rattle.refusals.specs.Told.{Numbers, Told, accepted, refusedBy, verdictOn}
+use Rattle.refusals.specs.Tables.{Tabled}
 use Rattle.bits.specs.Bits.{source}
 use Rattle.fields.specs.Answer.{found}
 use Rattle.size.specs.declared.Size.{Size}
@@ -84,7 +85,7 @@ takes Otherwise = false
 -- 24: "accepted picture, untrue refresh mark"
 abbrev pub markRule : Receiver → Header → Told Flat → Verdict
 markRule r header (accepted d) = when 24 (opposite (alike (codingOf (r .kind) .refresh d) (markOf (r .progress) header)))
-markRule r header (refused n place) = accepted tt
+markRule r header (refusedBy numbers) = accepted tt
 
 -- a taken part that is the last: the picture's own refusals, and then 24
 abbrev pub lastRules : Receiver → List ℕ → Buffers → List Verdict
@@ -95,12 +96,14 @@ lastRules r block b =
     (pictureRules (formatOf (r .kind)) collection n ++ (markRule r (headerOf block) (codingOf (r .kind) .read collection n) ∷ []))
     []
 
--- ---- the table: what a picture's bits are refused by has a number from 2 to 13, and a place up to N, which is 0 for 2
-pub record InTable (n number place : ℕ) : Type 0 where
-  pub least : 2 ≤ number
-  pub most : number ≤ 13
-  pub within : place ≤ n
-  pub counted : number ≡ 2 → place ≡ 0
+-- ---- the table: what a picture's bits are refused by has a number from 2 to 13, a place up to N, which is 0 for 2, and a table of codewords exactly
+-- with 8
+pub record InTable (n : ℕ) (numbers : Numbers) : Type 0 where
+  pub least : 2 ≤ numbers .number
+  pub most : numbers .number ≤ 13
+  pub within : numbers .place ≤ n
+  pub counted : numbers .number ≡ 2 → numbers .place ≡ 0
+  pub tabled : Tabled numbers
 
 abbrev pub PictureInTable : Type 0
-PictureInTable = (f : Format) (bytes : List ℕ) (n number place : ℕ) → firstOf (pictureRules f bytes n) ≡ refused number place → InTable n number place
+PictureInTable = (f : Format) (bytes : List ℕ) (n : ℕ) (numbers : Numbers) → firstOf (pictureRules f bytes n) ≡ refusedBy numbers → InTable n numbers

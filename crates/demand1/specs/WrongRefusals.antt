@@ -1,4 +1,4 @@
--- Programs that demand 1 rules out: a reader whose refusal has another number of the table, and a receiver whose refusal changes a store. Assumes nothing.
+-- Programs that demand 1 rules out: a reader whose refusal has other numbers than are due, and a receiver whose refusal changes a store. Assumes nothing.
 use Prim.Native.Nat.{ℕ}
 use mathlib.Core.Path.{_≡_}
 use mathlib.Core.List.{List}
@@ -6,7 +6,7 @@ use Rattle.refusals.specs.declared.Reason.{Reason}
 use Rattle.refusals.specs.declared.Verdict.{Verdict}
 use Rattle.refusals.specs.declared.Verdict.the-variants.{Accepted, Refused}
 use Rattle.refusals.specs.Number.{refusal}
-use Rattle.refusals.specs.Told.{refused, toldVerdict}
+use Rattle.refusals.specs.Told.{Numbers, refusedBy, toldVerdict}
 use Rattle.layout.specs.Flat.{Flat}
 use Rattle.h261_groups.specs.declared.Format.{Format}
 use Rattle.standing.specs.declared.Receiver.{Receiver}
@@ -16,10 +16,10 @@ use Rattle.demand1.specs.Order.{firstOf}
 use Rattle.demand1.specs.Rules.{readRules}
 use Rattle.demand1.specs.Demand1.{Programs, verdictSaid, Demand1, Keeps}
 
--- ---- wrong: a reader one of whose refusals has another number than the one that is due
+-- ---- wrong: a reader one of whose refusals has another number than the one that is due, or another place or table
 abbrev pub MisnumberedWrong : Type 0
-MisnumberedWrong = (p : Programs) (f : Format) (bytes : List ℕ) (n : ℕ) (before : Flat) (number place other at : ℕ) → firstOf (readRules f bytes n before) ≡ refused number place
-    → toldVerdict (p .read f bytes n before .answer) ≡ refused other at → (other ≡ number → ⊥) → Demand1 p → ⊥
+MisnumberedWrong = (p : Programs) (f : Format) (bytes : List ℕ) (n : ℕ) (before : Flat) (due numbers : Numbers) → firstOf (readRules f bytes n before) ≡ refusedBy due
+    → toldVerdict (p .read f bytes n before .answer) ≡ refusedBy numbers → (numbers ≡ due → ⊥) → Demand1 p → ⊥
 
 -- so one that keeps every promise, but whose reader's refusals are all for this reason
 abbrev pub renamed : Reason → Verdict → Verdict
@@ -45,5 +45,5 @@ NamingOneWrong = (p : Programs) → Keeps p → (reason : Reason) → Demand1 (n
 
 -- ---- wrong: a receiver that has changed a store after a call that is refused, as one does that draws before it judges
 abbrev pub ChangedStoreWrong : Type 0
-ChangedStoreWrong = (p : Programs) (r : Receiver) (block : List ℕ) (b : Buffers) (n place : ℕ) → verdictSaid (said (p .receive r block b .answer .answer)) ≡ refused n place
+ChangedStoreWrong = (p : Programs) (r : Receiver) (block : List ℕ) (b : Buffers) (numbers : Numbers) → verdictSaid (said (p .receive r block b .answer .answer)) ≡ refusedBy numbers
     → (p .receive r block b .left .both ≡ b .both → ⊥) → Demand1 p → ⊥

@@ -5,8 +5,8 @@ use mathlib.Core.List.{List}
 use native.Mathlib.Omega.{arith}
 use borrow.Author.Tests.{eq-eqb, lt-ltb}
 use lib.ListN.{length}
-use Rattle.refusals.specs.Told.{Told, refused}
-use Rattle.refusals.proofs.Told.{accepted-once, told-apart}
+use Rattle.refusals.specs.Told.{Numbers, Told, refused}
+use Rattle.refusals.proofs.Told.{accepted-once, same-numbers, told-apart}
 use Rattle.bits.specs.Read.{Read, got, endless, refused as unread}
 use Rattle.h261_groups.specs.Format.{sizeOf}
 use Rattle.size.specs.Size.{limit, storeLength}
@@ -61,7 +61,7 @@ write-refused = record {
   unnamed = λ f d out l. rw l refl;
   invalid = λ f d out l v. rw (l, v) refl;
   above = λ f d out l v m. rw (l, v, lt-ltb (limit (sizeOf f)) (length (pictureBits f d)) m) refl;
-  else = λ f d out number place t l e q. told-apart (sym (writes f d out t l e) ∙ q);
+  else = λ f d out numbers t l e q. told-apart (sym (writes f d out t l e) ∙ q);
 }
 
 -- ---- wrong
@@ -69,4 +69,4 @@ pub length-as-invalid-wrong : LengthAsInvalidWrong
 length-as-invalid-wrong w f d out l e h = other-number (sym (h .unnamed f d out l) ∙ e)
   where
     other-number : _≡_ {A = Told ℕ} (refused 1 0) (refused 31 0) → ⊥
-    other-number q = let z : _≡_ {A = ℕ} 1 31 = cc in omega arith
+    other-number q = let z : _≡_ {A = ℕ} 1 31 = ap (λ (numbers : Numbers). numbers .number) (same-numbers q) in omega arith

@@ -3,7 +3,7 @@ use Prim.Native.Nat.{ℕ}
 use mathlib.Core.Path.{_≡_, refl, sym, ap, _∙_}
 use mathlib.Core.List.{List}
 use lib.ListN.{length}
-use Rattle.refusals.specs.Told.{Told, accepted, refused, verdictOn, foundOr}
+use Rattle.refusals.specs.Told.{Told, accepted, refusedBy, verdictOn, foundOr}
 use Rattle.size.specs.Size.{storeLength}
 use Rattle.h261_reader.specs.Described.{described}
 use Rattle.coding.specs.declared.Kind.{Kind}
@@ -16,7 +16,7 @@ use Rattle.demand2.proofs.Demand2.{decode-exactly, decode-samples, writ
 -- nothing is lost by a verdict and a store
 found-again : (before : List ℕ) (x : Told (List ℕ)) → decodedAs (verdictOn x) (foundOr before x) ≡ x
 found-again before (accepted store) = refl
-found-again before (refused n place) = refl
+found-again before (refusedBy numbers) = refl
 
 module _ (p : DecodeProgram) (keeps : KeepsDecode p) (before : Kind → List ℕ) (long : (k : Kind) → length (before k) ≡ storeLength (kindSize k)) where
   -- it is ours
@@ -48,6 +48,6 @@ write-promised p keeps = record {
     unnamed = λ f d out l. keeps .says f d out ∙ write-refused .unnamed f d out l;
     invalid = λ f d out l v. keeps .says f d out ∙ write-refused .invalid f d out l v;
     above = λ f d out l v m. keeps .says f d out ∙ write-refused .above f d out l v m;
-    else = λ f d out number place t l e q. write-refused .else f d out number place t l e (sym (keeps .says f d out) ∙ q);
+    else = λ f d out numbers t l e q. write-refused .else f d out numbers t l e (sym (keeps .says f d out) ∙ q);
   };
 }

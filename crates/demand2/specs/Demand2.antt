@@ -6,7 +6,7 @@ use mathlib.Core.Bool.{true, false}
 use mathlib.Core.List.{List, []}
 use lib.Dec.{T}
 use lib.ListN.{length}
-use Rattle.refusals.specs.Told.{Told, accepted, refused}
+use Rattle.refusals.specs.Told.{Numbers, Told, accepted, refusedBy, refused}
 use Rattle.bits.specs.Bits.{Bit}
 use Rattle.bits.specs.Read.{got}
 use Rattle.h261_groups.specs.declared.Format.{Format}
@@ -79,7 +79,7 @@ pub record RefusedExactly (w : Writer) : Type 0 where
   pub unnamed : (f : Format) (d : Flat) (out : List ℕ) → lentLengths f d (length out) ≡ false → w f d out .answer ≡ refused 1 0
   pub invalid : (f : Format) (d : Flat) (out : List ℕ) → lentLengths f d (length out) ≡ true → valid f d ≡ false → w f d out .answer ≡ refused 31 0
   pub above : (f : Format) (d : Flat) (out : List ℕ) → lentLengths f d (length out) ≡ true → valid f d ≡ true → limit (sizeOf f) < length (pictureBits f d) → w f d out .answer ≡ refused 32 0
-  pub else : (f : Format) (d : Flat) (out : List ℕ) (number place : ℕ) → T (valid f d) → length (pictureBits f d) ≤ limit (sizeOf f) → length out ≡ outputLength (sizeOf f) → w f d out .answer ≡ refused number place → ⊥
+  pub else : (f : Format) (d : Flat) (out : List ℕ) (numbers : Numbers) → T (valid f d) → length (pictureBits f d) ≤ limit (sizeOf f) → length out ≡ outputLength (sizeOf f) → w f d out .answer ≡ refusedBy numbers → ⊥
 
 abbrev pub WriteBack : Type 0
 WriteBack = ReadsBack write

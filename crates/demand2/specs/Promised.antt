@@ -4,7 +4,7 @@ use mathlib.Core.Path.{_≡_}
 use mathlib.Core.List.{List}
 use lib.ListN.{length}
 use Rattle.refusals.specs.declared.Verdict.{Verdict}
-use Rattle.refusals.specs.Told.{Told, accepted, refused, toldVerdict}
+use Rattle.refusals.specs.Told.{Told, accepted, refusedBy, toldVerdict}
 use Rattle.h261_groups.specs.declared.Format.{Format}
 use Rattle.size.specs.Size.{storeLength}
 use Rattle.layout.specs.Flat.{Flat}
@@ -32,7 +32,7 @@ pub record KeepsDecode (p : DecodeProgram) : Type 0 where
 -- an accepted picture is the store that was left
 abbrev pub decodedAs : Told (Unit {0}) → List ℕ → Told (List ℕ)
 decodedAs (accepted t) left = accepted left
-decodedAs (refused n place) left = refused n place
+decodedAs (refusedBy numbers) left = refusedBy numbers
 
 -- the decoder that it is, with stores that hold this before
 abbrev pub decoderOf : DecodeProgram → (Kind → List ℕ) → Decoder

@@ -11,7 +11,7 @@ use borrow.Author.Tests.{eqb-false}
 use lib.Dec.{eqb}
 use lib.ListN.{getElem?}
 use Rattle.laws.specs.Choice.{pick}
-use Rattle.refusals.specs.Told.{accepted, refused}
+use Rattle.refusals.specs.Told.{untabled, accepted, refused}
 use Rattle.refusals.proofs.Told.{accepted-once, told-apart}
 use Rattle.coding.specs.declared.Kind.{Kind}
 use Rattle.vault.specs.Block.{judgeOf}
@@ -103,7 +103,7 @@ module _ {D : Type 0} {coding : Kind → Coding D} (lawful : AllLawful coding) w
 
     -- ---- where a lent buffer hasn't its named length, each call is refused by 1
     module _ (lent : Buffers) (e : lentLengths (kindSize kind) lent ≡ false) where
-      short : (block : List ℕ) → step coding (freshReceiver clip kind) block lent ≡ outcomeAt clip kind (A.refused 1 0) (start lent)
+      short : (block : List ℕ) → step coding (freshReceiver clip kind) block lent ≡ outcomeAt clip kind (A.refused (untabled 1 0)) (start lent)
       unfolding step decide judgedBlock byJudgement cameTo
       short block =
           ap (λ (t : Bool). cameTo coding (freshReceiver clip kind) block lent (byJudgement coding (pick t (judgeOf (kindSize kind) clip block) (refused 1 0)) (freshReceiver clip kind) block (lent .collection))) e
@@ -113,7 +113,7 @@ module _ {D : Type 0} {coding : Kind → Coding D} (lawful : AllLawful coding) w
       short-run [] = refl
       short-run (block ∷ blocks) = ap (λ (x : Outcome). worldGiven (step coding) (record { receiver = x .gave .next; lent = x .left }) blocks) (short block) ∙ short-run blocks
 
-      none : Right shownBy sent (outcomeAt clip kind (A.refused 1 0) (start lent))
+      none : Right shownBy sent (outcomeAt clip kind (A.refused (untabled 1 0)) (start lent))
       unfolding shownBy
       none = none-shown (kindSize kind) (lent .both)
 

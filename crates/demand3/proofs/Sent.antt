@@ -13,7 +13,7 @@ use lib.ListN.{length, getElem?, take, drop}
 use lib.Seq.{drop-drop}
 use Rattle.laws.specs.Choice.{pick, both, either, opposite}
 use Rattle.laws.proofs.Choice.{two-of, if-so}
-use Rattle.refusals.specs.Told.{Told, accepted, refused}
+use Rattle.refusals.specs.Told.{Told, accepted, refusedBy}
 use Rattle.coding.specs.declared.Kind.{Kind}
 use Rattle.size.specs.Size.{limit, storeLength}
 use Rattle.vault.specs.Block.{pictures as mostPictures}
@@ -175,13 +175,13 @@ module _ {D : Type 0} (coding : Kind → Coding D) where
     pub is : PartOf sent p part block
 
   added-part : (a : Told ℕ) (call : Call D) (x : Outcome) (rest : List (Picture D)) (block : List ℕ) → List·Memᴰ block (blocksAdded a (x .left .out)) → Part (sentAs a call x ++ rest) block
-  added-part (refused n place) call x rest block m = absurd (List·Memᴰ·not-nil m)
+  added-part (refusedBy numbers) call x rest block m = absurd (List·Memᴰ·not-nil m)
   added-part (accepted n) call x rest block m =
       let found = member-at m in
       record { p = 0; part = found .0; is = record { picture = _; at = refl; has = found .1 } }
 
   later-part : (a : Told ℕ) (call : Call D) (x : Outcome) (rest : List (Picture D)) (block : List ℕ) → Part rest block → Part (sentAs a call x ++ rest) block
-  later-part (refused n place) call x rest block h = h
+  later-part (refusedBy numbers) call x rest block h = h
   later-part (accepted n) call x rest block h = record { p = suc (h .p); part = h .part; is = record { picture = h .is .picture; at = h .is .at; has = h .is .has } }
 
   -- each block of the clip is a part of a picture that was sent

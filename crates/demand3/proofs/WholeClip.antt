@@ -9,7 +9,7 @@ use native.Mathlib.Nat.{add-zero, zero-add}
 use native.Mathlib.Omega.{arith}
 use lib.ListN.{length, getElem?}
 use Rattle.coding.specs.declared.Kind.{Kind}
-use Rattle.refusals.specs.Told.{Told, accepted, refused}
+use Rattle.refusals.specs.Told.{Told, accepted, refusedBy}
 use Rattle.sender.specs.Send.{Outcome}
 use Rattle.sender.specs.Run.{Call, World, blocksAdded, callOutcome, worldAfter, clipOf}
 use Rattle.standing.specs.declared.Receiver.{Receiver}
@@ -53,7 +53,7 @@ module _ {D : Type 0} where
   in-turn : (a : Told ℕ) (call : Call D) (x : Outcome) (rest : List (Picture D)) (blocks : List (List ℕ)) → blocks ≡ inTurn (blocksEach rest)
       → blocksAdded a (x .left .out) ++ blocks ≡ inTurn (blocksEach (sentAs a call x ++ rest))
   in-turn (accepted n) call x rest blocks e = ap (λ (l : List (List ℕ)). blocksAdded (accepted n) (x .left .out) ++ l) e
-  in-turn (refused n place) call x rest blocks e = e
+  in-turn (refusedBy numbers) call x rest blocks e = e
 
   pub clip-in-turn : (coding : Kind → Coding D) (w : World) (calls : List (Call D)) → clipOf coding w calls ≡ inTurn (blocksEach (pictures coding w calls))
   unfolding clipOf pictures

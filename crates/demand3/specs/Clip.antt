@@ -7,7 +7,7 @@ use lib.ListN.{getElem?}
 use Rattle.coding.specs.declared.Kind.{Kind}
 use Rattle.standing.specs.Stores.{Stores}
 use Rattle.sender.specs.declared.Sender.{Sender}
-use Rattle.refusals.specs.Told.{Told, accepted, refused}
+use Rattle.refusals.specs.Told.{Told, accepted, refusedBy}
 use Rattle.coding.specs.Coding.{Coding}
 use Rattle.sender.specs.Send.{openedSender, Outcome, shownBy}
 use Rattle.sender.specs.Run.{Call, World, cut, callOutcome, worldAfter, clipOf}
@@ -30,7 +30,7 @@ module _ {D : Type 0} where
   abbrev pub sentAs : Told ℕ → Call D → Outcome → List (Picture D)
   sentAs (accepted n) call x =
       record { description = call .description; blocks = cut n (x .left .out); store = shownBy (x .gave .next) (x .left .both) } ∷ []
-  sentAs (refused n place) call x = []
+  sentAs (refusedBy numbers) call x = []
 
   -- all pictures, in order: the first is picture 0
   unfoldable pub pictures : (Kind → Coding D) → World → List (Call D) → List (Picture D)

@@ -4,7 +4,7 @@ use mathlib.Core.List.{List}
 use Rattle.refusals.specs.declared.Reason.the-variants.{BitsEnd}
 use Rattle.refusals.specs.declared.Refusal.{Refusal}
 use Rattle.refusals.specs.Number.{refusal}
-use Rattle.refusals.specs.Told.{Told, accepted, byTable, refused as unread}
+use Rattle.refusals.specs.Told.{numbersOf, Told, accepted, refusedBy, refused as unread}
 use Rattle.bits.specs.Bits.{bitsLeft}
 use Rattle.bits.specs.Read.{Read, got, refused, endless}
 use Rattle.fields.specs.declared.PlaceRead.{PlaceRead}
@@ -21,7 +21,7 @@ mapRead g endless = endless
 -- what is found by reading, or the refusal. No reading is endless, so what stands there is never given
 abbrev pub found : {A : Type 0} → Read A → Told A
 found (got a left at) = accepted a
-found (refused why) = byTable unread why
+found (refused why) = refusedBy (numbersOf why)
 found endless = unread 1 0
 
 -- a layer's answer, with what it left in the buffers; on a refusal that is not said

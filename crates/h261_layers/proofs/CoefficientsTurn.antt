@@ -10,7 +10,7 @@ use Rattle.refusals.specs.declared.Reason.the-variants.{CoefficientPast}
 use Rattle.refusals.specs.declared.Refusal.{Refusal}
 use Rattle.bits.specs.Bits.{Bit, bitsLeft}
 use Rattle.bits.specs.Read.{Read, got, refused, bad, loop}
-use Rattle.bits.specs.Code.{Entry}
+use Rattle.bits.specs.Code.{CodeTable}
 use Rattle.h261_words.specs.Tables.{firstTable5, laterTable5, tableOf}
 use Rattle.layout.specs.Value.{Coefficient as Coefficient·, coefficient}
 use Rattle.h261_words.specs.Words.{sent, over, coefficientRead}
@@ -31,7 +31,7 @@ use Rattle.h261_layers.specs.Grammar.{coefficients}
 use Rattle.fields.proofs.Meaning.{map-done, length-left, some, onward}
 
 -- ---- one step of the definition, by what is read
-module _ (fuel room : ℕ) (table : List Entry) (bs : List Bit) (at : ℕ) where
+module _ (fuel room : ℕ) (table : CodeTable) (bs : List Bit) (at : ℕ) where
   step-refused : (r : Refusal) → coefficientRead table bs at ≡ refused r → coefficients (suc fuel) room table bs at ≡ refused r
   unfolding coefficients
   step-refused r e = rw e

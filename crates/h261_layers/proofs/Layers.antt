@@ -14,7 +14,7 @@ use Rattle.refusals.specs.declared.Reason.the-variants.{NoStartCode, OtherForma
 use Rattle.refusals.specs.Number.{number}
 use Rattle.bits.specs.Bits.{Bit, O, I, bitsOf}
 use Rattle.bits.specs.Read.{field, Reader, fine, against, judgedRead}
-use Rattle.bits.specs.Code.{Entry, word}
+use Rattle.bits.specs.Code.{CodeTable, word}
 use Rattle.bits.proofs.Codes.{each}
 use Rattle.bits.proofs.Logic.{Reads, reads-any, reads-done, reads-then, reads-turn, reads-map, reads-loop, reads-never, Judges, reads-judged, judges-pick, judges-fine, judges-against, reads-field, reads-word, reads-orEnd}
 use Rattle.fields.proofs.RuleReads.{expect-reads, quantiser-reads, spares-reads}
@@ -52,7 +52,7 @@ judges-fits ends room (sent c) h =
     judges-pick (leb room (c .run)) (λ y. judges-against CoefficientPast tt) (λ n. judges-fine (sent c) (leb-false room (c .run) n, h))
 judges-fits ends room over h = judges-fine over h
 
-placed-reads : {bound : ℕ} (ends : Bool) (room : ℕ) (table : List Entry) → T (each (meant ends) table)
+placed-reads : {bound : ℕ} (ends : Bool) (room : ℕ) (table : CodeTable) → T (each (meant ends) (table .entries))
     → Reads bound 1 (λ e left. Placed ends room e) (judgedRead (coefficientRead table) (fits room))
 placed-reads ends room table t = reads-judged (coefficient-reads ends table t) (λ e left g. judges-fits ends room e g)
 
@@ -70,7 +70,7 @@ coefficients-after ends more room (sent c) h p =
 coefficients-after ends more room over h p = reads-done (λ left. (tt, p))
 
 -- a turn reads a codeword
-coefficients-read : (turns : ℕ) (ends : Bool) (room : ℕ) (table : List Entry) → T (each (meant ends) table)
+coefficients-read : (turns : ℕ) (ends : Bool) (room : ℕ) (table : CodeTable) → T (each (meant ends) (table .entries))
     → Reads turns 0 (λ b left. Fits room b × Coming ends b) (coefficients turns room table)
 unfolding coefficients
 coefficients-read zero ends room table t = reads-never
@@ -163,7 +163,7 @@ patterned-empty (I ∷ ps) ((c ∷ cs) ∷ bs) h = refl
 abbrev pub Pattern : ℕ → ℕ → Type 0
 Pattern type pattern = If (hasCBP type) (T (some (bitsOf 6 pattern))) (pattern ≡ pick (isIntra type) 63 0)
 
-table4-meanings : T (each (λ m. some (bitsOf 6 m)) table4)
+table4-meanings : T (each (λ m. some (bitsOf 6 m)) (table4 .entries))
 unfolding table4
 table4-meanings = tt
 
@@ -174,7 +174,7 @@ pattern-reads type = optional-reads (hasCBP type) (pick (isIntra type) 63 0) (λ
 abbrev pub typed : ℕ → Bool
 typed type = both (within 1 10 type) (pick (isIntra type) (opposite (hasCBP type)) true)
 
-pub table2-meanings : T (each typed table2)
+pub table2-meanings : T (each typed (table2 .entries))
 unfolding table2
 table2-meanings = tt
 
@@ -204,7 +204,7 @@ unfolding number
 judges-landing a b =
     judges-pick (inRange a) (λ y. judges-fine a y) (λ n. judges-pick (inRange b) (λ y. judges-fine b y) (λ n. judges-against VectorOut tt))
 
-table3-meanings : T (each (λ m. true) table3)
+table3-meanings : T (each (λ m. true) (table3 .entries))
 unfolding table3
 table3-meanings = tt
 
@@ -270,7 +270,7 @@ judges-mba last address m some =
     start true = judges-against StartCodeLast tt
     start false = judges-fine ended tt
 
-table1-meanings : T (each (leb 1) table1)
+table1-meanings : T (each (leb 1) (table1 .entries))
 unfolding table1
 table1-meanings = tt
 

@@ -59,7 +59,7 @@ landed (suc p) n h l =
     let t = all-at 32 (λ n. right p n) (all-at 31 (λ p. allB 32 (λ n. right p n)) all-right p (omega (arith, h .high))) n l in
     from-test (inRange a) (inRange b) a b k (eqb k 0) refl t
 
-table3-below : T (each (λ m. ltb m 32) table3)
+table3-below : T (each (λ m. ltb m 32) (table3 .entries))
 unfolding table3
 table3-below = tt
 

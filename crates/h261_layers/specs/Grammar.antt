@@ -9,7 +9,7 @@ use Rattle.laws.specs.Choice.{pick, both, either}
 use Rattle.refusals.specs.declared.Reason.the-variants.{Count, NoStartCode, OtherFormat, OtherGroup, AddressPast, Forbidden, CoefficientPast, StartCodeLast}
 use Rattle.bits.specs.Bits.{Bit, O, I, bitsOf, source}
 use Rattle.bits.specs.Read.{Read, bad, Reader, _>>=_, done, field, Judged, fine, against, judgedRead, orEnd, loop, never}
-use Rattle.bits.specs.Code.{Entry, word}
+use Rattle.bits.specs.Code.{CodeTable, word}
 use Rattle.fields.specs.Rules.{expect, quantiser, spares, optional}
 use Rattle.h261_words.specs.Tables.{table1, table2, table4, stuffing, startCode, firstTable5, laterTable5}
 use Rattle.h261_words.specs.Words.{isIntra, isMC, hasMQUANT, hasCBP, Event, sent, over, coefficientRead}
@@ -33,7 +33,7 @@ abbrev pub coefficientsAfter : (ℕ → Reader Block) → ℕ → Event → Read
 coefficientsAfter more room over = done []
 coefficientsAfter more room (sent c) = more (room - suc (c .run)) >>= λ rest. done (c ∷ rest)
 
-unfoldable pub coefficients : ℕ → ℕ → List Entry → Reader Block
+unfoldable pub coefficients : ℕ → ℕ → CodeTable → Reader Block
 coefficients zero room table = never
 coefficients (suc turns) room table =
     judgedRead (coefficientRead table) (fits room) >>= coefficientsAfter (λ left. coefficients turns left laterTable5) room

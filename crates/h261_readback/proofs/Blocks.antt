@@ -13,7 +13,7 @@ use Rattle.laws.proofs.Choice.{both-left, both-right, opposite-no}
 use Rattle.bits.specs.Bits.{Bit, bitOf, bitsOf}
 use Rattle.refusals.specs.declared.Reason.the-variants.{Forbidden}
 use Rattle.bits.specs.Read.{fine, against}
-use Rattle.bits.specs.Code.{Entry, word, wordOf}
+use Rattle.bits.specs.Code.{CodeTable, word, wordIn, wordOf}
 use Rattle.bits.proofs.ReadBack.{Back, back-done, back-next, back-end, back-judged, back-loop, back-field}
 use Rattle.h261_words.specs.Tables.{table4, pairs, firstTable5, laterTable5}
 use Rattle.h261_words.specs.Words.{isIntra, hasCBP, sent, over, coefficientRead, tcoeffOf}
@@ -39,12 +39,12 @@ sendable c l t = record { run = l; byte = code-small (c .code) t; level = code-a
 
 -- each coefficient has a bit at least, and EOB has two
 more-bits : (cs : Block) → length cs < length (coefficientsOf cs)
-unfolding coefficientsOf wordOf laterTable5 pairs
+unfolding coefficientsOf wordIn laterTable5 pairs
 more-bits [] = lit< tt
 more-bits (c ∷ cs) =
     omega (arith, length-append (tcoeffOf laterTable5 c) (coefficientsOf cs), length-coefficient laterTable5 c, more-bits cs)
 
-one-more : (table : List Entry) (w : List Bit) (c : Coefficient) (cs : Block) (turns room : ℕ) (rest : List Bit)
+one-more : (table : CodeTable) (w : List Bit) (c : Coefficient) (cs : Block) (turns room : ℕ) (rest : List Bit)
     → Back (coefficientRead table) w (coefficientsOf cs ++ rest) (sent c)
     → c .run < room
     → Back (coefficients turns (room - suc (c .run)) laterTable5) (coefficientsOf cs) rest cs

@@ -16,7 +16,7 @@ use Rattle.refusals.specs.declared.Reason.the-variants.{NoStartCode, OtherGroup
 use Rattle.refusals.specs.declared.Refusal.{Refusal}
 use Rattle.bits.specs.Bits.{Bit, O, I, bitsOf}
 use Rattle.bits.specs.Read.{Read, got, refused, endless, Reader, next, _>>=_, done, fieldFrom, field, Judged, fine, against, settle, judgedRead, movedRead, whole, loop}
-use Rattle.bits.specs.Code.{Entry, entry, starts, lookup, word}
+use Rattle.bits.specs.Code.{Entry, entry, CodeTable, starts, lookup, word}
 use Rattle.bits.proofs.Tree.{hit, miss}
 use Rattle.fields.specs.Rules.{expect, quantiser, sparesFrom, spares, sparesAfter, optional}
 use Rattle.h261_words.specs.Tables.{table1, table2, table3, table4, pairs, firstTable5, laterTable5, endOfBlock, escape}
@@ -162,9 +162,9 @@ module _ (at : ℕ) (more : List Bit) where
           (goes-if more (lookup tab bs at (refused r)) (lookup (entry w m ∷ tab) (bs ++ more) at (refused s))
           (λ g. subst (λ (y : Read ℕ). Goes more (lookup tab bs at (refused r)) y) (sym (miss w m tab (bs ++ more) at (refused s) (others-no w tab bs r (both-left (apart w tab) (prefixFree tab) t) g))) on))
 
-ext-word : (tab : List Entry) → T (prefixFree tab) → Extends (word tab) (word tab)
+ext-word : (table : CodeTable) → T (prefixFree (table .entries)) → Extends (word table) (word table)
 unfolding word
-ext-word tab t = record { goes = λ bs at more. looked at more tab bs _ _ t }
+ext-word table t = record { goes = λ bs at more. looked at more (table .entries) bs _ _ t }
 
 pub ext-mba-word : Extends (word table1) (word table1)
 unfolding table1
@@ -191,7 +191,7 @@ unfolding laterTable5 pairs
 ext-later = ext-word laterTable5 tt
 
 -- ---- blocks
-ext-coefficient : (table : List Entry) → Extends (word table) (word table) → Extends (coefficientRead table) (coefficientRead table)
+ext-coefficient : (table : CodeTable) → Extends (word table) (word table) → Extends (coefficientRead table) (coefficientRead table)
 unfolding coefficientRead tcoeff
 ext-coefficient table h =
     ext-judged allowed
@@ -200,7 +200,7 @@ ext-coefficient table h =
     (λ m. ext-pick (eqb m endOfBlock) (ext-done over)
     (ext-pick (eqb m escape) (ext-then (ext-field 6) (λ run. ext-then (ext-field 8) (λ code. ext-done (sent (coefficient run code))))) (ext-then (ext-field 1) (λ s. ext-done (sent (coefficient (m / 16) (signed s (m % 16))))))))))
 
-ext-coefficients : (n m : ℕ) → n ≤ m → (room : ℕ) (table : List Entry) → Extends (word table) (word table) → Extends (coefficients n room table) (coefficients m room table)
+ext-coefficients : (n m : ℕ) → n ≤ m → (room : ℕ) (table : CodeTable) → Extends (word table) (word table) → Extends (coefficients n room table) (coefficients m room table)
 unfolding coefficients
 ext-coefficients zero m l room table h = ext-never
 ext-coefficients (suc n) zero l room table h = absurd (not-suc-le-zero l)

@@ -12,7 +12,7 @@ use Rattle.laws.proofs.Choice.{both-left, both-right}
 use Rattle.refusals.specs.declared.Reason.the-variants.{QuantiserZero}
 use Rattle.bits.specs.Bits.{Bit, bitsOf}
 use Rattle.bits.specs.Read.{Reader, done, fine, against, judgedRead, orEnd}
-use Rattle.bits.specs.Code.{word, wordOf}
+use Rattle.bits.specs.Code.{word, wordIn, wordOf}
 use Rattle.bits.proofs.ReadBack.{Back, back-done, back-next, back-end, back-as, back-judged, back-field}
 use Rattle.h261_words.specs.Tables.{table1, table2, table4, startCode}
 use Rattle.h261_words.specs.Words.{isIntra, isMC, hasMQUANT, hasCBP}
@@ -101,7 +101,7 @@ ending true = []
 ending false = bitsOf 16 0b0000000000000001
 
 back-start : (rest : List Bit) → Back (word table1) (bitsOf 16 0b0000000000000001) rest startCode
-unfolding wordOf table1
+unfolding wordIn table1
 back-start rest = back-mba startCode rest (lit< tt) (lit≤ tt)
 
 back-ended : (last : Bool) (address : ℕ) (rest : List Bit) → Ended last rest → Back (mba last address) (ending last) rest ended

@@ -7,7 +7,7 @@ use lib.Dec.{ltb}
 use lib.ListN.{length, length-append}
 use Rattle.laws.specs.Choice.{pick, both}
 use Rattle.bits.specs.Bits.{Bit, bitsOf}
-use Rattle.bits.specs.Code.{Entry, word, wordOf, has}
+use Rattle.bits.specs.Code.{CodeTable, word, wordOf, has}
 use Rattle.bits.proofs.Fields.{length-bitsOf}
 use Rattle.bits.proofs.ReadBack.{Back, length-word}
 use Rattle.h261_words.specs.Tables.{table1, table2, table3, table4, firstTable5, laterTable5, pair, endOfBlock, escape}
@@ -44,7 +44,7 @@ pub length-mba : (m : ℕ) → 1 ≤ m → m ≤ 35 → 1 ≤ length (wordOf tab
 unfolding table1
 length-mba m l h = length-word table1 m tt tt (has-mba m l h)
 
-pub length-coefficient : (table : List Entry) (c : Coefficient) → 1 ≤ length (tcoeffOf table c)
+pub length-coefficient : (table : CodeTable) (c : Coefficient) → 1 ≤ length (tcoeffOf table c)
 unfolding tcoeffOf
 length-coefficient table c = go (both (ltb (size (c .code)) 16) (has table (pair (c .run) (size (c .code)))))
   where

@@ -12,7 +12,7 @@ use Rattle.laws.specs.Choice.{pick, both}
 use Rattle.laws.proofs.Choice.{both-left, both-right, true-T}
 use Rattle.refusals.specs.declared.Reason.the-variants.{Length}
 use Rattle.refusals.specs.declared.Refusal.{Refusal}
-use Rattle.refusals.specs.Number.{refusal, number}
+use Rattle.refusals.specs.Number.{refusal, number, readTable}
 use Rattle.refusals.specs.Told.{toldVerdict, verdictOn, foundOr, refused as unread}
 use Rattle.refusals.proofs.Told.{told-apart}
 use Rattle.bits.specs.Read.{Read, got, refused, endless}
@@ -75,7 +75,7 @@ module _ (f : Format) (s : List ℕ) (n : ℕ) (before : Flat) {o : Bool} (e : o
   on b h = ap (λ (b : Bool). pick b (found (described f s n)) (unread 1 0)) (sym e ∙ h)
 
   pub unfit : o ≡ false → (toldVerdict (Refused (refusal Length 0)) ≡ verdictOn (readOf f s n before)) × (before ≡ foundOr before (readOf f s n before))
-  unfolding number
+  unfolding number readTable
   unfit h = (sym (ap verdictOn (on false h)), sym (ap (foundOr before) (on false h)))
 
   pub fit : o ≡ true → (v : Verdict) {after : Flat} → toldVerdict v ≡ verdictOn (found (described f s n)) → after ≡ foundOr before (found (described f s n))

@@ -10,7 +10,7 @@ use Rattle.laws.specs.Lists.{alike}
 use Rattle.laws.specs.Table.{allB}
 use Rattle.laws.proofs.Table.{all-at}
 use Rattle.bits.specs.Bits.{bitsOf}
-use Rattle.bits.specs.Code.{wordOf}
+use Rattle.bits.specs.Code.{wordIn}
 use Rattle.bits.specs.Windows.{decide}
 use Rattle.bits.specs.Entries.{entryOf, entriesFrom, entriesOf, entriesAt}
 use Rattle.bits.proofs.Entries.{entries-are, entry-of}
@@ -20,37 +20,37 @@ use Rattle.h261_words.specs.Addresses.{Said, onlyStartCode, saidBy, fitt
 
 -- what eleven bits decide, as an entry
 abbrev decidedEntry : ℕ → ℕ
-decidedEntry i = entryOf (decide table1 (bitsOf 11 i) 0)
+decidedEntry i = entryOf (decide (table1 .entries) (bitsOf 11 i) 0)
 
 abbrev agreeing : ℕ → Bool
 agreeing i = agreesWithTable1 (bitsOf 11 i) (saidBy (decidedEntry i))
 
 all-agree : T (allB 2048 agreeing)
-unfolding table1 wordOf alike saidBy fitting agreesWithTable1
+unfolding table1 wordIn alike saidBy fitting agreesWithTable1
 all-agree = tt
 
 zeros-say : saidBy (decidedEntry 0) ≡ onlyStartCode
 unfolding table1 saidBy
 zeros-say = refl
 
-counted-codewords : saying isCodeword (entriesOf 11 table1) ≡ 2025
+counted-codewords : saying isCodeword (entriesOf 11 (table1 .entries)) ≡ 2025
 unfolding table1 entriesFrom saidBy saying
 counted-codewords = refl
 
-counted-nones : saying isNoCodeword (entriesOf 11 table1) ≡ 22
+counted-nones : saying isNoCodeword (entriesOf 11 (table1 .entries)) ≡ 22
 unfolding table1 entriesFrom saidBy saying
 counted-nones = refl
 
-counted-start-codes : saying isOnlyStartCode (entriesOf 11 table1) ≡ 1
+counted-start-codes : saying isOnlyStartCode (entriesOf 11 (table1 .entries)) ≡ 1
 unfolding table1 entriesFrom saidBy saying
 counted-start-codes = refl
 
 module _ (t : List ℕ) (ok : Tables t) where
   entry-is : (i : ℕ) → i < 2048 → getD t (mbaEntriesAt + i) 0 ≡ decidedEntry i
-  entry-is i l = entry-of t mbaEntriesAt 11 table1 (ok .mbaEntries) i l
+  entry-is i l = entry-of t mbaEntriesAt 11 (table1 .entries) (ok .mbaEntries) i l
 
-  entries-say : (p : Said → Bool) (n : ℕ) → saying p (entriesOf 11 table1) ≡ n → saying p (entriesAt t mbaEntriesAt 11) ≡ n
-  entries-say p n e = ap (saying p) (entries-are t mbaEntriesAt 11 table1 (ok .mbaEntries)) ∙ e
+  entries-say : (p : Said → Bool) (n : ℕ) → saying p (entriesOf 11 (table1 .entries)) ≡ n → saying p (entriesAt t mbaEntriesAt 11) ≡ n
+  entries-say p n e = ap (saying p) (entries-are t mbaEntriesAt 11 (table1 .entries) (ok .mbaEntries)) ∙ e
 
 pub address-entries-agree : AddressEntriesAgree
 address-entries-agree t ok =

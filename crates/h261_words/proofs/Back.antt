@@ -13,7 +13,7 @@ use Rattle.laws.specs.Table.{allB}
 use Rattle.laws.proofs.Table.{all-at}
 use Rattle.bits.specs.Bits.{Bit, bitsOf}
 use Rattle.bits.specs.Read.{got, settle}
-use Rattle.bits.specs.Code.{Entry, word, wordOf, has}
+use Rattle.bits.specs.Code.{Entry, CodeTable, word, wordOf, hasIn, has}
 use Rattle.bits.proofs.Codes.{free, word-back}
 use Rattle.bits.proofs.Fields.{field-back, length-bitsOf}
 use Rattle.h261_words.specs.Tables.{table1, table2, table3, table4, pair, endOfBlock, escape, pairs, firstTable5, laterTable5}
@@ -24,54 +24,54 @@ use Rattle.h261_words.proofs.Coefficients.{end-read, escape-read, pair-
 use Rattle.h261_words.specs.Back.{Sendable}
 
 -- no codeword of a table is a beginning of another
-free1 : T (free table1)
+free1 : T (free (table1 .entries))
 unfolding table1
 free1 = tt
 
-free2 : T (free table2)
+free2 : T (free (table2 .entries))
 unfolding table2
 free2 = tt
 
-free3 : T (free table3)
+free3 : T (free (table3 .entries))
 unfolding table3
 free3 = tt
 
-free4 : T (free table4)
+free4 : T (free (table4 .entries))
 unfolding table4
 free4 = tt
 
-free-later : T (free laterTable5)
+free-later : T (free (laterTable5 .entries))
 unfolding pairs laterTable5
 free-later = tt
 
 has-end : T (has laterTable5 endOfBlock)
-unfolding pairs laterTable5 has
+unfolding pairs laterTable5 hasIn
 has-end = tt
 
 -- ---- the meanings
 -- each from `from` to `to` has a codeword
 abbrev hasAll : List Entry → ℕ → ℕ → Bool
-hasAll table from to = allB (suc to) (λ m. either (ltb m from) (has table m))
+hasAll table from to = allB (suc to) (λ m. either (ltb m from) (hasIn table m))
 
-from-to : (table : List Entry) (from to : ℕ) → T (hasAll table from to) → (m : ℕ) → from ≤ m → m ≤ to → T (has table m)
+from-to : (table : List Entry) (from to : ℕ) → T (hasAll table from to) → (m : ℕ) → from ≤ m → m ≤ to → T (hasIn table m)
 from-to table from to t m l h =
-    either-right (ltb m from) (has table m) (le-ltb m from l) (all-at (suc to) (λ i. either (ltb i from) (has table i)) t m (omega arith))
+    either-right (ltb m from) (hasIn table m) (le-ltb m from l) (all-at (suc to) (λ i. either (ltb i from) (hasIn table i)) t m (omega arith))
 
 pub has-mba : (m : ℕ) → 1 ≤ m → m ≤ 35 → T (has table1 m)
-unfolding table1 has
-has-mba m l h = from-to table1 1 35 tt m l h
+unfolding table1 hasIn
+has-mba m l h = from-to (table1 .entries) 1 35 tt m l h
 
 pub has-mtype : (m : ℕ) → 1 ≤ m → m ≤ 10 → T (has table2 m)
-unfolding table2 has
-has-mtype m l h = from-to table2 1 10 tt m l h
+unfolding table2 hasIn
+has-mtype m l h = from-to (table2 .entries) 1 10 tt m l h
 
 pub has-mvd : (m : ℕ) → m ≤ 31 → T (has table3 m)
-unfolding table3 has
-has-mvd m h = from-to table3 0 31 tt m (omega arith) h
+unfolding table3 hasIn
+has-mvd m h = from-to (table3 .entries) 0 31 tt m (omega arith) h
 
 pub has-cbp : (m : ℕ) → 1 ≤ m → m ≤ 63 → T (has table4 m)
-unfolding table4 has
-has-cbp m l h = from-to table4 1 63 tt m l h
+unfolding table4 hasIn
+has-cbp m l h = from-to (table4 .entries) 1 63 tt m l h
 
 -- ---- Tables 1 to 4
 pub mba-back : (m : ℕ) (rest : List Bit) (at : ℕ) → 1 ≤ m → m ≤ 35 → word table1 (wordOf table1 m ++ rest) at ≡ got m rest (at + length (wordOf table1 m))
@@ -111,7 +111,7 @@ negative-small code = go (ltb code 128)
     go true = omega arith
     go false = omega arith
 
-module _ (table : List Entry) (ok : T (free table)) (esc : T (has table escape)) (c : Coefficient) (g : Sendable c) (rest : List Bit) (at : ℕ) where
+module _ (table : CodeTable) (ok : T (free (table .entries))) (esc : T (has table escape)) (c : Coefficient) (g : Sendable c) (rest : List Bit) (at : ℕ) where
   m : ℕ
   m = pair (c .run) (size (c .code))
 
@@ -171,12 +171,12 @@ module _ (table : List Entry) (ok : T (free table)) (esc : T (has table escape))
 
 pub first-back : (c : Coefficient) (rest : List Bit) (at : ℕ) → Sendable c
     → coefficientRead firstTable5 (tcoeffOf firstTable5 c ++ rest) at ≡ got (sent c) rest (at + length (tcoeffOf firstTable5 c))
-unfolding pairs firstTable5 has
+unfolding pairs firstTable5 hasIn
 first-back c rest at g = coefficient-back firstTable5 tt tt c g rest at
 
 pub later-back : (c : Coefficient) (rest : List Bit) (at : ℕ) → Sendable c
     → coefficientRead laterTable5 (tcoeffOf laterTable5 c ++ rest) at ≡ got (sent c) rest (at + length (tcoeffOf laterTable5 c))
-unfolding pairs laterTable5 has
+unfolding pairs laterTable5 hasIn
 later-back c rest at g = coefficient-back laterTable5 tt tt c g rest at
 
 pub end-back : (rest : List Bit) (at : ℕ) → coefficientRead laterTable5 (wordOf laterTable5 endOfBlock ++ rest) at ≡ got over rest (at + length (wordOf laterTable5 endOfBlock))

@@ -14,7 +14,7 @@ use Rattle.laws.proofs.Choice.{both-left, both-right, either-right, T-true, tru
 use Rattle.laws.specs.Table.{allB}
 use Rattle.laws.proofs.Table.{all-at}
 use Rattle.bits.specs.Bits.{Bit, O, I, bitsOf}
-use Rattle.bits.specs.Code.{Entry, wordOf, has}
+use Rattle.bits.specs.Code.{Entry, wordIn, wordOf, hasIn, has}
 use Rattle.bits.specs.Appended.{FieldFits, WroteBits, CountablePlace}
 use Rattle.bits.proofs.Numbers.{bitsOf-append}
 use Rattle.bits.proofs.Appended.{wrote-as}
@@ -41,24 +41,24 @@ alike-eq (I ∷ w) (I ∷ v) h = ap (λ (l : List Bit). I ∷ l) (alike-eq w v h
 
 -- ---- an entry that spells
 pub record Spells (table : List Entry) (m e : ℕ) : Type 0 where
-  pub is : bitsOf (e % 32) (e / 32) ≡ wordOf table m
+  pub is : bitsOf (e % 32) (e / 32) ≡ wordIn table m
   pub small : e / 32 < 2 ^ (e % 32)
   pub short : e % 32 ≤ 16
-  pub some : has table m ≡ true → 1 ≤ e % 32
-  pub none : has table m ≡ false → e ≡ 0
+  pub some : hasIn table m ≡ true → 1 ≤ e % 32
+  pub none : hasIn table m ≡ false → e ≡ 0
 
 spells-is : (table : List Entry) (m e : ℕ) → T (spells table m e) → Spells table m e
 unfolding spells
 spells-is table m e t =
-    let h = pick (has table m) (ltb 0 (e % 32)) (eqb e 0) in
+    let h = pick (hasIn table m) (ltb 0 (e % 32)) (eqb e 0) in
     let t1 = both-right h _ t in
     let t2 = both-right (ltb (e / 32) (2 ^ (e % 32))) _ t1 in
     record {
       is = alike-eq _ _ (both-right (leb (e % 32) 16) _ t2);
       small = leb→le _ _ (both-left (ltb (e / 32) (2 ^ (e % 32))) _ t1);
       short = leb→le _ _ (both-left (leb (e % 32) 16) _ t2);
-      some = λ y. leb→le _ _ (yes (has table m) y (both-left h _ t));
-      none = λ y. eqb→eq _ _ (no (has table m) y (both-left h _ t));
+      some = λ y. leb→le _ _ (yes (hasIn table m) y (both-left h _ t));
+      none = λ y. eqb→eq _ _ (no (hasIn table m) y (both-left h _ t));
     }
   where
     yes : (b : Bool) → b ≡ true → T (pick b (ltb 0 (e % 32)) (eqb e 0)) → T (ltb 0 (e % 32))
@@ -74,21 +74,21 @@ unfolding spelt
 spelt-at t from n table ok m l = spells-is table m (getD t (from + m) 0) (all-at n (λ i. spells table i (getD t (from + i) 0)) ok m l)
 
 -- the entry's codeword
-pub entry-writes : (t : List ℕ) (from n : ℕ) (table : List Entry) → T (spelt t from n table) → (m k x : ℕ) → m < n → T (has table m)
-    → k ≡ getD t (from + m) 0 % 32 → x ≡ getD t (from + m) 0 / 32 → Writes (wordOf table m) (codewordOf k x)
+pub entry-writes : (t : List ℕ) (from n : ℕ) (table : List Entry) → T (spelt t from n table) → (m k x : ℕ) → m < n → T (hasIn table m)
+    → k ≡ getD t (from + m) 0 % 32 → x ≡ getD t (from + m) 0 / 32 → Writes (wordIn table m) (codewordOf k x)
 entry-writes t from n table ok m k x l h ek ex =
     let s = spelt-at t from n table ok m l in
-    let a = s .some (T-true (has table m) h) in
+    let a = s .some (T-true (hasIn table m) h) in
     let b = s .short in
-    writes (wordOf table m) k x (rw (ek, ex) (s .is)) (omega arith) (omega arith) (rw (ek, ex) (s .small))
+    writes (wordIn table m) k x (rw (ek, ex) (s .is)) (omega arith) (omega arith) (rw (ek, ex) (s .small))
 
 -- ---- a coefficient
 -- no pair of a run above 26
 nonePast : List Entry → Bool
-nonePast table = allB 1024 (λ m. either (ltb m 432) (either (eqb (m % 16) 0) (opposite (has table m))))
+nonePast table = allB 1024 (λ m. either (ltb m 432) (either (eqb (m % 16) 0) (opposite (hasIn table m))))
 
-none-past : (first : Bool) → T (nonePast (tableOf first))
-unfolding nonePast pairs firstTable5 laterTable5 has
+none-past : (first : Bool) → T (nonePast (tableOf first .entries))
+unfolding nonePast pairs firstTable5 laterTable5 hasIn
 none-past true = tt
 none-past false = tt
 
@@ -107,28 +107,28 @@ module _ (m : ℕ) (n0 : m ≡ 0 → ⊥) (n1 : m ≡ 1 → ⊥) where
   m0 : eqb 0 m ≡ false
   m0 = ne-eqb 0 m (λ e. n0 (sym e))
 
-  pub same-word : (first : Bool) → wordOf (tableOf first) m ≡ wordOf pairs m
-  unfolding firstTable5 laterTable5 wordOf
+  pub same-word : (first : Bool) → wordOf (tableOf first) m ≡ wordIn pairs m
+  unfolding firstTable5 laterTable5 wordIn
   same-word true = rw m1
   same-word false = rw (m1, m0)
 
-  pub same-has : (first : Bool) → has (tableOf first) m ≡ has pairs m
-  unfolding firstTable5 laterTable5 has
+  pub same-has : (first : Bool) → has (tableOf first) m ≡ hasIn pairs m
+  unfolding firstTable5 laterTable5 hasIn
   same-has true = rw m1
   same-has false = rw (m1, m0)
 
 one-word : (first : Bool) → wordOf (tableOf first) 1 ≡ pick first (bitsOf 1 1) (bitsOf 2 3)
-unfolding firstTable5 laterTable5 wordOf
+unfolding firstTable5 laterTable5 wordIn
 one-word true = refl
 one-word false = refl
 
 one-has : (first : Bool) → has (tableOf first) 1 ≡ true
-unfolding firstTable5 laterTable5 has
+unfolding firstTable5 laterTable5 hasIn
 one-has true = refl
 one-has false = refl
 
 escape-word : (first : Bool) → wordOf (tableOf first) escape ≡ bitsOf 6 1
-unfolding pairs firstTable5 laterTable5 wordOf
+unfolding pairs firstTable5 laterTable5 wordIn
 escape-word true = refl
 escape-word false = refl
 
@@ -173,9 +173,9 @@ module _ (first : Bool) (run code lv n : ℕ) (g : Sendable (coefficient run cod
 
     pub escape-none : (e k : ℕ) → Spells pairs (pair run lv) e → (pair run lv ≡ 1 → ⊥) → k ≡ e % 32 → k ≡ 0
         → Writes (tcoeffOf (tableOf first) (coefficient run code)) (codewordOf 20 (16384 + run * 256 + code))
-    escape-none e k s o ek z = escape-where (without (same-has (pair run lv) pair-some o first ∙ go (has pairs (pair run lv)) refl))
+    escape-none e k s o ek z = escape-where (without (same-has (pair run lv) pair-some o first ∙ go (hasIn pairs (pair run lv)) refl))
       where
-        go : (b : Bool) → has pairs (pair run lv) ≡ b → b ≡ false
+        go : (b : Bool) → hasIn pairs (pair run lv) ≡ b → b ≡ false
         go true y = absurd (zero-some (e % 32) (sym ek ∙ z) (s .some y))
         go false y = refl
 
@@ -192,9 +192,9 @@ module _ (first : Bool) (run code lv n : ℕ) (g : Sendable (coefficient run cod
     pub pair-writes : (e k x : ℕ) → Spells pairs (pair run lv) e → (pair run lv ≡ 1 → ⊥) → k ≡ e % 32 → x ≡ e / 32 → (k ≡ 0 → ⊥)
         → Writes (tcoeffOf (tableOf first) (coefficient run code)) (codewordOf (k + 1) (x * 2 + n))
     pair-writes e k x s o ek ex z =
-        pair-where k x (same-has (pair run lv) pair-some o first ∙ go (has pairs (pair run lv)) refl) (rw (ek, ex) (s .is) ∙ sym (same-word (pair run lv) pair-some o first)) (rw ek (s .short)) (rw (ek, ex) (s .small))
+        pair-where k x (same-has (pair run lv) pair-some o first ∙ go (hasIn pairs (pair run lv)) refl) (rw (ek, ex) (s .is) ∙ sym (same-word (pair run lv) pair-some o first)) (rw ek (s .short)) (rw (ek, ex) (s .small))
       where
-        go : (b : Bool) → has pairs (pair run lv) ≡ b → b ≡ true
+        go : (b : Bool) → hasIn pairs (pair run lv) ≡ b → b ≡ true
         go true y = refl
         go false y = absurd (z (ek ∙ ap (λ (i : ℕ). i % 32) (s .none y)))
 
@@ -209,7 +209,7 @@ module _ (run code lv n : ℕ) (g : Sendable (coefficient run code)) (el : lv �
   one-later false e = pair-where false run code lv n g el en l 2 3 (ap (has (tableOf false)) z ∙ one-has false) (sym (ap (wordOf (tableOf false)) z ∙ one-word false)) (omega arith) (omega arith)
 
 pub end-writes : Writes (wordOf laterTable5 endOfBlock) (codewordOf 2 2)
-unfolding laterTable5 wordOf
+unfolding laterTable5 wordIn
 end-writes = writes (wordOf laterTable5 endOfBlock) 2 2 refl (omega arith) (omega arith) (omega arith)
 
 -- ---- a codeword appended

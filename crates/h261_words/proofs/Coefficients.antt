@@ -11,13 +11,13 @@ use Rattle.refusals.specs.declared.Reason.{Reason}
 use Rattle.refusals.specs.declared.Reason.the-variants.{BitsEnd, Forbidden}
 use Rattle.bits.specs.Bits.{Bit}
 use Rattle.bits.specs.Read.{Read, got, bad, next, settle, movedRead, field}
-use Rattle.bits.specs.Code.{Entry, word}
+use Rattle.bits.specs.Code.{CodeTable, word}
 use Rattle.h261_words.specs.Tables.{endOfBlock, escape}
 use Rattle.h261_words.specs.Words.{Event, sent, over, signed, escaped, paired, tcoeff, allowed, coefficientRead}
 use Rattle.layout.specs.Value.{coefficient}
 use Rattle.layout.specs.Numbers.{forbidden}
 
-module _ (table : List Entry) (bs : List Bit) (at : ℕ) where
+module _ (table : CodeTable) (bs : List Bit) (at : ℕ) where
   pub coefficient-refused : (r : Reason) → word table bs at ≡ bad r at → coefficientRead table bs at ≡ bad r at
   unfolding tcoeff coefficientRead
   coefficient-refused r e = rw e

@@ -13,9 +13,11 @@ use Rattle.laws.proofs.Choice.{both-left, both-right, either-right}
 use Rattle.laws.specs.Table.{allB}
 use Rattle.laws.proofs.Table.{all-at}
 use Rattle.refusals.specs.declared.Reason.the-variants.{BitsEnd, NoCodeword, Forbidden}
+use Rattle.refusals.specs.declared.Table.{Table}
+use Rattle.refusals.specs.declared.Table.the-variants.{Tcoeff}
 use Rattle.bits.specs.Bits.{Bit, bitsOf, value, bitsFrom, bitsLeft}
 use Rattle.bits.specs.Read.{got, bad, settle}
-use Rattle.bits.specs.Code.{Entry, word}
+use Rattle.bits.specs.Code.{CodeTable, word}
 use Rattle.bits.proofs.Value.{value-lt, value-first, value-within, window-first}
 use Rattle.bits.proofs.Numbers.{bits-value}
 use Rattle.bits.proofs.Fields.{field-at, field-short}
@@ -30,26 +32,26 @@ use Rattle.h261_words.specs.Lookup.{tail, sizeOf, meaningOf, levelled, a
 use Rattle.h261_words.proofs.Coefficients.{coefficient-refused, end-read, escape-short-run, escape-short-level, escape-read, pair-short, pair-read, forbidden-yes, forbidden-no, settle-allowed, settle-forbidden}
 
 -- the entry e says what the bits decided, d
-pub record Says (table : List Entry) (s : List ℕ) (n at e : ℕ) (d : Decided) : Type 0 where
-  pub is : word table (bitsLeft s n at) at ≡ said s n at d
+pub record Says (table : CodeTable) (s : List ℕ) (n at e : ℕ) (d : Decided) : Type 0 where
+  pub is : word table (bitsLeft s n at) at ≡ said Tcoeff s n at d
   pub sure : T (settled d)
   pub level : T (levelled d)
   pub size : e % 32 ≡ sizeOf d
   pub meaning : e / 32 ≡ meaningOf d
   pub small : e % 32 ≤ 20
 
-says : (table : List Entry) (s : List ℕ) (n at j e : ℕ) → T (noEmpty table) → T (some table) → T (agrees table (bitsFrom s at j) e)
-    → (d : Decided) × Says table s n at e d
+says : (table : CodeTable) (s : List ℕ) (n at j e : ℕ) → table .name ≡ Tcoeff → T (noEmpty (table .entries)) → T (some (table .entries))
+    → T (agrees (table .entries) (bitsFrom s at j) e) → (d : Decided) × Says table s n at e d
 unfolding agrees
-says table s n at j e h k a =
-    let d = decide table (bitsFrom s at j) 0 in
+says table s n at j e named h k a =
+    let d = decide (table .entries) (bitsFrom s at j) 0 in
     let a1 = both-right (settled d) _ a in
     let a2 = both-right (levelled d) _ a1 in
     let a3 = both-right (eqb (e % 32) (sizeOf d)) _ a2 in
     let t = both-left (settled d) _ a in (
       d,
       record {
-        is = decided-word table j s n at h k t;
+        is = decided-word table j s n at h k t ∙ ap (λ (name : Table). said name s n at d) named;
         sure = t;
         level = both-left (levelled d) _ a1;
         size = eqb→eq _ _ (both-left (eqb (e % 32) (sizeOf d)) _ a2);
@@ -59,22 +61,23 @@ says table s n at j e h k a =
     )
 
 -- the entry for the 13 bits at a place
-pub looked : (t s : List ℕ) (n at from x : ℕ) (table : List Entry) → T (looks t from table) → T (noEmpty table) → T (some table) → x ≡ value s at 13
+pub looked : (t s : List ℕ) (n at from x : ℕ) (table : CodeTable) → table .name ≡ Tcoeff → T (looks t from (table .entries)) → T (noEmpty (table .entries)) → T (some (table .entries))
+    → x ≡ value s at 13
     → (d : Decided) × Says table s n at (getD t (entryPlace from x) 0) d
 unfolding looks
-looked t s n at from x table ok h k v = go (ltb x 128) refl
+looked t s n at from x table named ok h k v = go (ltb x 128) refl
   where
     A : ℕ → Bool
-    A i = agrees table (bitsOf 13 i) (getD t (smallAt + i) 0)
+    A i = agrees (table .entries) (bitsOf 13 i) (getD t (smallAt + i) 0)
 
     B : ℕ → Bool
-    B i = either (ltb i 4) (agrees table (bitsOf 8 i) (getD t (from + i) 0))
+    B i = either (ltb i 4) (agrees (table .entries) (bitsOf 8 i) (getD t (from + i) 0))
 
     go : (b : Bool) → ltb x 128 ≡ b → (d : Decided) × Says table s n at (getD t (pick b (smallAt + x) (from + x / 32)) 0) d
     go true l =
         let a : T (A x) = all-at 128 A (both-left (allB 128 A) (allB 256 B) ok) x (ltb-true x 128 l) in
         let w : bitsFrom s at 13 ≡ bitsOf 13 x = bits-value s at 13 ∙ ap (bitsOf 13) (sym v) in
-        says table s n at 13 (getD t (smallAt + x) 0) h k (rw w a)
+        says table s n at 13 (getD t (smallAt + x) 0) named h k (rw w a)
     go false l =
         let f : value s at 13 / 32 ≡ value s at 8 = value-first s at 8 5 in
         let y : x / 32 ≡ value s at 8 = ap (λ (i : ℕ). i / 32) v ∙ f in
@@ -82,7 +85,7 @@ looked t s n at from x table ok h k v = go (ltb x 128) refl
         let u : x / 32 < 256 = rw y (value-lt s at 8) in
         let a : T (B (x / 32)) = all-at 256 B (both-right (allB 128 A) (allB 256 B) ok) (x / 32) u in
         let w : bitsFrom s at 8 ≡ bitsOf 8 (x / 32) = bits-value s at 8 ∙ ap (bitsOf 8) (sym y) in
-        says table s n at 8 (getD t (from + x / 32) 0) h k (rw w (either-right (ltb (x / 32) 4) _ (le-ltb (x / 32) 4 (omega arith)) a))
+        says table s n at 8 (getD t (from + x / 32) 0) named h k (rw w (either-right (ltb (x / 32) 4) _ (le-ltb (x / 32) 4 (omega arith)) a))
 
 -- ---- the outcomes
 plus-allowed : (x : ℕ) → 0 < x → x < 16 → forbidden x ≡ false
@@ -114,7 +117,7 @@ tail-escape m a b = rw (ne-eqb m endOfBlock a, eq-eqb m escape b)
 tail-end : (m : ℕ) → m ≡ endOfBlock → tail m ≡ 0
 tail-end m a = rw (eq-eqb m endOfBlock a)
 
-module _ {table : List Entry} {s : List ℕ} {n at e : ℕ} (inside : at ≤ n) where
+module _ {table : CodeTable} {s : List ℕ} {n at e : ℕ} (inside : at ≤ n) where
   word-ended : (k m : ℕ) → Says table s n at e (ended k m) → at + k ≤ n → word table (bitsLeft s n at) at ≡ got m (bitsLeft s n (at + k)) (at + k)
   word-ended k m r l = r .is ∙ rw (le-leb (at + k) n l)
 
@@ -154,11 +157,11 @@ module _ {table : List Entry} {s : List ℕ} {n at e : ℕ} (inside : at ≤ n) 
           let b = eqb-false m escape i in
           sym (pair-short table bs at m _ _ (word-ended k m r u) a b (field-short s n (at + k) 1 (omega (arith, r .size, tail-pair m a b))))
 
-  pub none : (d : Decided) → Says table s n at e d → e % 32 ≤ n - at → e / 32 ≡ 0 → bad NoCodeword at ≡ coefficientRead table (bitsLeft s n at) at
+  pub none : (d : Decided) → Says table s n at e d → e % 32 ≤ n - at → e / 32 ≡ 0 → bad (NoCodeword Tcoeff) at ≡ coefficientRead table (bitsLeft s n at) at
   none undecided r l z = absurd (r .sure)
   none (dead k) r l z =
       let f : at + k ≤ n = omega (arith, r .size) in
-      sym (coefficient-refused table (bitsLeft s n at) at NoCodeword (r .is ∙ rw (le-leb (at + k) n f)))
+      sym (coefficient-refused table (bitsLeft s n at) at (NoCodeword Tcoeff) (r .is ∙ rw (le-leb (at + k) n f)))
   none (ended k m) r l z = absurd (omega (arith, r .meaning))
 
   pub end : (d : Decided) → Says table s n at e d → e % 32 ≤ n - at → e / 32 ≡ 1
@@ -258,5 +261,5 @@ known t s n at w first ok v =
     go x first
   where
     go : w / 2048 ≡ value s at 13 → (b : Bool) → (d : Decided) × Says (pick b firstTable5 laterTable5) s n at (getD t (entryPlace (pick b firstAt laterAt) (w / 2048)) 0) d
-    go x true = looked t s n at firstAt (w / 2048) firstTable5 (ok .first) tt tt x
-    go x false = looked t s n at laterAt (w / 2048) laterTable5 (ok .later) tt tt x
+    go x true = looked t s n at firstAt (w / 2048) firstTable5 refl (ok .first) tt tt x
+    go x false = looked t s n at laterAt (w / 2048) laterTable5 refl (ok .later) tt tt x

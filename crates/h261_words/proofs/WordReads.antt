@@ -10,7 +10,7 @@ use Rattle.laws.proofs.Choice.{both-make}
 use Rattle.refusals.specs.declared.Reason.the-variants.{Forbidden}
 use Rattle.refusals.specs.Number.{number}
 use Rattle.bits.specs.Read.{done}
-use Rattle.bits.specs.Code.{Entry}
+use Rattle.bits.specs.Code.{CodeTable}
 use Rattle.bits.proofs.Codes.{each}
 use Rattle.bits.proofs.Logic.{Reads, reads-any, reads-done, reads-then, reads-map, Judges, reads-judged, judges-pick, judges-fine, judges-against, reads-whole, reads-field, reads-word}
 use Rattle.h261_words.specs.Tables.{pairs, firstTable5, laterTable5, endOfBlock, escape}
@@ -26,11 +26,11 @@ abbrev pub meant : Bool → ℕ → Bool
 meant ends m = pick (eqb m endOfBlock) ends (either (eqb m escape) (leb 1 (m % 16)))
 
 -- "EOB can't come first"
-pub first-meanings : T (each (meant false) firstTable5)
+pub first-meanings : T (each (meant false) (firstTable5 .entries))
 unfolding firstTable5 pairs
 first-meanings = tt
 
-pub later-meanings : T (each (meant true) laterTable5)
+pub later-meanings : T (each (meant true) (laterTable5 .entries))
 unfolding laterTable5 pairs
 later-meanings = tt
 
@@ -72,7 +72,7 @@ judges-allowed ends (sent c) h =
     judges-pick (forbidden (c .code)) (λ y. judges-against Forbidden tt) (λ n. judges-fine (sent c) (code-of (c .code) h n))
 judges-allowed ends over h = judges-fine over h
 
-pub coefficient-reads : {bound : ℕ} (ends : Bool) (table : List Entry) → T (each (meant ends) table) → Reads bound 1 (λ e left. Allowed ends e) (coefficientRead table)
+pub coefficient-reads : {bound : ℕ} (ends : Bool) (table : CodeTable) → T (each (meant ends) (table .entries)) → Reads bound 1 (λ e left. Allowed ends e) (coefficientRead table)
 unfolding coefficientRead tcoeff
 coefficient-reads ends table t =
     reads-judged (reads-whole (reads-then (reads-word (meant ends) table t) (λ m left g. tcoeff-after ends m g))) (λ e left g. judges-allowed ends e g)

@@ -32,9 +32,9 @@ fitting (entry w m ∷ table) bs = pick (either (starts w bs) (starts bs w)) (m 
 
 -- what is said of some bits is what Table 1 has: one codeword alone fits them, and begins them; none does; or the start code alone does
 unfoldable pub agreesWithTable1 : List Bit → Said → Bool
-agreesWithTable1 bs (codeword m k) = both (alike (fitting table1 bs) (m ∷ [])) (both (starts (wordOf table1 m) bs) (eqb (length (wordOf table1 m)) k))
-agreesWithTable1 bs noCodeword = alike (fitting table1 bs) []
-agreesWithTable1 bs onlyStartCode = alike (fitting table1 bs) (startCode ∷ [])
+agreesWithTable1 bs (codeword m k) = both (alike (fitting (table1 .entries) bs) (m ∷ [])) (both (starts (wordOf table1 m) bs) (eqb (length (wordOf table1 m)) k))
+agreesWithTable1 bs noCodeword = alike (fitting (table1 .entries) bs) []
+agreesWithTable1 bs onlyStartCode = alike (fitting (table1 .entries) bs) (startCode ∷ [])
 
 -- ---- how many say what
 abbrev pub isCodeword : Said → Bool

@@ -8,7 +8,7 @@ use lib.ListN.{getD}
 use Rattle.laws.specs.Choice.{pick, both, either}
 use Rattle.laws.specs.Table.{allB}
 use Rattle.bits.specs.Bits.{Bit, bitsOf, same}
-use Rattle.bits.specs.Code.{Entry, wordOf, has}
+use Rattle.bits.specs.Code.{Entry, wordIn, hasIn}
 use Rattle.bits.specs.Tree.{right}
 use Rattle.bits.specs.Entries.{entriesRight}
 use Rattle.bits.specs.Windows.{Decided, undecided, dead, ended, decide, settled}
@@ -115,7 +115,7 @@ alike (x ∷ w) (y ∷ v) = both (same x y) (alike w v)
 -- the entry e spells the codeword of m, if it has one
 unfoldable pub spells : List Entry → ℕ → ℕ → Bool
 spells table m e =
-    both (pick (has table m) (ltb 0 (e % 32)) (eqb e 0)) (both (ltb (e / 32) (2 ^ (e % 32))) (both (leb (e % 32) 16) (alike (bitsOf (e % 32) (e / 32)) (wordOf table m))))
+    both (pick (hasIn table m) (ltb 0 (e % 32)) (eqb e 0)) (both (ltb (e / 32) (2 ^ (e % 32))) (both (leb (e % 32) 16) (alike (bitsOf (e % 32) (e / 32)) (wordIn table m))))
 
 -- the entries from the first on, for the meanings 0 to n - 1
 unfoldable pub spelt : List ℕ → ℕ → ℕ → List Entry → Bool
@@ -123,18 +123,18 @@ spelt t from n table = allB n (λ m. spells table m (getD t (from + m) 0))
 
 -- ---- the fact that callers pass on
 pub record Tables (t : List ℕ) : Type 0 where
-  pub mba : T (right 16 t mbaTree table1)
-  pub mtype : T (right 16 t mtypeTree table2)
-  pub mvd : T (right 16 t mvdTree table3)
-  pub cbp : T (right 16 t cbpTree table4)
-  pub first : T (looks t firstAt firstTable5)
-  pub later : T (looks t laterAt laterTable5)
-  pub mbaWords : T (spelt t mbaWordsAt 36 table1)
-  pub mtypeWords : T (spelt t mtypeWordsAt 11 table2)
-  pub mvdWords : T (spelt t mvdWordsAt 32 table3)
-  pub cbpWords : T (spelt t cbpWordsAt 64 table4)
+  pub mba : T (right 16 t mbaTree (table1 .entries))
+  pub mtype : T (right 16 t mtypeTree (table2 .entries))
+  pub mvd : T (right 16 t mvdTree (table3 .entries))
+  pub cbp : T (right 16 t cbpTree (table4 .entries))
+  pub first : T (looks t firstAt (firstTable5 .entries))
+  pub later : T (looks t laterAt (laterTable5 .entries))
+  pub mbaWords : T (spelt t mbaWordsAt 36 (table1 .entries))
+  pub mtypeWords : T (spelt t mtypeWordsAt 11 (table2 .entries))
+  pub mvdWords : T (spelt t mvdWordsAt 32 (table3 .entries))
+  pub cbpWords : T (spelt t cbpWordsAt 64 (table4 .entries))
   pub pairWords : T (spelt t pairWordsAt 432 pairs)
-  pub mbaEntries : T (entriesRight t mbaEntriesAt 11 table1)
-  pub mtypeEntries : T (entriesRight t mtypeEntriesAt 10 table2)
-  pub mvdEntries : T (entriesRight t mvdEntriesAt 11 table3)
-  pub cbpEntries : T (entriesRight t cbpEntriesAt 9 table4)
+  pub mbaEntries : T (entriesRight t mbaEntriesAt 11 (table1 .entries))
+  pub mtypeEntries : T (entriesRight t mtypeEntriesAt 10 (table2 .entries))
+  pub mvdEntries : T (entriesRight t mvdEntriesAt 11 (table3 .entries))
+  pub cbpEntries : T (entriesRight t cbpEntriesAt 9 (table4 .entries))

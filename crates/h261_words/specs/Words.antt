@@ -7,7 +7,7 @@ use Rattle.laws.specs.Choice.{pick, both, oneOf}
 use Rattle.refusals.specs.declared.Reason.the-variants.{Forbidden}
 use Rattle.bits.specs.Bits.{Bit, bitsOf}
 use Rattle.bits.specs.Read.{Reader, _>>=_, done, field, whole, Judged, fine, against, judgedRead}
-use Rattle.bits.specs.Code.{Entry, word, wordOf, has}
+use Rattle.bits.specs.Code.{CodeTable, word, wordOf, has}
 use Rattle.layout.specs.Value.{Coefficient, coefficient}
 use Rattle.layout.specs.Numbers.{forbidden}
 use Rattle.h261_words.specs.Tables.{pair, endOfBlock, escape}
@@ -53,7 +53,7 @@ paired m = do
   done (sent (coefficient (m / 16) (signed s (m % 16))))
 
 -- "An escape is one codeword of 20 bits.", and so is a pair with its sign
-unfoldable pub tcoeff : List Entry → Reader Event
+unfoldable pub tcoeff : CodeTable → Reader Event
 tcoeff table = whole (word table >>= λ m. pick (eqb m endOfBlock) (done over) (pick (eqb m escape) escaped (paired m)))
 
 -- refusal 10
@@ -62,7 +62,7 @@ allowed (sent c) = pick (forbidden (c .code)) (against Forbidden) (fine (sent c)
 allowed over = fine over
 
 -- a codeword of Table 5 with an allowed level
-unfoldable pub coefficientRead : List Entry → Reader Event
+unfoldable pub coefficientRead : CodeTable → Reader Event
 coefficientRead table = judgedRead (tcoeff table) allowed
 
 -- ---- and back: "a table code wherever Table 5 has one"
@@ -72,7 +72,7 @@ negative code = pick (ltb code 128) 0 1
 abbrev pub size : ℕ → ℕ
 size code = pick (ltb code 128) code (256 - code)
 
-unfoldable pub tcoeffOf : List Entry → Coefficient → List Bit
+unfoldable pub tcoeffOf : CodeTable → Coefficient → List Bit
 tcoeffOf table c =
     pick (both (ltb (size (c .code)) 16) (has table (pair (c .run) (size (c .code)))))
     (wordOf table (pair (c .run) (size (c .code))) ++ bitsOf 1 (negative (c .code)))

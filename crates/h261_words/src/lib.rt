@@ -2,6 +2,7 @@
 use bits::FieldRead;
 use refusals::Reason;
 use refusals::Refusal;
+use refusals::Table;
 ghost use mathlib.Core.Path.{_≡_};
 ghost use Rattle.bits.specs.Bits.{bitsOf, bitsLeft};
 ghost use Rattle.bits.specs.Code.{word as wordRead, wordOf};
@@ -79,7 +80,7 @@ pub fn mba(tables: &WordTables, bytes: &[u8], count: usize, at: usize) -> FieldR
     let e = bits::entry(tables, MBA_ENTRIES, 11, bytes, count, at);
     let length = e % 32;
     if length == 0 {
-        return bits::without_entry(tables, MBA_TREE, e, bytes, count, at);
+        return bits::without_entry(tables, MBA_TREE, Table::Mba, e, bytes, count, at);
     }
     FieldRead::Got((e / 32) as u32, at + length as usize)
 }
@@ -92,7 +93,7 @@ pub fn mtype(tables: &WordTables, bytes: &[u8], count: usize, at: usize) -> Fiel
     let e = bits::entry(tables, MTYPE_ENTRIES, 10, bytes, count, at);
     let length = e % 32;
     if length == 0 {
-        return bits::without_entry(tables, MTYPE_TREE, e, bytes, count, at);
+        return bits::without_entry(tables, MTYPE_TREE, Table::Mtype, e, bytes, count, at);
     }
     FieldRead::Got((e / 32) as u32, at + length as usize)
 }
@@ -105,7 +106,7 @@ pub fn mvd(tables: &WordTables, bytes: &[u8], count: usize, at: usize) -> FieldR
     let e = bits::entry(tables, MVD_ENTRIES, 11, bytes, count, at);
     let length = e % 32;
     if length == 0 {
-        return bits::without_entry(tables, MVD_TREE, e, bytes, count, at);
+        return bits::without_entry(tables, MVD_TREE, Table::Mvd, e, bytes, count, at);
     }
     FieldRead::Got((e / 32) as u32, at + length as usize)
 }
@@ -118,7 +119,7 @@ pub fn cbp(tables: &WordTables, bytes: &[u8], count: usize, at: usize) -> FieldR
     let e = bits::entry(tables, CBP_ENTRIES, 9, bytes, count, at);
     let length = e % 32;
     if length == 0 {
-        return bits::without_entry(tables, CBP_TREE, e, bytes, count, at);
+        return bits::without_entry(tables, CBP_TREE, Table::Cbp, e, bytes, count, at);
     }
     FieldRead::Got((e / 32) as u32, at + length as usize)
 }
@@ -162,7 +163,7 @@ pub fn coefficient(
     }
     if meaning == 0 {
         return CoefficientRead::Refused(Refusal {
-            reason: Reason::NoCodeword,
+            reason: Reason::NoCodeword(Table::Tcoeff),
             place: at,
         });
     }

@@ -10,7 +10,7 @@ use lib.IntN.{ℤ, pos, natAbs, _+ℤ_, _-ℤ_}
 use Rattle.laws.specs.Choice.{pick, both}
 use Rattle.laws.proofs.Choice.{both-left, both-right}
 use Rattle.bits.specs.Bits.{Bit, bitsOf}
-use Rattle.bits.specs.Code.{Entry, entry, wordOf, has}
+use Rattle.bits.specs.Code.{Entry, entry, CodeTable, wordIn, wordOf, has}
 use Rattle.bits.specs.Appended.{CountablePlace}
 use Rattle.bits.proofs.Fields.{length-bitsOf}
 use Rattle.h261_words.specs.Tables.{pair, table1, table2, table3, table4, endOfBlock, escape, pairs, firstTable5, laterTable5}
@@ -40,38 +40,41 @@ shortWords : List Entry → Bool
 shortWords [] = true
 shortWords (entry w m ∷ table) = both (leb (length w) 16) (shortWords table)
 
-word-short : (table : List Entry) (m : ℕ) → T (shortWords table) → length (wordOf table m) ≤ 16
-unfolding wordOf shortWords
-word-short [] m t = lit≤ tt
-word-short (entry w m′ ∷ table) m t =
-    pick-short (eqb m′ m) w (wordOf table m) 16 (leb→le (length w) 16 (both-left (leb (length w) 16) (shortWords table) t)) (word-short table m (both-right (leb (length w) 16) (shortWords table) t))
+listed-short : (table : List Entry) (m : ℕ) → T (shortWords table) → length (wordIn table m) ≤ 16
+unfolding wordIn shortWords
+listed-short [] m t = lit≤ tt
+listed-short (entry w m′ ∷ table) m t =
+    pick-short (eqb m′ m) w (wordIn table m) 16 (leb→le (length w) 16 (both-left (leb (length w) 16) (shortWords table) t)) (listed-short table m (both-right (leb (length w) 16) (shortWords table) t))
 
-short₁ : T (shortWords table1)
+word-short : (table : CodeTable) (m : ℕ) → T (shortWords (table .entries)) → length (wordOf table m) ≤ 16
+word-short table m t = listed-short (table .entries) m t
+
+short₁ : T (shortWords (table1 .entries))
 unfolding shortWords table1
 short₁ = tt
 
-short₂ : T (shortWords table2)
+short₂ : T (shortWords (table2 .entries))
 unfolding shortWords table2
 short₂ = tt
 
-short₃ : T (shortWords table3)
+short₃ : T (shortWords (table3 .entries))
 unfolding shortWords table3
 short₃ = tt
 
-short₄ : T (shortWords table4)
+short₄ : T (shortWords (table4 .entries))
 unfolding shortWords table4
 short₄ = tt
 
-first-short : T (shortWords firstTable5)
+first-short : T (shortWords (firstTable5 .entries))
 unfolding shortWords pairs firstTable5
 first-short = tt
 
-later-short : T (shortWords laterTable5)
+later-short : T (shortWords (laterTable5 .entries))
 unfolding shortWords pairs laterTable5
 later-short = tt
 
 -- ---- a coefficient up to 30, an escape's longest
-coefficient-short : (table : List Entry) (c : Coefficient) → T (shortWords table) → length (tcoeffOf table c) ≤ 30
+coefficient-short : (table : CodeTable) (c : Coefficient) → T (shortWords (table .entries)) → length (tcoeffOf table c) ≤ 30
 unfolding tcoeffOf
 coefficient-short table c t =
     let w = wordOf table (pair (c .run) (size (c .code))) in

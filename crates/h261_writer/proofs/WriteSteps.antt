@@ -10,8 +10,8 @@ use lib.Dec.{eqb, ltb, lit≤}
 use lib.ListN.{length, take, drop}
 use lib.Seq.{take-at, take-length, length-take-le}
 use Rattle.laws.specs.Choice.{pick, both, either}
-use Rattle.refusals.specs.Number.{refusal, number}
-use Rattle.refusals.specs.Told.{Told, accepted, refused}
+use Rattle.refusals.specs.Number.{refusal, number, readTable}
+use Rattle.refusals.specs.Told.{Numbers, Told, accepted, refusedBy, refused}
 use Rattle.refusals.proofs.Told.{accepted-once, refused-once, told-apart}
 use Rattle.refusals.specs.declared.Reason.the-variants.{Length, Invalid, AboveLimit}
 use Rattle.refusals.specs.declared.Refusal.{Refusal}
@@ -92,25 +92,25 @@ module _ (f : Format) (head macroblocks levels out : List ℕ) where
   unfolding writeOf
   answer-is = refl
 
-  leaves-refused : (n place : ℕ) → outputLeft out (pictureBits f d) (refused n place) ≡ out
+  leaves-refused : (numbers : Numbers) → outputLeft out (pictureBits f d) (refusedBy numbers) ≡ out
   unfolding outputLeft
-  leaves-refused n place = refl
+  leaves-refused numbers = refl
 
   leaves-bits : (n : ℕ) → outputLeft out (pictureBits f d) (accepted n) ≡ filledOutput out (pictureBits f d)
   unfolding outputLeft
   leaves-bits n = refl
 
   pub refuses : (r : Refusal) (w : Written) → w ≡ Refused r → toldWritten (Refused r) ≡ writeOf f d (length out) → (toldWritten w ≡ writeOf f d (length out)) × (out ≡ outputOf f d out)
-  refuses r w e a = (ap toldWritten e ∙ a, sym (ap (outputLeft out (pictureBits f d)) (sym a) ∙ leaves-refused _ _))
+  refuses r w e a = (ap toldWritten e ∙ a, sym (ap (outputLeft out (pictureBits f d)) (sym a) ∙ leaves-refused _))
 
   module _ (o : Bool) (oe : o ≡ one) where
     pub short : o ≡ false → toldWritten (Refused (refusal Length 0)) ≡ writeOf f d (length out)
-    unfolding number
+    unfolding number readTable
     short n = sym (answer-is ∙ ap (λ (b : Bool). answer b fits (valid f d) past (length (pictureBits f d))) (sym oe ∙ n))
 
     module _ (ot : o ≡ true) (m : ℕ) (me : m ≡ outputLength (sizeOf f)) where
       pub unfit : (length out ≡ m → ⊥) → toldWritten (Refused (refusal Length 0)) ≡ writeOf f d (length out)
-      unfolding number
+      unfolding number readTable
       unfit n = sym (answer-is ∙ (λ i. answer ((sym oe ∙ ot) i) (ne-eqb (length out) (outputLength (sizeOf f)) (λ x. n (x ∙ sym me)) i) (valid f d) past (length (pictureBits f d))))
 
       module _ (mt : length out ≡ m) (v : Bool) (ve : v ≡ valid f d) where
@@ -118,7 +118,7 @@ module _ (f : Format) (head macroblocks levels out : List ℕ) where
         fitting = eq-eqb (length out) (outputLength (sizeOf f)) (mt ∙ me)
 
         pub invalid : v ≡ false → toldWritten (Refused (refusal Invalid 0)) ≡ writeOf f d (length out)
-        unfolding number
+        unfolding number readTable
         invalid n = sym (answer-is ∙ (λ i. answer ((sym oe ∙ ot) i) (fitting i) ((sym ve ∙ n) i) past (length (pictureBits f d))))
 
         module _ (vt : v ≡ true) (c : ℕ) (ce : c ≡ length (pictureBits f d)) (l : ℕ) (le : l ≡ limit (sizeOf f)) where
@@ -133,8 +133,8 @@ module _ (f : Format) (head macroblocks levels out : List ℕ) where
 
           -- what `write_valid` leaves is what a picture of that many bits leaves
           pub above : l < c → (w : Written) (u : List ℕ) → w ≡ Refused (refusal AboveLimit 0) → u ≡ filledWithin f d out → (toldWritten w ≡ writeOf f d (length out)) × (u ≡ outputOf f d out)
-          unfolding number
-          above h w u a e = (ap toldWritten a ∙ sym (on true (is-past h)), e ∙ rw (is-past h) (sym (ap (outputLeft out (pictureBits f d)) (on true (is-past h)) ∙ leaves-refused 32 0)))
+          unfolding number readTable
+          above h w u a e = (ap toldWritten a ∙ sym (on true (is-past h)), e ∙ rw (is-past h) (sym (ap (outputLeft out (pictureBits f d)) (on true (is-past h)) ∙ leaves-refused _)))
 
           pub below : c ≤ l → (u : List ℕ) → u ≡ filledWithin f d out → (toldWritten (Bits c) ≡ writeOf f d (length out)) × (u ≡ outputOf f d out)
           below h u e = (

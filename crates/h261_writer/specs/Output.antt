@@ -6,7 +6,7 @@ use mathlib.Core.List.{List, _++_}
 use lib.Dec.{ltb, eqb}
 use lib.ListN.{length, drop}
 use Rattle.laws.specs.Choice.{pick, both, either}
-use Rattle.refusals.specs.Told.{Told, accepted, refused, byTable}
+use Rattle.refusals.specs.Told.{numbersOf, Told, accepted, refusedBy, refused}
 use Rattle.bits.specs.Bits.{Bit}
 use Rattle.bits.specs.Write.{startedBytes, bytesOf}
 use Rattle.h261_groups.specs.Format.{sizeOf}
@@ -31,7 +31,7 @@ lentLengths f d room = both (either (lengthsOf Qcif d) (lengthsOf Cif d)) (eqb r
 -- ---- what `write` answers: N, or the refusal's number and place
 abbrev pub toldWritten : Written → Told ℕ
 toldWritten (Bits n) = accepted n
-toldWritten (Refused why) = byTable refused why
+toldWritten (Refused why) = refusedBy (numbersOf why)
 
 -- nothing of the answer is lost by that
 abbrev pub WrittenToldOnce : Type 0
@@ -57,7 +57,7 @@ filledWithin f d out = pick (ltb (limit (sizeOf f)) (length (pictureBits f d))) 
 -- a refusal touches nothing at all
 unfoldable pub outputLeft : List ℕ → List Bit → Told ℕ → List ℕ
 outputLeft out bits (accepted n) = filledOutput out bits
-outputLeft out bits (refused n place) = out
+outputLeft out bits (refusedBy numbers) = out
 
 abbrev pub outputOf : Format → Flat → List ℕ → List ℕ
 outputOf f d out = outputLeft out (pictureBits f d) (writeOf f d (length out))

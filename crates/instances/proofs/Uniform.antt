@@ -11,7 +11,7 @@ use lib.ListN.{length, replicate, take, drop, length-append}
 use lib.Seq.{take-at, drop-at}
 use Rattle.laws.specs.Choice.{both}
 use Rattle.laws.proofs.Choice.{both-make, true-T}
-use Rattle.bits.specs.Code.{wordOf}
+use Rattle.bits.specs.Code.{wordIn}
 use Rattle.h261_words.specs.Tables.{table1, table2, pairs, laterTable5}
 use Rattle.h261_words.specs.Words.{tcoeffOf}
 use Rattle.h261_groups.specs.declared.Format.{Format}
@@ -148,7 +148,7 @@ none-sent (suc k) address levels more = none-sent k (address + 1) (drop 384 leve
 -- ---- INTRA macroblocks: MBA 1 is one bit, MTYPE four
 one-long : (a : ℕ) (before vector : Vector) (blocks : List Block)
     → length (macroblockOf (record { address = a; vector = before }) (record { address = a + 1; type = 1; quant = 0; vector = vector; blocks = blocks })) ≡ length (blocksOf true blocks) + 5
-unfolding macroblockOf wordOf table1 table2
+unfolding macroblockOf wordIn table1 table2
 one-long a before vector blocks = let step : a + 1 - a ≡ 1 = omega arith in rw step (omega arith)
 
 module _ (levels : List ℕ) (six : length levels ≡ 384) (bits : ℕ) (each : (rest : List ℕ) → length (blocksOf true (gathers 6 (levels ++ rest))) ≡ bits) where
@@ -203,7 +203,7 @@ grey-good one f number address = tt
 grey-good two f number address = tt
 
 grey-blocks : (c : Code) (rest : List ℕ) → length (blocksOf true (gathers 6 (greyLevels (codeOf c) ++ rest))) ≡ 60
-unfolding repeated gathers gather blocksOf coefficientsOf wordOf laterTable5
+unfolding repeated gathers gather blocksOf coefficientsOf wordIn laterTable5
 grey-blocks one rest = refl
 grey-blocks two rest = refl
 
@@ -226,7 +226,7 @@ heavy-good f number address = tt
 
 -- in each of six blocks 8 bits of a DC code, 63 escapes of 20, and EOB
 heavy-blocks : (rest : List ℕ) → length (blocksOf true (gathers 6 (heavyLevels ++ rest))) ≡ 7620
-unfolding gathers gather blocksOf coefficientsOf tcoeffOf wordOf pairs laterTable5
+unfolding gathers gather blocksOf coefficientsOf tcoeffOf wordIn pairs laterTable5
 heavy-blocks rest = refl
 
 pub heavy-valid : (f : Format) → T (valid f (heavy f))

@@ -69,13 +69,13 @@ placeText word n part = word ++ decimal n ++ dot ++ decimal part
 unfoldable pub pictureText : ℕ → List ℕ
 pictureText n = pictureWord ++ decimal n ++ tickWord ++ decimal (tickOf n)
 
--- "taken 0.0", "picture 0 tick 0", "old 0.0", "lost", "refused 21", "refused 8 at 311"
+-- "taken 0.0", "picture 0 tick 0", "old 0.0", "lost", "refused 21", "refused 8 at 311 table 5"
 unfoldable pub textOf : Said → List ℕ
 textOf (old n part) = placeText oldWord n part
 textOf (taken n part) = placeText takenWord n part
 textOf lost = lostWord
 textOf (picture n) = pictureText n
-textOf (refused number place) = refusalText number place
+textOf (refused numbers) = refusalText numbers
 
 -- a line for block n
 unfoldable pub lineText : ℕ → Answer → List ℕ

@@ -3,7 +3,7 @@ use Prim.Native.Nat.{ℕ}
 use mathlib.Core.List.{List, _++_}
 use Rattle.laws.specs.Choice.{pick}
 use Rattle.refusals.specs.declared.Refusal.{Refusal}
-use Rattle.refusals.specs.Told.{Told, accepted, refused}
+use Rattle.refusals.specs.Told.{Told, accepted, refusedBy, refused}
 use Rattle.coding.specs.declared.Kind.{Kind}
 use Rattle.coding.specs.Kind.{kindSize, codingOf}
 use Rattle.vault.specs.Block.{checkOf}
@@ -22,7 +22,7 @@ use Rattle.listing.specs.declared.Clip.the-variants as K
 -- "takes the first block without 21 or 22 as the clip"
 unfoldable pub openedBy : Kind → Told Header → Told Receiver
 openedBy kind (accepted header) = openedReceiver (header .clip) kind
-openedBy kind (refused n place) = refused n place
+openedBy kind (refusedBy numbers) = refusedBy numbers
 
 unfoldable pub foundBy : Kind → List ℕ → Told Receiver
 foundBy kind block = openedBy kind (checkOf (kindSize kind) block)
@@ -47,7 +47,7 @@ stepped o = record { answer = o .gave .answer; next = K.Known (o .gave .next); l
 -- "A refusal changes no buffer and no state": no clip is known by it
 unfoldable pub byOpened : Told Receiver → List ℕ → Buffers → Came
 byOpened (accepted r) block b = stepped (step codingOf r block b)
-byOpened (refused n place) block b = record { answer = A.refused n place; next = K.Unknown; left = b }
+byOpened (refusedBy numbers) block b = record { answer = A.refused numbers; next = K.Unknown; left = b }
 
 -- "Blocks: 1, 21, 22, 23": of the lent buffers' lengths 1 comes first
 unfoldable pub listed : Kind → Clip → List ℕ → Buffers → Came

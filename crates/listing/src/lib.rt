@@ -131,10 +131,10 @@ fn put_picture(picture: u32, at: usize, out: &mut [u8]) -> usize
     text::put_number(tick_of(picture) as u64, ticking, out)
 }
 
-// " taken 3.1", " picture 3 tick 3", " refused 21".
+// " taken 3.1", " picture 3 tick 3", " refused 21", " refused 8 at 311 table 5".
 pub fn put_answer(answer: Answer, at: usize, out: &mut [u8]) -> usize
-    requires { ⌜ at + 60 ≤ length (now out) ⌝ }
-    ensures { λ r. ⌜ r ≤ at + 60 ⌝ }
+    requires { ⌜ at + 80 ≤ length (now out) ⌝ }
+    ensures { λ r. ⌜ r ≤ at + 80 ⌝ }
     ensures { λ r. ⌜ Puts (textOf (said answer)) at (now (out .entry)) (now (out .exit)) r ⌝ }
 {
     match answer {

@@ -9,7 +9,7 @@ use lib.Dec.{eqb}
 use lib.ListN.{length}
 use Rattle.laws.specs.Choice.{pick, alike}
 use Rattle.laws.proofs.Choice.{two-of}
-use Rattle.refusals.specs.Told.{Told, accepted, refused}
+use Rattle.refusals.specs.Told.{untabled, Told, accepted, refusedBy}
 use Rattle.size.specs.declared.Size.{Size}
 use Rattle.size.specs.declared.Size.the-variants.{SubQcif, Qcif, Cif}
 use Rattle.size.specs.Size.{storeLength, collectionLength}
@@ -55,9 +55,9 @@ module _ {D : Type 0} (coding : Kind → Coding D) where
   pub ended-collects : (r : Receiver) (header : Header) (block collection : List ℕ) (found : Told D)
       → collectionAfter block collection (endedPicture coding r header found) ≡ placedPayload block (header .part) collection
   unfolding endedPicture
-  ended-collects r header block collection (refused n place) = refl
+  ended-collects r header block collection (refusedBy numbers) = refl
   ended-collects r header block collection (accepted d) = either-way (alike (coding (r .kind) .refresh d) (markOf (r .progress) header))
     where
-      either-way : (b : Bool) → collectionAfter block collection (pick b (finished header d) (failed header 24 0)) ≡ placedPayload block (header .part) collection
+      either-way : (b : Bool) → collectionAfter block collection (pick b (finished header d) (failed header (untabled 24 0))) ≡ placedPayload block (header .part) collection
       either-way true = refl
       either-way false = refl

@@ -1,4 +1,4 @@
--- Telling a refusal by its number and its place loses nothing of it: each number of the table is one reason's. Assumes nothing.
+-- Telling a refusal by its numbers loses nothing of it: each number of the table is one reason's, and 8 with a table's number one table's. Assumes nothing.
 use Prim.Native.Nat.{ℕ}
 use mathlib.Core.Path.{_≡_, refl, sym, ap, _∙_}
 use mathlib.Core.List.{List, [], _∷_}
@@ -6,26 +6,40 @@ use lib.ListN.{getD}
 use native.Mathlib.Omega.{arith}
 use Rattle.refusals.specs.declared.Reason.{Reason}
 use Rattle.refusals.specs.declared.Reason.the-variants.{Length, Count, BitsEnd, NoStartCode, OtherFormat, OtherGroup, QuantiserZero, NoCodeword, AddressPast, Forbidden, CoefficientPast, VectorOut, StartCodeLast, BlockCheck, BlockField, OtherClip, UntrueMark, Invalid, AboveLimit, NotRefresh, AllSent, NoLock}
+use Rattle.refusals.specs.declared.Table.{Table}
+use Rattle.refusals.specs.declared.Table.the-variants.{Mba, Mtype, Mvd, Cbp, Tcoeff}
 use Rattle.refusals.specs.declared.Refusal.{Refusal}
 use Rattle.refusals.specs.declared.Verdict.{Verdict}
 use Rattle.refusals.specs.declared.Verdict.the-variants.{Accepted, Refused}
-use Rattle.refusals.specs.Number.{number, refusal}
-use Rattle.refusals.specs.Told.{Told, accepted, refused, toldVerdict, verdictOn, foundOr, NumberOnce, RefusalToldOnce, VerdictToldOnce}
+use Rattle.refusals.specs.Number.{number, tableNumber, readTable, refusal}
+use Rattle.refusals.specs.Told.{Numbers, numbersOf, Told, accepted, refusedBy, toldVerdict, verdictOn, foundOr, NumbersOnce, RefusalToldOnce, VerdictToldOnce}
+
+-- ---- the table of a number: 1 to 5
+abbrev tableNamed : ℕ → Table
+tableNamed n = getD (Mba ∷ Mba ∷ Mtype ∷ Mvd ∷ Cbp ∷ Tcoeff ∷ []) n Mba
+
+table-back : (table : Table) → tableNamed (tableNumber table) ≡ table
+unfolding tableNumber
+table-back Mba = refl
+table-back Mtype = refl
+table-back Mvd = refl
+table-back Cbp = refl
+table-back Tcoeff = refl
 
 -- ---- the reason of a number: 1 to 13, 21 to 24, 31 to 34, 44
-byNumber : List Reason
-byNumber =
-    Length ∷ Length ∷ Count ∷ BitsEnd ∷ NoStartCode ∷ OtherFormat ∷ OtherGroup ∷ QuantiserZero ∷ NoCodeword ∷ AddressPast
+abbrev byNumber : ℕ → List Reason
+byNumber table =
+    Length ∷ Length ∷ Count ∷ BitsEnd ∷ NoStartCode ∷ OtherFormat ∷ OtherGroup ∷ QuantiserZero ∷ NoCodeword (tableNamed table) ∷ AddressPast
     ∷ Forbidden ∷ CoefficientPast ∷ VectorOut ∷ StartCodeLast ∷ Length ∷ Length ∷ Length ∷ Length ∷ Length ∷ Length
     ∷ Length ∷ BlockCheck ∷ BlockField ∷ OtherClip ∷ UntrueMark ∷ Length ∷ Length ∷ Length ∷ Length ∷ Length
     ∷ Length ∷ Invalid ∷ AboveLimit ∷ NotRefresh ∷ AllSent ∷ Length ∷ Length ∷ Length ∷ Length ∷ Length
     ∷ Length ∷ Length ∷ Length ∷ Length ∷ NoLock ∷ []
 
-reasonOf : ℕ → Reason
-reasonOf n = getD byNumber n Length
+unfoldable pub reasonOf : ℕ → ℕ → Reason
+reasonOf n table = getD (byNumber table) n Length
 
-reason-back : (r : Reason) → reasonOf (number r) ≡ r
-unfolding number byNumber reasonOf
+reason-back : (r : Reason) → reasonOf (number r) (readTable r) ≡ r
+unfolding number readTable reasonOf
 reason-back Length = refl
 reason-back Count = refl
 reason-back BitsEnd = refl
@@ -33,7 +47,7 @@ reason-back NoStartCode = refl
 reason-back OtherFormat = refl
 reason-back OtherGroup = refl
 reason-back QuantiserZero = refl
-reason-back NoCodeword = refl
+reason-back (NoCodeword table) = ap NoCodeword (table-back table)
 reason-back AddressPast = refl
 reason-back Forbidden = refl
 reason-back CoefficientPast = refl
@@ -49,31 +63,44 @@ reason-back NotRefresh = refl
 reason-back AllSent = refl
 reason-back NoLock = refl
 
-pub number-once : NumberOnce
-number-once a b e = sym (reason-back a) ∙ ap reasonOf e ∙ reason-back b
+pub numbers-once : NumbersOnce
+numbers-once a b n t = sym (reason-back a) ∙ (λ i. reasonOf (n i) (t i)) ∙ reason-back b
 
-pub refusal-told-once : RefusalToldOnce
-refusal-told-once a b n p = let r : a .reason ≡ b .reason = number-once (a .reason) (b .reason) n in λ i. record { reason = r i; place = p i }
+-- the reason of a number: one, whatever its table, unless that is 8
+pub reason-numbered : (reason : Reason) (n : ℕ) → number reason ≡ n → reason ≡ reasonOf n (readTable reason)
+reason-numbered reason n e = sym (reason-back reason) ∙ ap (λ (n : ℕ). reasonOf n (readTable reason)) e
 
--- a refusal, back from its number and its place
-pub refusalOf : ℕ → ℕ → Refusal
-refusalOf n place = refusal (reasonOf n) place
+-- a refusal, back from its numbers
+pub refusalOf : Numbers → Refusal
+refusalOf numbers = refusal (reasonOf (numbers .number) (numbers .table)) (numbers .place)
 
-pub refusal-back : (why : Refusal) → refusalOf (number (why .reason)) (why .place) ≡ why
+pub refusal-back : (why : Refusal) → refusalOf (numbersOf why) ≡ why
 unfolding refusalOf
 refusal-back why = λ i. record { reason = reason-back (why .reason) i; place = why .place }
 
+pub refusal-told-once : RefusalToldOnce
+refusal-told-once a b e = sym (refusal-back a) ∙ ap refusalOf e ∙ refusal-back b
+
 -- ---- of any answer
+-- the numbers that an answer is refused by, or these
+numbersIn : {A : Type 0} → Numbers → Told A → Numbers
+numbersIn other (accepted a) = other
+numbersIn other (refusedBy numbers) = numbers
+
 module _ {A : Type 0} where
   -- what is told as a refusal is told so of one refusal alone
-  pub refused-once : (a b : Refusal) → _≡_ {A = Told A} (refused (number (a .reason)) (a .place)) (refused (number (b .reason)) (b .place)) → a ≡ b
-  refused-once a b e = refusal-told-once a b (cc) (cc)
+  pub same-numbers : {a b : Numbers} → _≡_ {A = Told A} (refusedBy a) (refusedBy b) → a ≡ b
+  unfolding numbersIn
+  same-numbers {a} e = ap (numbersIn a) e
+
+  pub refused-once : (a b : Refusal) → _≡_ {A = Told A} (refusedBy (numbersOf a)) (refusedBy (numbersOf b)) → a ≡ b
+  refused-once a b e = refusal-told-once a b (same-numbers e)
 
   pub accepted-once : {a b : A} → accepted a ≡ accepted b → a ≡ b
   accepted-once e = cc
 
   -- and never as given
-  pub told-apart : {a : A} {n place : ℕ} → accepted a ≡ refused n place → ⊥
+  pub told-apart : {a : A} {numbers : Numbers} → accepted a ≡ refusedBy numbers → ⊥
   told-apart e = let z : _≡_ {A = ℕ} 0 1 = cc in omega arith
 
 -- ---- a verdict
@@ -90,11 +117,11 @@ module _ {A : Type 0} {verdict : Verdict} {left : A} (before : A) (x : Told A) (
     where
       given : (x : Told A) → accepted tt ≡ verdictOn x → left ≡ foundOr before x → x ≡ accepted left
       given (accepted a) w b = ap accepted (sym b)
-      given (refused n place) w b = absurd (told-apart w)
+      given (refusedBy numbers) w b = absurd (told-apart w)
 
-  pub was-refused : {why : Refusal} → verdict ≡ Refused why → x ≡ refused (number (why .reason)) (why .place)
+  pub was-refused : {why : Refusal} → verdict ≡ Refused why → x ≡ refusedBy (numbersOf why)
   was-refused {why} e = kept x (sym (ap toldVerdict e) ∙ v)
     where
-      kept : (x : Told A) → refused (number (why .reason)) (why .place) ≡ verdictOn x → x ≡ refused (number (why .reason)) (why .place)
+      kept : (x : Told A) → refusedBy (numbersOf why) ≡ verdictOn x → x ≡ refusedBy (numbersOf why)
       kept (accepted a) w = absurd (told-apart (sym w))
-      kept (refused n place) w = let m : n ≡ number (why .reason) = cc in let p : place ≡ why .place = cc in λ i. refused (m i) (p i)
+      kept (refusedBy numbers) w = ap refusedBy (sym (same-numbers w))

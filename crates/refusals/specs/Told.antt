@@ -6,38 +6,50 @@ use Rattle.refusals.specs.declared.Reason.{Reason}
 use Rattle.refusals.specs.declared.Refusal.{Refusal}
 use Rattle.refusals.specs.declared.Verdict.{Verdict}
 use Rattle.refusals.specs.declared.Verdict.the-variants.{Accepted, Refused}
-use Rattle.refusals.specs.Number.{number}
+use Rattle.refusals.specs.Number.{number, readTable}
 
--- what was asked is given, with its values; or the refusal's number and bit place
+-- a refusal in numbers: its own in the table of refusals, its bit place, and the table of codewords that was being read
+pub record Numbers : Type 0 where
+  pub number : ℕ
+  pub place : ℕ
+  pub table : ℕ
+
+abbrev pub numbersOf : Refusal → Numbers
+numbersOf why = record { number = number (why .reason); place = why .place; table = readTable (why .reason) }
+
+-- what carries table 0
+abbrev pub untabled : ℕ → ℕ → Numbers
+untabled n place = record { number = n; place = place; table = 0 }
+
+-- what was asked is given, with its values; or it is refused, by these numbers
 pub data Told (A : Type 0) : Type 0 where
   accepted : A → Told A
-  refused : ℕ → ℕ → Told A
+  refusedBy : Numbers → Told A
 
--- what a refusal is told as: its number in the table, and its place
-abbrev pub byTable : {B : Type 0} → (ℕ → ℕ → B) → Refusal → B
-byTable to why = to (number (why .reason)) (why .place)
+abbrev pub refused : {A : Type 0} → ℕ → ℕ → Told A
+refused n place = refusedBy (untabled n place)
 
 -- ---- a verdict: its acceptance has no value
 abbrev pub toldVerdict : Verdict → Told (Unit {0})
 toldVerdict Accepted = accepted tt
-toldVerdict (Refused why) = byTable refused why
+toldVerdict (Refused why) = refusedBy (numbersOf why)
 
 -- the verdict alone, without what is given
 abbrev pub verdictOn : {A : Type 0} → Told A → Told (Unit {0})
 verdictOn (accepted a) = accepted tt
-verdictOn (refused n place) = refused n place
+verdictOn (refusedBy numbers) = refusedBy numbers
 
 -- what is given, or what was there before: "A refusal changes no buffer"
 abbrev pub foundOr : {A : Type 0} → A → Told A → A
 foundOr before (accepted a) = a
-foundOr before (refused n place) = before
+foundOr before (refusedBy numbers) = before
 
 -- ---- nothing is lost by that
-abbrev pub NumberOnce : Type 0
-NumberOnce = (a b : Reason) → number a ≡ number b → a ≡ b
+abbrev pub NumbersOnce : Type 0
+NumbersOnce = (a b : Reason) → number a ≡ number b → readTable a ≡ readTable b → a ≡ b
 
 abbrev pub RefusalToldOnce : Type 0
-RefusalToldOnce = (a b : Refusal) → number (a .reason) ≡ number (b .reason) → a .place ≡ b .place → a ≡ b
+RefusalToldOnce = (a b : Refusal) → numbersOf a ≡ numbersOf b → a ≡ b
 
 abbrev pub VerdictToldOnce : Type 0
 VerdictToldOnce = (a b : Verdict) → toldVerdict a ≡ toldVerdict b → a ≡ b

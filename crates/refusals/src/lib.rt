@@ -1,6 +1,15 @@
 // Document 01's table of refusals: each reason by name, and the refusal with its bit place. A refusal is passed on unopened.
 ghost use mathlib.Core.Path.{_≡_};
-ghost use Rattle.refusals.specs.Number.{number};
+ghost use Rattle.refusals.specs.Number.{number, tableNumber, readTable};
+
+// The table of codewords that was being read: H.261's Tables 1 to 5.
+pub enum Table {
+    Mba,
+    Mtype,
+    Mvd,
+    Cbp,
+    Tcoeff,
+}
 
 pub enum Reason {
     Length,
@@ -10,7 +19,7 @@ pub enum Reason {
     OtherFormat,
     OtherGroup,
     QuantiserZero,
-    NoCodeword,
+    NoCodeword(Table),
     AddressPast,
     Forbidden,
     CoefficientPast,
@@ -50,7 +59,7 @@ pub fn number_of(reason: Reason) -> u32
         Reason::OtherFormat => 5,
         Reason::OtherGroup => 6,
         Reason::QuantiserZero => 7,
-        Reason::NoCodeword => 8,
+        Reason::NoCodeword(_) => 8,
         Reason::AddressPast => 9,
         Reason::Forbidden => 10,
         Reason::CoefficientPast => 11,
@@ -65,5 +74,28 @@ pub fn number_of(reason: Reason) -> u32
         Reason::NotRefresh => 33,
         Reason::AllSent => 34,
         Reason::NoLock => 44,
+    }
+}
+
+// A table's number.
+fn table_number(table: Table) -> u32
+    ensures { λ r. ⌜ r ≡ tableNumber table ⌝ }
+{
+    match table {
+        Table::Mba => 1,
+        Table::Mtype => 2,
+        Table::Mvd => 3,
+        Table::Cbp => 4,
+        Table::Tcoeff => 5,
+    }
+}
+
+// The table that a refusal carries: "Other refusals carry table 0."
+pub fn table_of(reason: Reason) -> u32
+    ensures { λ r. ⌜ r ≡ readTable reason ⌝ }
+{
+    match reason {
+        Reason::NoCodeword(table) => table_number(table),
+        _ => 0,
     }
 }

@@ -6,7 +6,7 @@ use Rattle.coding.specs.declared.Kind.{Kind}
 use Rattle.coding.specs.Coding.{Coding}
 use Rattle.standing.specs.Stores.{Stores}
 use Rattle.sender.specs.declared.Sender.{Sender}
-use Rattle.refusals.specs.Told.{Told, accepted, refused}
+use Rattle.refusals.specs.Told.{Told, accepted, refusedBy}
 use Rattle.sender.specs.Send.{Outcome, step}
 
 -- a call: a description, and what the lent output holds before it
@@ -27,7 +27,7 @@ cut (suc n) out = take 512 out ∷ cut n (drop 512 out)
 -- the blocks that a call wrote: a refused one adds none
 abbrev pub blocksAdded : Told ℕ → List ℕ → List (List ℕ)
 blocksAdded (accepted n) out = cut n out
-blocksAdded (refused n place) out = []
+blocksAdded (refusedBy numbers) out = []
 
 module _ {D : Type 0} (coding : Kind → Coding D) where
   unfoldable pub callOutcome : World → Call D → Outcome

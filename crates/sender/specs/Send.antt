@@ -8,7 +8,7 @@ use lib.Dec.{eqb, leb, ltb}
 use lib.ListN.{length, drop}
 use denote.Ref.{RefT}
 use Rattle.laws.specs.Choice.{pick, both, either, opposite}
-use Rattle.refusals.specs.Told.{Told, accepted, refused, byTable}
+use Rattle.refusals.specs.Told.{numbersOf, Told, accepted, refusedBy, refused}
 use Rattle.size.specs.declared.Size.{Size}
 use Rattle.size.specs.Size.{limit, blocksLength}
 use Rattle.coding.specs.declared.Kind.{Kind}
@@ -36,7 +36,7 @@ openedSender clip kind = pick (eqb clip 0) (refused 22 0) (accepted (freshSender
 -- a sender, or the refusal's number and place
 abbrev pub toldOpened : Opened → Told Sender
 toldOpened (O.Open sender) = accepted sender
-toldOpened (O.Refused why) = byTable refused why
+toldOpened (O.Refused why) = refusedBy (numbersOf why)
 
 -- ---- the lent buffers but the description
 pub record Buffers : Type 0 where
@@ -58,7 +58,7 @@ pub data Judgement : Type 0 where
 -- how many blocks were written, or the refusal's number and place
 abbrev pub toldAnswer : Answer → Told ℕ
 toldAnswer (A.Blocks n) = accepted n
-toldAnswer (A.Refused why) = byTable refused why
+toldAnswer (A.Refused why) = refusedBy (numbersOf why)
 
 -- with the state that a call gives back
 pub record Reply : Type 0 where

@@ -8,8 +8,8 @@ ghost use Prim.Native.Nat.{_<_};
 ghost use lib.Dec.{eqb};
 ghost use lib.ListN.{length};
 ghost use Rattle.laws.specs.Choice.{both, either, opposite};
-ghost use Rattle.refusals.specs.Number.{number};
-ghost use Rattle.refusals.specs.Told.{refused};
+ghost use Rattle.refusals.specs.Number.{refusal};
+ghost use Rattle.refusals.specs.Told.{numbersOf, refusedBy};
 ghost use Rattle.size.specs.Size.{outputLength};
 ghost use Rattle.layout.specs.Flat.{flat};
 ghost use Rattle.coding.specs.Kind.{kindSize, codingOf};
@@ -94,7 +94,7 @@ fn begins(picture: u32, refresh: bool) -> bool
 }
 
 fn refused(sender: Sender, reason: Reason) -> Sent
-    ensures { λ r. ⌜ toldSent r ≡ reply (refused (number reason) 0) sender ⌝ }
+    ensures { λ r. ⌜ toldSent r ≡ reply (refusedBy (numbersOf (refusal reason 0))) sender ⌝ }
 {
     Sent {
         answer: Answer::Refused(Refusal { reason, place: 0 }),

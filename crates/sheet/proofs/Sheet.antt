@@ -5,7 +5,7 @@ use mathlib.Core.List.{List, [], _∷_}
 use native.Mathlib.Omega.{arith}
 use Rattle.laws.specs.Floor.{floorDivided}
 use Rattle.laws.specs.Sum.{sumZ}
-use Rattle.refusals.specs.Number.{number}
+use Rattle.refusals.specs.Number.{number, readTable}
 use Rattle.bits.specs.Bits.{bitsIn}
 use Rattle.bits.specs.Read.{fieldFrom}
 use Rattle.bits.specs.Code.{longer, lookup, word}
@@ -33,11 +33,11 @@ unfolding pictureOf groupsOf groupOf macroblocksOf bytesOf byteFrom bitsIn field
 picture-1 = (refl, refl, refl, λ reference e. nothing-same Qcif (laidPicture Qcif picture1) reference tt e)
 
 picture-2 : says P2
-unfolding pictureOf groupsOf groupOf macroblocksOf bytesOf byteFrom bitsIn fieldFrom longer lookup word table1 sparesFrom spares mba macroblocksFrom groupHead group groupsRead header picture reading number
+unfolding pictureOf groupsOf groupOf macroblocksOf bytesOf byteFrom bitsIn fieldFrom longer lookup word table1 sparesFrom spares mba macroblocksFrom groupHead group groupsRead header picture reading number readTable
 picture-2 = refl
 
 vector-12 : says P12
-unfolding componentRead longer lookup word table3 number
+unfolding componentRead longer lookup word table3 number readTable
 vector-12 = λ place. refl
 
 chroma-11 : says P11

@@ -18,7 +18,7 @@ answerOf (old n part) = A.Old n part
 answerOf (taken n part) = A.Taken n part
 answerOf lost = A.Lost
 answerOf (picture n) = A.Picture n
-answerOf (refused n place) = A.Refused (refusalOf n place)
+answerOf (refused numbers) = A.Refused (refusalOf numbers)
 
 answer-back : (a : Answer) → answerOf (said a) ≡ a
 unfolding answerOf

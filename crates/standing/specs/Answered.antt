@@ -1,7 +1,7 @@
--- What document 01 calls each answer, with its values ("0 taken 0.0", "1 picture 0 tick 0", "n lost", "n refused 8 at 311"). Assumes nothing.
+-- What document 01 calls each answer, with its values ("0 taken 0.0", "1 picture 0 tick 0", "n lost", "n refused 8 at 311 table 5"). Assumes nothing.
 use Prim.Native.Nat.{ℕ}
 use mathlib.Core.Path.{_≡_}
-use Rattle.refusals.specs.Told.{Told, accepted, byTable, refused as unopened}
+use Rattle.refusals.specs.Told.{Numbers, numbersOf, Told, accepted, refusedBy}
 use Rattle.standing.specs.declared.Receiver.{Receiver}
 use Rattle.standing.specs.declared.Opened.{Opened}
 use Rattle.standing.specs.declared.Answer.{Answer}
@@ -9,10 +9,10 @@ use Rattle.standing.specs.declared.Received.{Received}
 use Rattle.standing.specs.declared.Opened.the-variants as O
 use Rattle.standing.specs.declared.Answer.the-variants as A
 
--- ---- opening: a receiver, or the refusal's number and place
+-- ---- opening: a receiver, or the refusal's numbers
 abbrev pub toldOpened : Opened → Told Receiver
 toldOpened (O.Open receiver) = accepted receiver
-toldOpened (O.Refused why) = byTable unopened why
+toldOpened (O.Refused why) = refusedBy (numbersOf why)
 
 -- ---- a block
 pub data Said : Type 0 where
@@ -22,15 +22,15 @@ pub data Said : Type 0 where
   lost : Said
   -- the picture's number
   picture : ℕ → Said
-  -- the refusal's number, and its place
-  refused : ℕ → ℕ → Said
+  -- the refusal's numbers
+  refused : Numbers → Said
 
 abbrev pub said : Answer → Said
 said (A.Old n part) = old n part
 said (A.Taken n part) = taken n part
 said A.Lost = lost
 said (A.Picture n) = picture n
-said (A.Refused why) = byTable refused why
+said (A.Refused why) = refused (numbersOf why)
 
 -- with the state that a call gives back
 pub record Reply : Type 0 where

@@ -5,7 +5,7 @@ use mathlib.Core.Path.{_≡_}
 use mathlib.Core.Bool.{true}
 use mathlib.Core.List.{List}
 use Rattle.laws.specs.Choice.{pick}
-use Rattle.refusals.specs.Told.{Told, accepted, refused}
+use Rattle.refusals.specs.Told.{untabled, Told, accepted, refused}
 use Rattle.coding.specs.declared.Kind.{Kind}
 use Rattle.coding.specs.Coding.{Coding}
 use Rattle.coding.specs.Kind.{kindSize}
@@ -33,4 +33,4 @@ EarlierReceivedAlike = (D : Type 0) (coding : Kind → Coding D) (r : Receiver) 
 abbrev pub LaterIgnoredBefore : Type 1
 LaterIgnoredBefore = (D : Type 0) (coding : Kind → Coding D) (r : Receiver) (block : List ℕ) (b : Buffers) (header : Header) → lentLengths (kindSize (r .kind)) b ≡ true
     → checkOf (kindSize (r .kind)) block ≡ accepted header → picturesBefore ≤ header .picture
-    → stepBefore coding r block b ≡ record { gave = reply (A.refused 22 0) r; left = b }
+    → stepBefore coding r block b ≡ record { gave = reply (A.refused (untabled 22 0)) r; left = b }

@@ -5,7 +5,7 @@ use mathlib.Core.List.{List}
 use lib.Dec.{eqb, ltb}
 use lib.ListN.{length}
 use Rattle.laws.specs.Choice.{pick, both, either, opposite, alike}
-use Rattle.refusals.specs.Told.{Told, accepted, refused}
+use Rattle.refusals.specs.Told.{Numbers, untabled, Told, accepted, refusedBy, refused}
 use Rattle.size.specs.declared.Size.{Size}
 use Rattle.size.specs.Size.{collectionLength}
 use Rattle.coding.specs.declared.Kind.{Kind}
@@ -72,13 +72,13 @@ lineOf p header =
     -- "3. Part 0 with refresh"; "4. Otherwise"
     (pick (both (eqb (header .part) 0) (header .refresh)) Anew Otherwise))
 
--- ---- what a block comes to. A refusal is its number and its place; a finished picture is its header, which has its number and N (`countOf`), and its description
+-- ---- what a block comes to. A refusal is its numbers; a finished picture is its header, which has its number and N (`countOf`), and its description
 pub data Event (D : Type 0) : Type 0 where
-  refusing : ℕ → ℕ → Event D
+  refusing : Numbers → Event D
   old : Header → Event D
   taken : Header → Standing → Event D
   lost : Event D
-  failed : Header → ℕ → ℕ → Event D
+  failed : Header → Numbers → Event D
   finished : Header → D → Event D
 
 -- N, by the last part: all parts before it have 4000 bits
@@ -111,8 +111,8 @@ judgedBlock r block b = pick (lentLengths (kindSize (r .kind)) b) (judgeOf (kind
 module _ {D : Type 0} (coding : Kind → Coding D) where
   -- "A last part is read at once". Refusal 24: "accepted picture, untrue refresh mark"
   unfoldable pub endedPicture : Receiver → Header → Told D → Event D
-  endedPicture r header (accepted d) = pick (alike (coding (r .kind) .refresh d) (markOf (r .progress) header)) (finished header d) (failed header 24 0)
-  endedPicture r header (refused n place) = failed header n place
+  endedPicture r header (accepted d) = pick (alike (coding (r .kind) .refresh d) (markOf (r .progress) header)) (finished header d) (failed header (untabled 24 0))
+  endedPicture r header (refusedBy numbers) = failed header numbers
 
   -- a block that is taken, into this collection, while the receiver stands so
   unfoldable pub tookOf : Receiver → Header → Standing → List ℕ → Event D
@@ -128,7 +128,7 @@ module _ {D : Type 0} (coding : Kind → Coding D) where
 
   unfoldable pub byJudgement : Told Header → Receiver → List ℕ → List ℕ → Event D
   byJudgement (accepted header) r block collection = byLine (lineOf (r .progress) header) r header block collection
-  byJudgement (refused n place) r block collection = refusing n place
+  byJudgement (refusedBy numbers) r block collection = refusing numbers
 
   unfoldable pub decide : Receiver → List ℕ → Buffers → Event D
   decide r block b = byJudgement (judgedBlock r block b) r block (b .collection)
@@ -165,39 +165,39 @@ finishedReceiver r header = record {
 
 module _ {D : Type 0} where
   abbrev pub advance : Receiver → Event D → Receiver
-  advance r (refusing n place) = r
+  advance r (refusing numbers) = r
   advance r (old header) = r
   advance r (taken header standing) = withProgress r (takenProgress (r .progress) header standing)
   advance r lost = withProgress r (lostProgress (r .progress))
-  advance r (failed header n place) = failedReceiver r header
+  advance r (failed header numbers) = failedReceiver r header
   advance r (finished header d) = finishedReceiver r header
 
   -- ---- the answer
   abbrev pub answerOf : Event D → Said
-  answerOf (refusing n place) = A.refused n place
+  answerOf (refusing numbers) = A.refused numbers
   answerOf (old header) = A.old (header .picture) (header .part)
   answerOf (taken header standing) = A.taken (header .picture) (header .part)
   answerOf lost = A.lost
-  answerOf (failed header n place) = A.refused n place
+  answerOf (failed header numbers) = A.refused numbers
   answerOf (finished header d) = A.picture (header .picture)
 
   -- ---- the lent buffers
   -- "Taken copies 500 payload bytes to 500 times part in the collection buffer"; "a dropped collection's bytes stay as they lie"
   abbrev pub collectionAfter : List ℕ → List ℕ → Event D → List ℕ
-  collectionAfter block collection (refusing n place) = collection
+  collectionAfter block collection (refusing numbers) = collection
   collectionAfter block collection (old header) = collection
   collectionAfter block collection (taken header standing) = placedPayload block (header .part) collection
   collectionAfter block collection lost = collection
-  collectionAfter block collection (failed header n place) = placedPayload block (header .part) collection
+  collectionAfter block collection (failed header numbers) = placedPayload block (header .part) collection
   collectionAfter block collection (finished header d) = placedPayload block (header .part) collection
 
   -- "Old, taken and lost change no store"
   abbrev pub storedBy : (Kind → Coding D) → Receiver → Stores → Event D → Stores
-  storedBy coding r s (refusing n place) = s
+  storedBy coding r s (refusing numbers) = s
   storedBy coding r s (old header) = s
   storedBy coding r s (taken header standing) = s
   storedBy coding r s lost = s
-  storedBy coding r s (failed header n place) = s
+  storedBy coding r s (failed header numbers) = s
   storedBy coding r s (finished header d) = storesWith (r .last .holder) (coding (r .kind) .render d (reference (r .last .holder) s)) s
 
 -- ---- a call: what it gives back and leaves in the buffers

@@ -26,7 +26,7 @@ refusedLength (A.old picture part) = false
 refusedLength (A.taken picture part) = false
 refusedLength A.lost = false
 refusedLength (A.picture picture) = false
-refusedLength (A.refused n place) = eqb n 1
+refusedLength (A.refused numbers) = eqb (numbers .number) 1
 
 abbrev pub holderShown : Reply → Holder
 holderShown x = pick (refusedLength (x .answer)) Neither (whereShown (x .next .progress .standing) (x .next .last .holder))

@@ -9,7 +9,7 @@ ghost use Prim.Native.Nat.{_<_, _≤_};
 ghost use lib.Dec.{eqb};
 ghost use Rattle.laws.specs.Choice.{both, opposite, alike};
 ghost use Rattle.refusals.specs.Number.{number};
-ghost use Rattle.refusals.specs.Told.{byTable};
+ghost use Rattle.refusals.specs.Told.{numbersOf};
 ghost use Rattle.vault.specs.Block.{pictures};
 ghost use Rattle.standing.specs.Answered.{toldOpened, old, taken, lost, picture, refused, said, reply, toldReceived};
 ghost use Rattle.standing.specs.Stores.{storesSized as sizedOf, goesInto, HandsBack};
@@ -313,7 +313,7 @@ fn with_progress(receiver: Receiver, progress: Progress) -> Receiver
 
 // A block that is refused.
 pub fn refuse(receiver: Receiver, why: Refusal) -> Received
-    ensures { λ r. ⌜ toldReceived r ≡ reply (byTable refused why) receiver ⌝ }
+    ensures { λ r. ⌜ toldReceived r ≡ reply (refused (numbersOf why)) receiver ⌝ }
 {
     Received {
         answer: Answer::Refused(why),
@@ -369,7 +369,7 @@ pub fn take(receiver: Receiver, header: Header, standing: Standing) -> Received
 // A last part, whose picture is refused: "refused means lost".
 pub fn fail(receiver: Receiver, header: Header, why: Refusal) -> Received
     requires { ⌜ header .picture < pictures ⌝ }
-    ensures { λ r. ⌜ toldReceived r ≡ reply (byTable refused why) (failedReceiver receiver header) ⌝ }
+    ensures { λ r. ⌜ toldReceived r ≡ reply (refused (numbersOf why)) (failedReceiver receiver header) ⌝ }
 {
     let progress = receiver.progress;
     let onward = next_picture(progress, header, Standing::Lost);

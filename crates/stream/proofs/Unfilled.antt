@@ -10,8 +10,8 @@ use Rattle.laws.specs.Choice.{pick, both}
 use Rattle.laws.proofs.Choice.{second-no}
 use Rattle.refusals.specs.declared.Refusal.{Refusal}
 use Rattle.refusals.specs.Number.{number}
-use Rattle.refusals.specs.Told.{Told, accepted, refused, verdictOn, foundOr}
-use Rattle.refusals.proofs.Told.{told-apart}
+use Rattle.refusals.specs.Told.{Numbers, Told, accepted, refusedBy, verdictOn, foundOr}
+use Rattle.refusals.proofs.Told.{told-apart, same-numbers}
 use Rattle.h261_groups.specs.declared.Format.{Format}
 use Rattle.layout.specs.Flat.{Flat}
 use Rattle.h261_reader.specs.ReadOf.{readOf}
@@ -41,52 +41,51 @@ Says v before left x = (v ≡ verdictOn x) × (left ≡ foundOr before x)
 
 module _ (f : Format) (bytes : List ℕ) (ones : ℕ) (before : Flat) where
   -- ---- without fill
-  module _ (n place : ℕ) where
+  module _ (numbers : Numbers) where
     abbrev second : Told Flat
-    second = orElse n place (readOf f bytes place before)
+    second = orElse numbers (readOf f bytes (numbers .place) before)
 
-    pub stays : {b : Bool} → b ≡ amongZeros n place ones → b ≡ false → Says (refused n place) before before (unfilled f bytes ones before n place)
+    pub stays : {b : Bool} → b ≡ amongZeros (numbers .number) (numbers .place) ones → b ≡ false → Says (refusedBy numbers) before before (unfilled f bytes ones before numbers)
     unfolding unfilled
     stays e l =
-        let is : refused n place ≡ pick (amongZeros n place ones) second (refused n place) = sym (ap (λ (t : Bool). pick t second (refused n place)) (sym e ∙ l)) in
+        let is : refusedBy numbers ≡ pick (amongZeros (numbers .number) (numbers .place) ones) second (refusedBy numbers) = sym (ap (λ (t : Bool). pick t second (refusedBy numbers)) (sym e ∙ l)) in
         (ap verdictOn is, ap (foundOr before) is)
 
-    tried : {b : Bool} → b ≡ amongZeros n place ones → b ≡ true → second ≡ unfilled f bytes ones before n place
+    tried : {b : Bool} → b ≡ amongZeros (numbers .number) (numbers .place) ones → b ≡ true → second ≡ unfilled f bytes ones before numbers
     unfolding unfilled
-    tried e l = sym (ap (λ (t : Bool). pick t second (refused n place)) (sym e ∙ l))
+    tried e l = sym (ap (λ (t : Bool). pick t second (refusedBy numbers)) (sym e ∙ l))
 
-    whole-is : (x : Told Flat) → accepted tt ≡ verdictOn x → Says (accepted tt) before (foundOr before x) (orElse n place x)
+    whole-is : (x : Told Flat) → accepted tt ≡ verdictOn x → Says (accepted tt) before (foundOr before x) (orElse numbers x)
     whole-is (accepted d) e = (refl, refl)
-    whole-is (refused other elsewhere) e = absurd (told-apart e)
+    whole-is (refusedBy others) e = absurd (told-apart e)
 
-    broken-is : (x : Told Flat) {other elsewhere : ℕ} → refused other elsewhere ≡ verdictOn x → Says (refused n place) before (foundOr before x) (orElse n place x)
+    broken-is : (x : Told Flat) {others : Numbers} → refusedBy others ≡ verdictOn x → Says (refusedBy numbers) before (foundOr before x) (orElse numbers x)
     broken-is (accepted d) e = absurd (told-apart (sym e))
-    broken-is (refused other elsewhere) e = (refl, refl)
+    broken-is (refusedBy others) e = (refl, refl)
 
-    pub whole : {b : Bool} {v : Told (Unit {0})} {left : Flat} → b ≡ amongZeros n place ones → b ≡ true
-        → Says v before left (readOf f bytes place before) → v ≡ accepted tt → Says (accepted tt) before left (unfilled f bytes ones before n place)
+    pub whole : {b : Bool} {v : Told (Unit {0})} {left : Flat} → b ≡ amongZeros (numbers .number) (numbers .place) ones → b ≡ true
+        → Says v before left (readOf f bytes (numbers .place) before) → v ≡ accepted tt → Says (accepted tt) before left (unfilled f bytes ones before numbers)
     whole e l s a =
-        let said = whole-is (readOf f bytes place before) (sym a ∙ s .0) in
+        let said = whole-is (readOf f bytes (numbers .place) before) (sym a ∙ s .0) in
         (said .0 ∙ ap verdictOn (tried e l), s .1 ∙ said .1 ∙ ap (foundOr before) (tried e l))
 
-    pub broken : {b : Bool} {v : Told (Unit {0})} {left : Flat} {other elsewhere : ℕ} → b ≡ amongZeros n place ones → b ≡ true
-        → Says v before left (readOf f bytes place before) → v ≡ refused other elsewhere → Says (refused n place) before left (unfilled f bytes ones before n place)
+    pub broken : {b : Bool} {v : Told (Unit {0})} {left : Flat} {others : Numbers} → b ≡ amongZeros (numbers .number) (numbers .place) ones → b ≡ true
+        → Says v before left (readOf f bytes (numbers .place) before) → v ≡ refusedBy others → Says (refusedBy numbers) before left (unfilled f bytes ones before numbers)
     broken e l s a =
-        let said = broken-is (readOf f bytes place before) (sym a ∙ s .0) in
+        let said = broken-is (readOf f bytes (numbers .place) before) (sym a ∙ s .0) in
         (said .0 ∙ ap verdictOn (tried e l), s .1 ∙ said .1 ∙ ap (foundOr before) (tried e l))
 
   -- ---- all of it
   first-whole : (x : Told Flat) → accepted tt ≡ verdictOn x → Says (accepted tt) before (foundOr before x) (byFirst f bytes ones before x)
   first-whole (accepted d) e = (refl, refl)
-  first-whole (refused other elsewhere) e = absurd (told-apart e)
+  first-whole (refusedBy others) e = absurd (told-apart e)
 
-  first-broken : (x : Told Flat) {n place : ℕ} → refused n place ≡ verdictOn x
-      → (foundOr before x ≡ before) × ((verdictOn (unfilled f bytes ones before n place) ≡ verdictOn (byFirst f bytes ones before x)) × (foundOr before (unfilled f bytes ones before n place) ≡ foundOr before (byFirst f bytes ones before x)))
+  first-broken : (x : Told Flat) {numbers : Numbers} → refusedBy numbers ≡ verdictOn x
+      → (foundOr before x ≡ before) × ((verdictOn (unfilled f bytes ones before numbers) ≡ verdictOn (byFirst f bytes ones before x)) × (foundOr before (unfilled f bytes ones before numbers) ≡ foundOr before (byFirst f bytes ones before x)))
   first-broken (accepted d) e = absurd (told-apart (sym e))
-  first-broken (refused m elsewhere) {n} {place} e =
-      let same : n ≡ m = cc in
-      let there : place ≡ elsewhere = cc in
-      (refl, ((λ i. verdictOn (unfilled f bytes ones before (same i) (there i))), (λ i. foundOr before (unfilled f bytes ones before (same i) (there i)))))
+  first-broken (refusedBy others) {numbers} e =
+      let same : numbers ≡ others = same-numbers e in
+      (refl, (ap (λ (x : Numbers). verdictOn (unfilled f bytes ones before x)) same, ap (λ (x : Numbers). foundOr before (unfilled f bytes ones before x)) same))
 
   module _ (count : ℕ) {k : ℕ} (c : k ≡ countOf f count ones) {v : Told (Unit {0})} {left : Flat} (s : Says v before left (readOf f bytes k before)) where
     pub at-once : v ≡ accepted tt → Says (accepted tt) before left (filledRead f bytes count ones before)
@@ -96,14 +95,14 @@ module _ (f : Format) (bytes : List ℕ) (ones : ℕ) (before : Flat) where
         let is = ap (λ (m : ℕ). byFirst f bytes ones before (readOf f bytes m before)) c in
         (said .0 ∙ ap verdictOn is, s .1 ∙ said .1 ∙ ap (foundOr before) is)
 
-    pub kept : {n place : ℕ} → v ≡ refused n place → left ≡ before
+    pub kept : {numbers : Numbers} → v ≡ refusedBy numbers → left ≡ before
     kept a = s .1 ∙ first-broken (readOf f bytes k before) (sym a ∙ s .0) .0
 
-    pub again : {n place : ℕ} {r : Told (Unit {0})} {last : Flat} → v ≡ refused n place
-        → Says r left last (unfilled f bytes ones left n place) → Says r before last (filledRead f bytes count ones before)
+    pub again : {numbers : Numbers} {r : Told (Unit {0})} {last : Flat} → v ≡ refusedBy numbers
+        → Says r left last (unfilled f bytes ones left numbers) → Says r before last (filledRead f bytes count ones before)
     unfolding filledRead
-    again {n} {place} {r} {last} a u =
+    again {numbers} {r} {last} a u =
         let two = first-broken (readOf f bytes k before) (sym a ∙ s .0) in
         let is = ap (λ (m : ℕ). byFirst f bytes ones before (readOf f bytes m before)) c in
-        let w : Says r before last (unfilled f bytes ones before n place) = subst (λ (d : Flat). Says r d last (unfilled f bytes ones d n place)) (kept a) u in
+        let w : Says r before last (unfilled f bytes ones before numbers) = subst (λ (d : Flat). Says r d last (unfilled f bytes ones d numbers)) (kept a) u in
         (w .0 ∙ two .1 .0 ∙ ap verdictOn is, w .1 ∙ two .1 .1 ∙ ap (foundOr before) is)

@@ -5,7 +5,7 @@ use mathlib.Core.Bool.{Bool}
 use mathlib.Core.List.{List}
 use lib.Dec.{leb}
 use Rattle.laws.specs.Choice.{pick, both}
-use Rattle.refusals.specs.Told.{Told, accepted, refused}
+use Rattle.refusals.specs.Told.{Numbers, Told, accepted, refusedBy}
 use Rattle.h261_groups.specs.declared.Format.{Format}
 use Rattle.h261_groups.specs.Format.{sizeOf}
 use Rattle.size.specs.Size.{limit}
@@ -21,16 +21,17 @@ abbrev pub amongZeros : ℕ → ℕ → ℕ → Bool
 amongZeros n place ones = both (both (leb 3 n) (leb n 13)) (leb ones place)
 
 -- the picture without fill, or else the refusal of the picture with it
-abbrev pub orElse : ℕ → ℕ → Told Flat → Told Flat
-orElse n place (accepted d) = accepted d
-orElse n place (refused other elsewhere) = refused n place
+abbrev pub orElse : Numbers → Told Flat → Told Flat
+orElse numbers (accepted d) = accepted d
+orElse numbers (refusedBy others) = refusedBy numbers
 
-unfoldable pub unfilled : Format → List ℕ → ℕ → Flat → ℕ → ℕ → Told Flat
-unfilled f bytes ones before n place = pick (amongZeros n place ones) (orElse n place (readOf f bytes place before)) (refused n place)
+unfoldable pub unfilled : Format → List ℕ → ℕ → Flat → Numbers → Told Flat
+unfilled f bytes ones before numbers =
+    pick (amongZeros (numbers .number) (numbers .place) ones) (orElse numbers (readOf f bytes (numbers .place) before)) (refusedBy numbers)
 
 abbrev pub byFirst : Format → List ℕ → ℕ → Flat → Told Flat → Told Flat
 byFirst f bytes ones before (accepted d) = accepted d
-byFirst f bytes ones before (refused n place) = unfilled f bytes ones before n place
+byFirst f bytes ones before (refusedBy numbers) = unfilled f bytes ones before numbers
 
 unfoldable pub filledRead : Format → List ℕ → ℕ → ℕ → Flat → Told Flat
 filledRead f bytes count ones before = byFirst f bytes ones before (readOf f bytes (countOf f count ones) before)

@@ -6,7 +6,7 @@ ghost use mathlib.Core.Path.{_≡_};
 ghost use Prim.Native.Nat.{min, max};
 ghost use Rattle.layout.specs.Flat.{flat};
 ghost use Rattle.refusals.specs.Number.{number};
-ghost use Rattle.refusals.specs.Told.{toldVerdict, verdictOn, foundOr};
+ghost use Rattle.refusals.specs.Told.{numbersOf, toldVerdict, verdictOn, foundOr};
 ghost use Rattle.stream.specs.Stream.{bitNumber, oneMore, freshStream, windowAfter, startsAt, offsetOf, begunBy, longerBy, streamAfter, beginning, extended, keptAfter};
 ghost use Rattle.stream.specs.Filled.{amongZeros, unfilled, filledRead};
 
@@ -203,8 +203,8 @@ fn read_unfilled(
     macroblocks: &mut [u8],
     levels: &mut [u8],
 ) -> Verdict
-    ensures verdict { λ r. ⌜ toldVerdict r ≡ verdictOn (unfilled format (now (bytes .entry)) ones (flat (now (head .entry)) (now (macroblocks .entry)) (now (levels .entry))) (number (why .reason)) (why .place)) ⌝ }
-    ensures buffers { λ _. ⌜ flat (now (head .exit)) (now (macroblocks .exit)) (now (levels .exit)) ≡ foundOr (flat (now (head .entry)) (now (macroblocks .entry)) (now (levels .entry))) (unfilled format (now (bytes .entry)) ones (flat (now (head .entry)) (now (macroblocks .entry)) (now (levels .entry))) (number (why .reason)) (why .place)) ⌝ }
+    ensures verdict { λ r. ⌜ toldVerdict r ≡ verdictOn (unfilled format (now (bytes .entry)) ones (flat (now (head .entry)) (now (macroblocks .entry)) (now (levels .entry))) (numbersOf why)) ⌝ }
+    ensures buffers { λ _. ⌜ flat (now (head .exit)) (now (macroblocks .exit)) (now (levels .exit)) ≡ foundOr (flat (now (head .entry)) (now (macroblocks .entry)) (now (levels .entry))) (unfilled format (now (bytes .entry)) ones (flat (now (head .entry)) (now (macroblocks .entry)) (now (levels .entry))) (numbersOf why)) ⌝ }
 {
     if !among_zeros(why, ones) {
         return Verdict::Refused(why);

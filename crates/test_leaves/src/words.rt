@@ -2,7 +2,7 @@
 //
 // Byte 0 is the read: 1 MBA, 2 MTYPE, 3 MVD, 4 CBP, 5 TCOEFF, 6 TCOEFF for the first coefficient of a block that is not INTRA, 7 a field of byte 1
 // bits. Bytes 2-3 are N and 4-5 the place, high byte first; byte 6 is the slice's length, at most 24, and the slice stands from byte 8 on.
-// Lines: "got MEANING NEXT", "got RUN LEVEL NEXT", "eob NEXT", "refused NUMBER PLACE"; "refused 2 0" where the record asks for no such read.
+// Lines: "got MEANING NEXT", "got RUN LEVEL NEXT", "eob NEXT", "refused NUMBER PLACE TABLE"; "refused 2 0 0" where the record asks for no such read.
 use bits::FieldRead;
 use checks::say;
 use checks::say_number;
@@ -22,6 +22,7 @@ fn say_refused(r: Refusal) {
     let reason = r.reason;
     say_number(refusals::number_of(reason) as u64);
     say_number(r.place as u64);
+    say_number(refusals::table_of(reason) as u64);
     say(b"\n");
 }
 

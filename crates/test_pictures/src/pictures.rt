@@ -1,5 +1,5 @@
 // Pictures read: a record goes on with N and the slice's length in four bytes each, and the slice. Lines: "accepted DESCRIPTION STORE" with the two checks, "refused NUMBER
-// at PLACE", "refused 2"; "two verdicts" where reading and decoding disagree, and "a refusal that changed a buffer".
+// at PLACE", "refused 8 at PLACE table TABLE", "refused 2"; "two verdicts" where reading and decoding disagree, and "a refusal that changed a buffer".
 use crate::BEFORE;
 use checks::part;
 use h261_groups::Format;
@@ -16,7 +16,9 @@ fn say_accepted(head: &[u8], macroblocks: &[u8], levels: &[u8], store: &[u8]) {
 fn same_refusal(a: Refusal, b: Refusal) -> bool {
     let first = a.reason;
     let second = b.reason;
-    refusals::number_of(first) == refusals::number_of(second) && a.place == b.place
+    refusals::number_of(first) == refusals::number_of(second)
+        && refusals::table_of(first) == refusals::table_of(second)
+        && a.place == b.place
 }
 
 // Whether two verdicts are the same.

@@ -3,7 +3,7 @@ use Prim.Native.Nat.{ℕ, _+_, _≤_}
 use native.Mathlib.Omega.{arith}
 use mathlib.Core.Path.{_≡_, sym, ap, _∙_}
 use mathlib.Core.List.{List, [], _++_, append-assoc, append-nil}
-use lib.ListN.{length, take, drop, length-append}
+use lib.ListN.{length, take, drop, length-append, length-drop, take-append-drop}
 use lib.Seq.{length-take-le, take-at, drop-append-add, drop-drop}
 use Rattle.io.specs.Counts.{Counts}
 use Rattle.text.specs.Text.{over}
@@ -34,6 +34,16 @@ puts-then {a} {b} {at} {middle} {end} {out} {between} {left} p q room =
           ∙ ap (λ (x : List ℕ). x ++ drop (at + length (a ++ b)) out) (append-assoc (take at out) a b);
     }
 
+-- what is left is as long as what was there
+pub puts-length : {text : List ℕ} {at end : ℕ} {out left : List ℕ} → Puts text at out left end → end ≤ length out → length left ≡ length out
+puts-length {text} {at} {end} {out} p room =
+    let parts = length-append (take at out ++ text) (drop (at + length text) out) in
+    let front = length-append (take at out) text in
+    let before = length-take-le at out (omega (arith, p .end-is)) in
+    let back = length-drop (at + length text) out in
+    let same : length (placedText at text out) ≡ length out = omega (arith, parts, front, before, back, p .end-is) in
+    ap length (p .left-is) ∙ same
+
 -- the same text
 pub puts-as : {a b : List ℕ} {at end : ℕ} {out left : List ℕ} → a ≡ b → Puts a at out left end → Puts b at out left end
 puts-as {a} {b} {at} {end} {out} {left} e p = record { end-is = p .end-is ∙ ap (λ (x : List ℕ). at + length x) e; left-is = p .left-is ∙ ap (λ (x : List ℕ). placedText at x out) e }
@@ -41,6 +51,11 @@ puts-as {a} {b} {at} {end} {out} {left} e p = record { end-is = p .end-is ∙ ap
 -- nothing more
 pub puts-none : {a : List ℕ} {at end : ℕ} {out left : List ℕ} → Puts a at out left end → Puts (a ++ []) at out left end
 puts-none {a} p = puts-as (sym (append-nil a)) p
+
+pub puts-nothing : {at : ℕ} {out : List ℕ} → at ≤ length out → Puts [] at out out at
+puts-nothing {at} {out} room =
+    let same : at + 0 ≡ at = omega arith in
+    record { end-is = sym same; left-is = sym (ap (λ (x : List ℕ). x ++ drop (at + 0) out) (append-nil (take at out)) ∙ ap (λ (k : ℕ). take at out ++ drop k out) same ∙ take-append-drop at out) }
 
 -- from the start on
 pub puts-over : {text : List ℕ} {end : ℕ} {out left : List ℕ} → Puts text 0 out left end → (end ≡ length text) × (left ≡ over text out)

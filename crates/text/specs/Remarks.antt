@@ -2,7 +2,7 @@
 use Prim.Native.Nat.{ℕ}
 use mathlib.Core.List.{List, [], _∷_, _++_}
 use Rattle.refusals.specs.declared.Refusal.{Refusal}
-use Rattle.refusals.specs.Number.{number}
+use Rattle.refusals.specs.Told.{numbersOf}
 use Rattle.text.specs.Text.{decimal, refusalText}
 
 -- " pictures", and a line's end
@@ -17,9 +17,9 @@ countText count = decimal count ++ picturesWord
 abbrev pub byteWord : List ℕ
 byteWord = 98 ∷ 121 ∷ 116 ∷ 101 ∷ 32 ∷ []
 
--- a refused picture, by the byte in which its start code begins: "byte 40: refused 8 at 311"
+-- a refused picture, by the byte in which its start code begins: "byte 40: refused 8 at 311 table 5"
 unfoldable pub refusedText : ℕ → Refusal → List ℕ
-refusedText offset why = byteWord ++ decimal offset ++ (58 ∷ []) ++ refusalText (number (why .reason)) (why .place) ++ (10 ∷ [])
+refusedText offset why = byteWord ++ decimal offset ++ (58 ∷ []) ++ refusalText (numbersOf why) ++ (10 ∷ [])
 
 -- back to the line's beginning, and what it shows cleared
 abbrev pub cleared : List ℕ

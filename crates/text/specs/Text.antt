@@ -1,9 +1,10 @@
 -- Words and decimal numbers as ASCII, and text at the start of a buffer. Assumes nothing.
 use Prim.Native.Nat.{ℕ, zero, suc, _+_, _/_, _%_}
 use mathlib.Core.List.{List, [], _∷_, _++_}
-use lib.Dec.{ltb, leb}
+use lib.Dec.{eqb, ltb, leb}
 use lib.ListN.{length, drop}
 use Rattle.laws.specs.Choice.{pick, both}
+use Rattle.refusals.specs.Told.{Numbers}
 
 -- the decimal digits of a number below 10 ^ places
 unfoldable pub digitsIn : ℕ → ℕ → List ℕ
@@ -18,7 +19,7 @@ decimal n = digitsIn 20 n
 abbrev pub over : List ℕ → List ℕ → List ℕ
 over text out = text ++ drop (length text) out
 
--- ---- a refusal: "refused 21", "refused 8 at 311"
+-- ---- a refusal: "refused 21", "refused 3 at 109", "refused 8 at 311 table 5"
 -- " refused "
 abbrev pub refusedWord : List ℕ
 refusedWord = 32 ∷ 114 ∷ 101 ∷ 102 ∷ 117 ∷ 115 ∷ 101 ∷ 100 ∷ 32 ∷ []
@@ -27,9 +28,18 @@ refusedWord = 32 ∷ 114 ∷ 101 ∷ 102 ∷ 117 ∷ 115 ∷ 101 ∷ 100 ∷ 32 
 abbrev pub atWord : List ℕ
 atWord = 32 ∷ 97 ∷ 116 ∷ 32 ∷ []
 
--- `"at" for refusals 3 to 13 only`
-unfoldable pub atPlace : ℕ → ℕ → List ℕ
-atPlace number place = pick (both (leb 3 number) (leb number 13)) (atWord ++ decimal place) []
+-- " table "
+abbrev pub tableWord : List ℕ
+tableWord = 32 ∷ 116 ∷ 97 ∷ 98 ∷ 108 ∷ 101 ∷ 32 ∷ []
 
-unfoldable pub refusalText : ℕ → ℕ → List ℕ
-refusalText number place = refusedWord ++ decimal number ++ atPlace number place
+-- the table of codewords, for 8 only
+unfoldable pub ofTable : ℕ → ℕ → List ℕ
+ofTable number table = pick (eqb number 8) (tableWord ++ decimal table) []
+
+-- `"at" for refusals 3 to 13 only`
+unfoldable pub atPlace : Numbers → List ℕ
+atPlace numbers =
+    pick (both (leb 3 (numbers .number)) (leb (numbers .number) 13)) (atWord ++ decimal (numbers .place) ++ ofTable (numbers .number) (numbers .table)) []
+
+unfoldable pub refusalText : Numbers → List ℕ
+refusalText numbers = refusedWord ++ decimal (numbers .number) ++ atPlace numbers

@@ -4,8 +4,8 @@ ghost use mathlib.Core.Path.{_≡_};
 ghost use Prim.Native.Nat.{_+_, _≤_};
 ghost use lib.ListN.{length};
 ghost use Rattle.laws.specs.Lists.{alike};
-ghost use Rattle.refusals.specs.Number.{number};
-ghost use Rattle.text.specs.Text.{decimal, refusalText};
+ghost use Rattle.refusals.specs.Told.{numbersOf};
+ghost use Rattle.text.specs.Text.{decimal, ofTable, refusalText};
 ghost use Rattle.text.specs.Puts.{Puts};
 
 pub mod remarks;
@@ -48,11 +48,24 @@ pub fn put_number(n: u64, at: usize, out: &mut [u8]) -> usize
     put(&digits[..count], at, out)
 }
 
-// " refused 21", " refused 8 at 311".
+// " table 5", of a refusal 8.
+fn put_table(numbered: u32, table: u32, at: usize, out: &mut [u8]) -> usize
+    requires { ⌜ at + 27 ≤ length (now out) ⌝ }
+    ensures { λ r. ⌜ r ≤ at + 27 ⌝ }
+    ensures { λ r. ⌜ Puts (ofTable numbered table) at (now (out .entry)) (now (out .exit)) r ⌝ }
+{
+    if numbered != 8 {
+        return at;
+    }
+    let named = put(b" table ", at, out);
+    put_number(table as u64, named, out)
+}
+
+// " refused 21", " refused 3 at 109", " refused 8 at 311 table 5".
 pub fn put_refusal(why: Refusal, at: usize, out: &mut [u8]) -> usize
-    requires { ⌜ at + 53 ≤ length (now out) ⌝ }
-    ensures { λ r. ⌜ r ≤ at + 53 ⌝ }
-    ensures { λ r. ⌜ Puts (refusalText (number (why .reason)) (why .place)) at (now (out .entry)) (now (out .exit)) r ⌝ }
+    requires { ⌜ at + 80 ≤ length (now out) ⌝ }
+    ensures { λ r. ⌜ r ≤ at + 80 ⌝ }
+    ensures { λ r. ⌜ Puts (refusalText (numbersOf why)) at (now (out .entry)) (now (out .exit)) r ⌝ }
 {
     let reason = why.reason;
     let numbered = refusals::number_of(reason);
@@ -65,5 +78,7 @@ pub fn put_refusal(why: Refusal, at: usize, out: &mut [u8]) -> usize
         return told;
     }
     let placing = put(b" at ", told, out);
-    put_number(why.place as u64, placing, out)
+    let placed = put_number(why.place as u64, placing, out);
+    let table = refusals::table_of(reason);
+    put_table(numbered, table, placed, out)
 }

@@ -13,7 +13,7 @@ use Rattle.laws.specs.Choice.{pick, both, either}
 use Rattle.laws.proofs.Choice.{two-of, if-so}
 use Rattle.laws.proofs.Splice.{getD-past}
 use Rattle.size.specs.declared.Size.{Size}
-use Rattle.refusals.specs.Told.{Told, accepted, refused}
+use Rattle.refusals.specs.Told.{Told, accepted, refusedBy, refused}
 use Rattle.refusals.proofs.Told.{accepted-once, told-apart, refused-once}
 use Rattle.vault.specs.declared.Header.{Header}
 use Rattle.vault.specs.declared.Checked.the-variants.{Good, Refused}
@@ -176,7 +176,7 @@ own-clip : (clip : ℕ) (found : Told Header) (header : Header) → ofClip clip 
 own-clip clip (accepted found) header e =
     let same = good-of (eqb (found .clip) clip) (accepted found) _ header e in
     (same .1, sym (ap (λ (h : Header). h .clip) (accepted-once (same .1))) ∙ eqb-true (found .clip) clip (same .0))
-own-clip clip (refused n place) header e = absurd (told-apart (sym e))
+own-clip clip (refusedBy numbers) header e = absurd (told-apart (sym e))
 
 pub judged-good : (size : Size) (clip : ℕ) (block : List ℕ) (header : Header) → judgeOf size clip block ≡ accepted header
     → (checkOf size block ≡ accepted header) × (header .clip ≡ clip)

@@ -10,7 +10,7 @@ use lib.Dec.{eqb, leb, ltb}
 use Rattle.laws.specs.Choice.{pick, both, either, opposite}
 use Rattle.size.specs.declared.Size.{Size}
 use Rattle.size.specs.declared.Size.the-variants.{SubQcif, Qcif, Cif}
-use Rattle.refusals.specs.Told.{Told, accepted, refused, byTable}
+use Rattle.refusals.specs.Told.{numbersOf, Told, accepted, refusedBy, refused}
 use Rattle.vault.specs.declared.Header.{Header}
 use Rattle.vault.specs.declared.Checked.{Checked}
 use Rattle.vault.specs.declared.Checked.the-variants.{Good, Refused}
@@ -133,7 +133,7 @@ sumOf block = weighted block 510 % 65521
 -- what is answered: the header, or the refusal's number and place
 abbrev pub toldChecked : Checked → Told Header
 toldChecked (Good header) = accepted header
-toldChecked (Refused why) = byTable refused why
+toldChecked (Refused why) = refusedBy (numbersOf why)
 
 -- nothing of the answer is lost by that
 abbrev pub CheckedToldOnce : Type 0
@@ -149,7 +149,7 @@ checkOf size block =
 -- 23: "another clip's block"
 abbrev pub ofClip : ℕ → Told Header → Told Header
 ofClip clip (accepted header) = pick (eqb (header .clip) clip) (accepted header) (refused 23 0)
-ofClip clip (refused n place) = refused n place
+ofClip clip (refusedBy numbers) = refusedBy numbers
 
 -- the same for a receiver of one clip
 unfoldable pub judgeOf : Size → ℕ → List ℕ → Told Header

@@ -73,7 +73,7 @@ none-unread : (k : ℕ) → Unread (none (suc k))
 unfolding word table1
 none-unread k = record {
   some = omega arith;
-  none = λ at m left p e. never (sym (none-found table1 (suc k) at _ tt) ∙ e);
+  none = λ at m left p e. never (sym (none-found (table1 .entries) (suc k) at _ tt) ∙ e);
 }
   where
     never : {r : Refusal} {m : ℕ} {left : List Bit} {p : ℕ} → refused r ≡ got m left p → ⊥

@@ -49,7 +49,7 @@ unfolding grey
 grey-first k = getD-replicate (storeLength (sizeOf Qcif)) 0 k 0 (lit< tt)
 
 pub refusing-wrong : RefusingWrong
-refusing-wrong number place h =
+refusing-wrong numbers h =
     let a = h .then H261Qcif bytes1 110 (grey 0) (grey-long 0) first-follows in
     told-apart (sym (a .is))
 
@@ -120,4 +120,4 @@ first-for-all-wrong h =
     got-same a b e = cc
 
 pub refusing-all-wrong : RefusingAllWrong
-refusing-all-wrong number place h = h .else Qcif first (blankOutput Qcif) (number Qcif first) (place Qcif first) first-valid first-below output-long refl
+refusing-all-wrong numbers h = h .else Qcif first (blankOutput Qcif) (numbers Qcif first) first-valid first-below output-long refl

@@ -1,6 +1,6 @@
 -- A receiver that draws before it judges: it keeps an accepted picture's samples although its refresh mark is untrue. Demand 1 rules it out. Assumes nothing.
 use Rattle.laws.specs.Choice.{pick, both}
-use Rattle.refusals.specs.Told.{Told, accepted, refused}
+use Rattle.refusals.specs.Told.{Told, accepted, refusedBy}
 use Rattle.layout.specs.Flat.{Flat}
 use Rattle.coding.specs.Kind.{codingOf}
 use Rattle.vault.specs.Block.{partOf, lastOf, headerOf}
@@ -14,7 +14,7 @@ use Rattle.demand1.specs.Demand1.{Programs, Demand1}
 -- the stores with what was read drawn into them
 abbrev pub drawnInto : Receiver → Stores → Told Flat → Stores
 drawnInto r s (accepted d) = storesWith (r .last .holder) (codingOf (r .kind) .render d (reference (r .last .holder) s)) s
-drawnInto r s (refused n place) = s
+drawnInto r s (refusedBy numbers) = s
 
 -- as these programs, but at a last part that is taken the picture is drawn if it can be read, whatever comes of it
 abbrev pub drawingFirst : Programs → Programs

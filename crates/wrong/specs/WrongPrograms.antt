@@ -4,7 +4,7 @@ use mathlib.Core.Path.{_≡_}
 use mathlib.Core.List.{List}
 use lib.Dec.{T}
 use lib.ListN.{length}
-use Rattle.refusals.specs.Told.{accepted, refused}
+use Rattle.refusals.specs.Told.{Numbers, accepted, refusedBy}
 use Rattle.h261_groups.specs.declared.Format.{Format}
 use Rattle.h261_groups.specs.declared.Format.the-variants.{Qcif}
 use Rattle.h261_groups.specs.Format.{sizeOf}
@@ -19,11 +19,11 @@ use Rattle.instances.specs.Example.{blank}
 use Rattle.demand2.specs.Demand2.{RefusedExactly, EverySample, AcceptedExactly, Writer, Follows, write, Decoder, ReadsBack}
 
 -- ---- wrong: "a reader that refuses everything"
-abbrev pub refusing : (Kind → List ℕ → ℕ → ℕ) → (Kind → List ℕ → ℕ → ℕ) → Decoder
-refusing number place k bytes n reference = refused (number k bytes n) (place k bytes n)
+abbrev pub refusing : (Kind → List ℕ → ℕ → Numbers) → Decoder
+refusing numbers k bytes n reference = refusedBy (numbers k bytes n)
 
 abbrev pub RefusingWrong : Type 0
-RefusingWrong = (number place : Kind → List ℕ → ℕ → ℕ) → AcceptedExactly (refusing number place) → ⊥
+RefusingWrong = (numbers : Kind → List ℕ → ℕ → Numbers) → AcceptedExactly (refusing numbers) → ⊥
 
 -- ---- wrong: one that "returns one fixed picture": whatever it is asked, or for all that it rightly accepts
 abbrev pub fixed : List ℕ → Decoder
@@ -49,11 +49,11 @@ abbrev pub FirstForAllWrong : Type 0
 FirstForAllWrong = ReadsBack firstForAll → ⊥
 
 -- ---- wrong: one that "refuses all"
-abbrev pub refusingAll : (Format → Flat → ℕ) → (Format → Flat → ℕ) → Writer
-refusingAll number place f d out = record { answer = refused (number f d) (place f d); output = out }
+abbrev pub refusingAll : (Format → Flat → Numbers) → Writer
+refusingAll numbers f d out = record { answer = refusedBy (numbers f d); output = out }
 
 abbrev pub RefusingAllWrong : Type 0
-RefusingAllWrong = (number place : Format → Flat → ℕ) → RefusedExactly (refusingAll number place) → ⊥
+RefusingAllWrong = (numbers : Format → Flat → Numbers) → RefusedExactly (refusingAll numbers) → ⊥
 
 -- ---- wrong: "a made-up N", whichever, shorter or longer: one that, for one valid description within the limit, leaves the right bytes in an output that was all 0 and answers another
 -- number of bits

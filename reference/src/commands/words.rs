@@ -89,7 +89,14 @@ impl Table {
 
     fn answer(self, record: &Record) -> String {
         let mut reader = BitReader::starting_at(&record.bytes, record.count, record.at);
-        let refused = |refusal: Refusal| format!("refused {} {}", refusal.number, refusal.place);
+        let refused = |refusal: Refusal| {
+            let Refusal {
+                number,
+                place,
+                table,
+            } = refusal;
+            format!("refused {number} {place} {table}")
+        };
         let meaning = match self {
             Table::Mba => reader.codeword(&codewords::MBA).map(|m| m.to_string()),
             Table::Mtype => reader.codeword(&codewords::MTYPE).map(|m| m.to_string()),

@@ -5,7 +5,7 @@ use native.Mathlib.Omega.{arith}
 use lib.ListN.{length}
 use Rattle.size.specs.Size.{storeLength}
 use Rattle.size.proofs.Room.{part-long}
-use Rattle.refusals.specs.Number.{number}
+use Rattle.refusals.specs.Number.{number, readTable}
 use Rattle.refusals.specs.Told.{verdictOn, foundOr}
 use Rattle.coding.proofs.Scratch.{head-most, macroblocks-most, levels-most, scratch-blank}
 use Rattle.decoder.proofs.Steps.{unfit-reference, unfit-store, fit}
@@ -13,7 +13,7 @@ use Rattle.decoder.proofs.decode.Statement.{statement}
 use Rattle.decoder.proofs.decode.Tie as tie
 
 returns : tie.Need-returns
-unfolding number
+unfolding number readTable
 returns c =
     let at-store-length = c .before in
     let at-size-of = at-store-length .before in
@@ -22,7 +22,7 @@ returns c =
     (sym (ap verdictOn e), sym (ap (foundOr (start .args .store .now)) e))
 
 returns-2 : tie.Need-returns-2
-unfolding number
+unfolding number readTable
 returns-2 c =
     let at-if1 = c .before in
     let at-store-length = at-if1 .before in

@@ -50,8 +50,8 @@ returns-5 c =
     let k = look (at-if1 .before) in
     escape-good (start .pre .1 .inside) _ (at-if1 .before .before .window .ensures) (k .0) (k .1) (at-if1 .if1 .left) (c .before .if4 .taken) (c .if5 .left)
 
-cast-t40 : tie.Need-cast-t40
-cast-t40 c =
+cast-t41 : tie.Need-cast-t41
+cast-t41 c =
     let at-if2 = c .before .before .before in
     let start = at-if2 .before .before .before .before .before in
     let k = look (at-if2 .before .before) in
@@ -81,4 +81,4 @@ coefficient-spec =
     (tie.spec (λ c κs. search needs) looked-up-requires (λ c. search needs) (λ c. search needs) returns returns-2 (λ c. search needs)
     returns-3 sub-after (λ c. search needs) (λ c. search needs) returns-4 (λ c. search needs) (λ c. search needs) (λ c. search needs)
     returns-5 (λ c. search needs) (λ c. search needs) (λ c. search needs) (λ c. search needs) (λ c. search needs) (λ c. search needs)
-    cast-t40 (λ c. search needs) returns-6 returns-7)
+    cast-t41 (λ c. search needs) returns-6 returns-7)

@@ -9,7 +9,7 @@ use Rattle.h261_words.proofs.mba_codeword.Tie as tie
 
 returns : tie.Need-returns
 returns c =
-    let s = c .before in entry-writes (s .args .tables .now) mbaWordsAt 36 table1 (s .pre .tables .mbaWords) (s .args .step) _ _ (search needs) (has-mba _ (s .pre .some) (s .pre .known)) (c .spelt .ensures .0) (c .spelt .ensures .1)
+    let s = c .before in entry-writes (s .args .tables .now) mbaWordsAt 36 (table1 .entries) (s .pre .tables .mbaWords) (s .args .step) _ _ (search needs) (has-mba _ (s .pre .some) (s .pre .known)) (c .spelt .ensures .0) (c .spelt .ensures .1)
 
 pub mba-codeword-spec : {M : Type 1} → statement M
 mba-codeword-spec = tie.close (tie.spec (λ c. search needs) (λ c κs. search needs) returns)

@@ -9,7 +9,7 @@ use Rattle.h261_words.proofs.mtype_codeword.Tie as tie
 
 returns : tie.Need-returns
 returns c =
-    let s = c .before in entry-writes (s .args .tables .now) mtypeWordsAt 11 table2 (s .pre .tables .mtypeWords) (s .args .kind) _ _ (search needs) (has-mtype _ (s .pre .some) (s .pre .known)) (c .spelt .ensures .0) (c .spelt .ensures .1)
+    let s = c .before in entry-writes (s .args .tables .now) mtypeWordsAt 11 (table2 .entries) (s .pre .tables .mtypeWords) (s .args .kind) _ _ (search needs) (has-mtype _ (s .pre .some) (s .pre .known)) (c .spelt .ensures .0) (c .spelt .ensures .1)
 
 pub mtype-codeword-spec : {M : Type 1} → statement M
 mtype-codeword-spec = tie.close (tie.spec (λ c. search needs) (λ c κs. search needs) returns)

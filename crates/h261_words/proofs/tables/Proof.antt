@@ -1,6 +1,6 @@
 -- `h261_words::tables` meets its contract: antt computes each test over the array.
 use Rattle.laws.specs.Lists.{alike}
-use Rattle.bits.specs.Code.{wordOf, has}
+use Rattle.bits.specs.Code.{wordIn, hasIn}
 use Rattle.bits.specs.Entries.{entriesFrom}
 use Rattle.h261_words.specs.Tables.{table1, table2, table3, table4, pairs, firstTable5, laterTable5}
 use Rattle.h261_words.specs.Lookup.{agrees, looks, spells, spelt}
@@ -8,7 +8,7 @@ use Rattle.h261_words.proofs.tables.Statement.{statement}
 use Rattle.h261_words.proofs.tables.Tie as tie
 
 returns : tie.Need-returns
-unfolding table1 table2 table3 table4 pairs firstTable5 laterTable5 agrees looks spells spelt wordOf has alike entriesFrom
+unfolding table1 table2 table3 table4 pairs firstTable5 laterTable5 agrees looks spells spelt wordIn hasIn alike entriesFrom
 returns c =
     record {
       mba = tt;

@@ -8,7 +8,7 @@ use lib.ListN.{length}
 use Rattle.laws.specs.Choice.{pick}
 use Rattle.refusals.specs.declared.Reason.the-variants.{Length}
 use Rattle.refusals.specs.declared.Refusal.{Refusal}
-use Rattle.refusals.specs.Number.{number, refusal}
+use Rattle.refusals.specs.Number.{number, readTable, refusal}
 use Rattle.refusals.specs.Told.{Told, accepted, refused}
 use Rattle.size.specs.declared.Size.{Size}
 use Rattle.coding.specs.declared.Kind.{Kind}
@@ -40,7 +40,7 @@ module _ (kind : Kind) (clip : Clip) (block : List ℕ) (b : Buffers) where
         ∙ sym (ap (λ (k : Clip). listed kind k block b) e)
 
     unfit : {x : Listed} → right ≡ false → x ≡ unknownBy (refusal Length 0) → came x b ≡ listed kind clip block b
-    unfolding byOpened number
+    unfolding byOpened number readTable
     unfit h o = ap (λ (y : Listed). came y b) o ∙ by-lengths false h
 
     module _ (h : right ≡ true) {found : Told Receiver} (f : found ≡ foundBy kind block) where

@@ -2,7 +2,7 @@
 use borrow.Author.Needs.{needs}
 use mathlib.Core.Path.{_≡_, refl, sym, subst}
 use Prim.Native.Nat.{ℕ}
-use Rattle.refusals.specs.Told.{Told, accepted, refused}
+use Rattle.refusals.specs.Told.{Numbers, Told, accepted, refusedBy}
 use Rattle.refusals.proofs.Told.{was-accepted, was-refused}
 use Rattle.layout.specs.Flat.{Flat, flat}
 use Rattle.coding.specs.Kind.{codingOf}
@@ -19,7 +19,7 @@ use Rattle.receiver.proofs.finish_in.Statement.{statement}
 use Rattle.receiver.proofs.finish_in.Tie as tie
 
 module _ {read : Told Flat} (r : Receiver) (header : Header) (s : Stores) where
-  unread : {x : Received} {n place : ℕ} → read ≡ refused n place → toldReceived x ≡ reply (A.refused n place) (failedReceiver r header) → Settles codingOf r s (endedPicture codingOf r header read) x s
+  unread : {x : Received} {numbers : Numbers} → read ≡ refusedBy numbers → toldReceived x ≡ reply (A.refused numbers) (failedReceiver r header) → Settles codingOf r s (endedPicture codingOf r header read) x s
   unfolding endedPicture
   unread {x} e h = subst (λ (v : Told Flat). Settles codingOf r s (endedPicture codingOf r header v) x s) (sym e) (record { gave = h; left = refl })
 

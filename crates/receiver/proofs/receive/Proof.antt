@@ -6,8 +6,8 @@ use mathlib.Core.List.{List}
 use Prim.Native.Nat.{ℕ}
 use lib.ListN.{length}
 use Rattle.laws.specs.Choice.{pick}
-use Rattle.refusals.specs.Number.{number}
-use Rattle.refusals.specs.Told.{Told, accepted, refused}
+use Rattle.refusals.specs.Number.{number, readTable}
+use Rattle.refusals.specs.Told.{Numbers, untabled, Told, accepted, refusedBy, refused}
 use Rattle.size.specs.declared.Size.{Size}
 use Rattle.coding.specs.Kind.{kindSize, codingOf}
 use Rattle.vault.specs.Block.{toldChecked, judgeOf}
@@ -44,11 +44,11 @@ module _ {right : Bool} {size : Size} (r : Receiver) (block collection first sec
     unfolding byJudgement
     good {header = header} e h = h ∙ came (accepted header) (judged-so (accepted header) e)
 
-    bad : {x : Reply} {n place : ℕ} → found ≡ refused n place → x ≡ reply (A.refused n place) r → record { gave = x; left = lent } ≡ step codingOf r block lent
+    bad : {x : Reply} {numbers : Numbers} → found ≡ refusedBy numbers → x ≡ reply (A.refused numbers) r → record { gave = x; left = lent } ≡ step codingOf r block lent
     unfolding byJudgement cameTo
-    bad {n = n} {place = place} e h = ap (λ (y : Reply). record { gave = y; left = lent }) h ∙ came (refused n place) (judged-so (refused n place) e)
+    bad {numbers = numbers} e h = ap (λ (y : Reply). record { gave = y; left = lent }) h ∙ came (refusedBy numbers) (judged-so (refusedBy numbers) e)
 
-  short : {x : Reply} → right ≡ false → x ≡ reply (A.refused 1 0) r → record { gave = x; left = lent } ≡ step codingOf r block lent
+  short : {x : Reply} → right ≡ false → x ≡ reply (A.refused (untabled 1 0)) r → record { gave = x; left = lent } ≡ step codingOf r block lent
   unfolding byJudgement cameTo
   short e h = ap (λ (y : Reply). record { gave = y; left = lent }) h ∙ came (refused 1 0) (by-lengths false e)
 
@@ -85,7 +85,7 @@ returns-2 c =
     bad (start .args .receiver) (start .args .block .now) (start .args .collection .now) (start .args .first .now) (start .args .second .now) (at-size-of .size-of .ensures) (at-named .named .ensures) (at-if1 .if1 .taken) (at-judge .judge .ensures) (ap toldChecked (at-checked2 .checked2 .given .1)) (c .refuse .ensures)
 
 returns-3 : tie.Need-returns-3
-unfolding number
+unfolding number readTable
 returns-3 c =
     let at-if1 = c .before in
     let at-named = at-if1 .before in

@@ -3,8 +3,8 @@ use borrow.Author.Needs.{needs}
 use mathlib.Core.Path.{_≡_, refl, sym, ap, subst, _∙_}
 use mathlib.Core.Bool.{Bool, true, false}
 use Rattle.laws.specs.Choice.{pick, alike}
-use Rattle.refusals.specs.Number.{number}
-use Rattle.refusals.specs.Told.{accepted}
+use Rattle.refusals.specs.Number.{number, readTable}
+use Rattle.refusals.specs.Told.{untabled, accepted}
 use Rattle.layout.specs.Flat.{Flat, flat}
 use Rattle.coding.specs.Kind.{codingOf}
 use Rattle.vault.specs.declared.Header.{Header}
@@ -19,15 +19,15 @@ use Rattle.receiver.proofs.settle.Tie as tie
 
 module _ {marked refreshed agreed : Bool} (r : Receiver) (header : Header) (d : Flat) (s : Stores) (m : marked ≡ markOf (r .progress) header)
     (f : refreshed ≡ codingOf (r .kind) .refresh d) (a : agreed ≡ alike refreshed marked) where
-  comes : (b : Bool) → agreed ≡ b → pick b (finished header d) (failed header 24 0) ≡ endedPicture codingOf r header (accepted d)
+  comes : (b : Bool) → agreed ≡ b → pick b (finished header d) (failed header (untabled 24 0)) ≡ endedPicture codingOf r header (accepted d)
   unfolding endedPicture
-  comes b e = ap (λ (t : Bool). pick t (finished header d) (failed header 24 0)) (sym e ∙ a ∙ (λ i. alike (f i) (m i)))
+  comes b e = ap (λ (t : Bool). pick t (finished header d) (failed header (untabled 24 0))) (sym e ∙ a ∙ (λ i. alike (f i) (m i)))
 
   true-mark : {x : Received} {t : Stores} → agreed ≡ true → t ≡ storesWith (r .last .holder) (codingOf (r .kind) .render d (reference (r .last .holder) s)) s
       → toldReceived x ≡ reply (picture (header .picture)) (finishedReceiver r header) → Settles codingOf r s (endedPicture codingOf r header (accepted d)) x t
   true-mark {x} {t} e k h = subst (λ (v : Event Flat). Settles codingOf r s v x t) (comes true e) (record { gave = h; left = k })
 
-  untrue-mark : {x : Received} → agreed ≡ false → toldReceived x ≡ reply (refused 24 0) (failedReceiver r header)
+  untrue-mark : {x : Received} → agreed ≡ false → toldReceived x ≡ reply (refused (untabled 24 0)) (failedReceiver r header)
       → Settles codingOf r s (endedPicture codingOf r header (accepted d)) x s
   untrue-mark {x} e h = subst (λ (v : Event Flat). Settles codingOf r s v x s) (comes false e) (record { gave = h; left = refl })
 
@@ -52,7 +52,7 @@ returns c =
     true-mark (start .args .receiver) (start .args .header) (flat (start .args .head .now) (start .args .macroblocks .now) (start .args .levels .now)) (stores (start .args .first .now) (start .args .second .now)) (at-mark-with .mark-with .ensures) (at-is-refresh .is-refresh .ensures) (at-agree .agree .ensures) (at-if1 .if1 .taken) (at-keep .keep .ensures) (c .succeed .ensures)
 
 returns-2 : tie.Need-returns-2
-unfolding number
+unfolding number readTable
 returns-2 c =
     let at-if1 = c .before in
     let at-agree = at-if1 .before in

@@ -6,7 +6,7 @@ use borrow.Author.Tests.{not-true, not-false}
 use lib.Dec.{eqb}
 use lib.Seq.{length-take-le}
 use Rattle.laws.specs.Choice.{either, opposite}
-use Rattle.refusals.specs.Number.{number}
+use Rattle.refusals.specs.Number.{number, readTable}
 use Rattle.size.specs.Size.{outputLength}
 use Rattle.size.proofs.Room.{output-most}
 use Rattle.layout.specs.Flat.{flat}
@@ -17,7 +17,7 @@ use Rattle.sender.proofs.send.Statement.{statement}
 use Rattle.sender.proofs.send.Tie as tie
 
 returns : tie.Need-returns
-unfolding number
+unfolding number readTable
 returns c =
     let at-if1 = c .before in
     let at-named = at-if1 .before in
@@ -28,7 +28,7 @@ returns c =
     (unnamed codingOf (start .args .sender) d lent (sym (at-named .named .ensures) ∙ not-true _ (at-if1 .if1 .taken)))
 
 returns-2 : tie.Need-returns-2
-unfolding number
+unfolding number readTable
 returns-2 c =
     let at-if2 = c .before in
     let at-if1 = at-if2 .before .before in
@@ -40,7 +40,7 @@ returns-2 c =
     (all-sent codingOf (start .args .sender) d lent (sym (at-named .named .ensures) ∙ not-false _ (at-if1 .if1 .left)) (at-if2 .if2 .taken))
 
 returns-3 : tie.Need-returns-3
-unfolding number
+unfolding number readTable
 returns-3 c =
     let at-if3 = c .before in
     let at-valid = at-if3 .before in
@@ -59,7 +59,7 @@ is-refresh-requires c κs =
     (sym (at-valid .valid .ensures) ∙ not-false _ (c .if3 .left))
 
 returns-4 : tie.Need-returns-4
-unfolding number
+unfolding number readTable
 returns-4 c =
     let at-if4 = c .before in
     let at-begins = at-if4 .before in

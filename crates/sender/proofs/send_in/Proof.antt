@@ -1,7 +1,7 @@
 -- `sender::send_in` meets its contract: by the limit. Assumes nothing.
 use borrow.Author.Needs.{needs}
 use native.Mathlib.Omega.{arith}
-use Rattle.refusals.specs.Number.{number}
+use Rattle.refusals.specs.Number.{number, readTable}
 use Rattle.sender.proofs.Steps.{count-fits, bytes-fit, bytes-long, is-encoded, sent-comes, above-comes}
 use Rattle.sender.proofs.send_in.Statement.{statement}
 use Rattle.sender.proofs.send_in.Tie as tie
@@ -12,7 +12,7 @@ write-requires c κs =
     record { valid-is = start .pre .0 .valid-is; out-long = start .pre .1 }
 
 returns : tie.Need-returns
-unfolding number
+unfolding number readTable
 returns c =
     let at-if1 = c .before in
     let at-limit = at-if1 .before in

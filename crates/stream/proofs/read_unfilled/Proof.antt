@@ -9,7 +9,7 @@ use Rattle.stream.proofs.read_unfilled.Statement.{statement}
 use Rattle.stream.proofs.read_unfilled.Tie as tie
 
 returns : tie.Need-returns
-returns c = let a = c .before .before .before .before .before .before .args in stays (a .format) (a .bytes .now) (a .ones) (flat (a .head .now) (a .macroblocks .now) (a .levels .now)) _ _ (c .before .among-zeros .ensures) (not-true _ (c .if1 .taken))
+returns c = let a = c .before .before .before .before .before .before .args in stays (a .format) (a .bytes .now) (a .ones) (flat (a .head .now) (a .macroblocks .now) (a .levels .now)) _ (c .before .among-zeros .ensures) (not-true _ (c .if1 .taken))
 
 returns-2 : tie.Need-returns-2
 returns-2 c =
@@ -18,7 +18,7 @@ returns-2 c =
     let at-among-zeros = at-if1 .before in
     let start = at-among-zeros .before .before .before .before .before in
     let a = start .args in
-    whole (a .format) (a .bytes .now) (a .ones) (flat (a .head .now) (a .macroblocks .now) (a .levels .now)) _ _ (at-among-zeros .among-zeros .ensures)
+    whole (a .format) (a .bytes .now) (a .ones) (flat (a .head .now) (a .macroblocks .now) (a .levels .now)) _ (at-among-zeros .among-zeros .ensures)
     (not-false _ (at-if1 .if1 .left)) (at-read .read .ensures) (ap toldVerdict (c .enum-told .given .1))
 
 returns-3 : tie.Need-returns-3
@@ -28,7 +28,7 @@ returns-3 c =
     let at-among-zeros = at-if1 .before in
     let start = at-among-zeros .before .before .before .before .before in
     let a = start .args in
-    broken (a .format) (a .bytes .now) (a .ones) (flat (a .head .now) (a .macroblocks .now) (a .levels .now)) _ _ (at-among-zeros .among-zeros .ensures)
+    broken (a .format) (a .bytes .now) (a .ones) (flat (a .head .now) (a .macroblocks .now) (a .levels .now)) _ (at-among-zeros .among-zeros .ensures)
     (not-false _ (at-if1 .if1 .left)) (at-read .read .ensures) (ap toldVerdict (c .before .verdict .given .1))
 
 pub read-unfilled-spec : {M : Type 1} → statement M

@@ -2,17 +2,17 @@
 use borrow.Author.Needs.{needs}
 use borrow.Author.Tests.{eq-eqb, ne-eqb, not-true, not-false}
 use mathlib.Core.Path.{sym, ap, _∙_}
-use Rattle.refusals.specs.Number.{number}
+use Rattle.refusals.specs.Number.{number, readTable}
 use Rattle.vault.specs.Block.{toldChecked, checkOf}
 use Rattle.vault.proofs.check.Statement.{statement}
 use Rattle.vault.proofs.check.Tie as tie
 
 returns : tie.Need-returns
-unfolding checkOf number
+unfolding checkOf number readTable
 returns c = simp (ne-eqb _ _ (c .before .if1 .taken)) (ap toldChecked (c .refused .ensures))
 
 returns-2 : tie.Need-returns-2
-unfolding checkOf number
+unfolding checkOf number readTable
 returns-2 c =
     let at-sum = c .before .before .before in
     let at-if1 = at-sum .before in
@@ -20,7 +20,7 @@ returns-2 c =
     (ap toldChecked (c .refused2 .ensures))
 
 returns-3 : tie.Need-returns-3
-unfolding checkOf number
+unfolding checkOf number readTable
 returns-3 c =
     let at-follows = c .before .before in
     let at-if2 = at-follows .before .before in

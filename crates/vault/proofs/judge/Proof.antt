@@ -3,7 +3,7 @@ use borrow.Author.Needs.{needs}
 use borrow.Author.Tests.{eq-eqb, ne-eqb}
 use mathlib.Core.Path.{_≡_, sym, ap, _∙_}
 use Prim.Native.Nat.{ℕ}
-use Rattle.refusals.specs.Number.{number}
+use Rattle.refusals.specs.Number.{number, readTable}
 use Rattle.refusals.specs.Told.{Told, accepted, refused}
 use Rattle.vault.specs.declared.Header.{Header}
 use Rattle.vault.specs.Block.{toldChecked, judgeOf, ofClip}
@@ -28,7 +28,7 @@ unfolding judgeOf
 returns c = own _ (sym (ap toldChecked (c .before .before .before .header .given .1)) ∙ (c .before .before .before .before .before .check .ensures)) (c .if1 .taken)
 
 returns-2 : tie.Need-returns-2
-unfolding judgeOf number
+unfolding judgeOf number readTable
 returns-2 c =
     let at-header = c .before .before .before .before in
     let at-check = at-header .before .before in
