@@ -10,8 +10,10 @@ mod commands;
 const USAGE: &str = "usage:
   reference words|blocks|render|pictures|write|send|deliver|lists|packs|captures|replays SEED COUNT FOLDER
   reference due
+  reference ticks > RECORDS
   reference annex-a > COEFFICIENTS
   reference annex-a-figures < OUTPUTS
+  reference delivered < SESSIONS
   reference list < BLOCKS
   reference frames qcif|cif < BLOCKS > YUV4MPEG2
   reference record < STREAM > CAPTURE
@@ -38,10 +40,15 @@ fn main() -> ExitCode {
 fn run(arguments: &[&str]) -> Outcome {
     match *arguments {
         ["due"] => output(commands::due::lines().as_bytes()),
+        ["ticks"] => output(&commands::due::records()),
         ["annex-a"] => output(&commands::annex_a::coefficients()),
         ["annex-a-figures"] => {
             let text = commands::annex_a::figures(&input()?)?;
             output(text.as_bytes())
+        }
+        ["delivered"] => {
+            let expected = commands::deliver::expected(&input()?);
+            output(&expected.ok_or("sessions that end inside a call")?)
         }
         ["list"] => output(reference::lister::list(&input()?).as_bytes()),
         ["frames", format] => output(&commands::streams::frames(named(format)?, &input()?)),

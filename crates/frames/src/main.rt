@@ -150,7 +150,7 @@ fn follow<'a>(
     second: &'a [u8],
 ) -> bool {
     match answer {
-        Answer::Picture(picture) => {
+        Answer::Picture(picture, _) => {
             say_idle(idle);
             say_missing(idle.next, picture as u64);
             show(answer, clip, first, second)

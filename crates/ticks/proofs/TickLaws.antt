@@ -6,8 +6,9 @@ use native.Mathlib.Nat.{mod-lt, mod-eq-of-lt, mod-add-mod, add-mod-mod, add-mod-
 use native.Mathlib.Omega.{arith}
 use lib.Dec.{eqb, ltb}
 use borrow.Author.Tests.{eqb-true, eqb-false, ltb-true, ltb-false}
-use Rattle.laws.specs.Choice.{pick}
-use Rattle.ticks.specs.Tick.{countedDifference, trDifference, tickAbove, TickIsLeast, TickAddsDifference}
+use Rattle.laws.specs.Choice.{pick, both}
+use Rattle.ticks.specs.declared.Tick.{Tick}
+use Rattle.ticks.specs.Tick.{tickNumber, isExact, tickAs, countedDifference, trDifference, tickAbove, greatestTick, cutTick, laterTick, TickIsLeast, TickAddsDifference}
 
 module _ (m : ℕ) (some : 1 ≤ m) where
   -- what is left of `last` to the next multiple of m takes `last` away
@@ -81,3 +82,32 @@ tick-is-least m last tr some =
 pub tick-adds-difference : TickAddsDifference
 unfolding tickAbove trDifference
 tick-adds-difference m last before tr e = ap (λ (n : ℕ). last + countedDifference m ((tr + (m - n)) % m)) e
+
+-- ---- what a tick's number is, and whether it is exact
+pub as-number : (exact : Bool) (n : ℕ) → tickNumber (tickAs exact n) ≡ n
+as-number true n = refl
+as-number false n = refl
+
+pub as-exact : (exact : Bool) (n : ℕ) → isExact (tickAs exact n) ≡ exact
+as-exact true n = refl
+as-exact false n = refl
+
+pub later-number : (m before : ℕ) (last : Tick) (picture tr : ℕ) → tickNumber (laterTick m before last picture tr) ≡ cutTick (tickAbove m (tickNumber last) tr)
+unfolding laterTick
+later-number m before last picture tr = as-number (both (isExact last) (eqb picture (before + 1))) (cutTick (tickAbove m (tickNumber last) tr))
+
+pub later-exact : (m before : ℕ) (last : Tick) (picture tr : ℕ) → isExact (laterTick m before last picture tr) ≡ both (isExact last) (eqb picture (before + 1))
+unfolding laterTick
+later-exact m before last picture tr = as-exact (both (isExact last) (eqb picture (before + 1))) (cutTick (tickAbove m (tickNumber last) tr))
+
+-- ---- how far it goes
+pub cut-same : (n : ℕ) → n ≤ greatestTick → cutTick n ≡ n
+cut-same n l = go (ltb n greatestTick) refl
+  where
+    go : (b : Bool) → ltb n greatestTick ≡ b → pick b n greatestTick ≡ n
+    go true e = refl
+    go false e = let most : greatestTick ≤ n = ltb-false n greatestTick e in omega arith
+
+pub above-most : (m last tr : ℕ) → 1 ≤ m → tickAbove m last tr ≤ last + m
+unfolding tickAbove trDifference
+above-most m last tr some = omega (arith, counted-some m some ((tr + (m - last % m)) % m) (between-less m some last tr) .1)

@@ -69,7 +69,7 @@ pub fn frames(format: Format, blocks: &[u8]) -> Vec<u8> {
     let mut vault = Vault::new(format);
     for block in blocks.chunks_exact(BLOCK_LENGTH) {
         let answer = vault.receive(block);
-        if let Answer::Finished(_) = answer {
+        if let Answer::Finished(..) = answer {
             output.extend(b"FRAME\n");
             output.extend(vault.shown(&answer).expect("a finished picture"));
         }

@@ -7,9 +7,7 @@ use Rattle.standing.proofs.succeed.Statement.{statement}
 use Rattle.standing.proofs.succeed.Tie as tie
 
 tick-in-requires : tie.Need-tick-in-requires
-tick-in-requires c κs =
-    let start = c .before in
-    subst (λ (m : ℕ). 1 ≤ m) (sym (c .modulus .ensures)) (coding-lawful .each (start .args .receiver .kind) .modulus-some)
+tick-in-requires c κs = subst (λ (m : ℕ). 1 ≤ m) (sym (c .modulus .ensures)) (coding-lawful .each _ .modulus-some)
 
 returns : tie.Need-returns
 returns c =
