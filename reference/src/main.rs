@@ -7,6 +7,8 @@ use reference::format::Format;
 
 mod commands;
 
+use commands::streams::Frames;
+
 const USAGE: &str = "usage:
   reference words|blocks|render|pictures|write|send|deliver|lists|packs|captures|replays SEED COUNT FOLDER
   reference due
@@ -15,7 +17,7 @@ const USAGE: &str = "usage:
   reference annex-a-figures < OUTPUTS
   reference delivered < SESSIONS
   reference list < BLOCKS
-  reference frames qcif|cif < BLOCKS > YUV4MPEG2
+  reference frames qcif|cif [timed] < BLOCKS > YUV4MPEG2
   reference record < STREAM > CAPTURE
   reference replay < CAPTURE > STREAM
   reference pack qcif|cif CLIP < RAW > BLOCKS
@@ -51,7 +53,14 @@ fn run(arguments: &[&str]) -> Outcome {
             output(&expected.ok_or("sessions that end inside a call")?)
         }
         ["list"] => output(reference::lister::list(&input()?).as_bytes()),
-        ["frames", format] => output(&commands::streams::frames(named(format)?, &input()?)),
+        ["frames", format] => {
+            let frames = commands::streams::frames(named(format)?, &input()?, Frames::Each);
+            output(&frames)
+        }
+        ["frames", format, "timed"] => {
+            let frames = commands::streams::frames(named(format)?, &input()?, Frames::Timed);
+            output(&frames)
+        }
         ["pack", format, clip] => {
             let clip = clip.parse().map_err(|_| USAGE)?;
             let packed = commands::streams::pack(named(format)?, clip, &input()?)?;

@@ -385,7 +385,8 @@ pub fn fail(receiver: Receiver, header: Header, why: Refusal) -> Received
     }
 }
 
-fn any_finished(holder: Holder) -> bool
+// Whether a picture was finished.
+pub fn any_finished(holder: Holder) -> bool
     ensures { λ r. ⌜ r ≡ anyFinished holder ⌝ }
 {
     match holder {
