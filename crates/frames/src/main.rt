@@ -88,12 +88,13 @@ fn frame(samples: &[u8]) -> bool {
 
 fn frames(samples: &[u8], count: u32) -> bool {
     let mut left = count;
-    let mut all = true;
-    while 0 < left && all {
-        all = frame(samples);
+    while 0 < left {
+        if !frame(samples) {
+            return false;
+        }
         left -= 1;
     }
-    all
+    true
 }
 
 // Plain grey in the kind's size.

@@ -5,10 +5,12 @@ use Rattle.frames.proofs.frames.Statement.{statement}
 use Rattle.frames.proofs.frames.Tie as tie
 
 abbrev Inv-loop : tie.InvT-loop
-Inv-loop samples left₀ all₀ left all = left ≤ left
+Inv-loop samples left₀ left = left ≤ left₀
 
 abbrev μ-loop : tie.MeasureT-loop
-μ-loop samples left₀ all₀ left all = left
+μ-loop samples left₀ left = left
 
 pub frames-spec : {M : Type 1} → statement M
-frames-spec = ?
+frames-spec =
+    tie.close
+    (tie.spec Inv-loop μ-loop (λ c. search needs) (λ c κs. search needs) (λ c. search needs) (λ c. search needs) (λ c. search needs) (λ c. search needs) (λ c. search needs))
