@@ -42,29 +42,29 @@ nth-map f (y ∷ l) zero x e = ap f (Option·some-injective y x e)
 nth-map f (y ∷ l) (suc k) x e = nth-map f l k x e
 
 each-below : {A : Type 0} (f : A → ℕ) (m : ℕ) → 1 ≤ m → (l : List A) → ((k : ℕ) (x : A) → getElem? l k ≡ some x → f x < m) → (k : ℕ) → getD (map f l) k 0 < m
-each-below f m some [] h k = some
-each-below f m some (y ∷ l) h zero = h 0 y refl
-each-below f m some (y ∷ l) h (suc k) = each-below f m some l (λ i. h (suc i)) k
+each-below f m positive [] h k = positive
+each-below f m positive (y ∷ l) h zero = h 0 y refl
+each-below f m positive (y ∷ l) h (suc k) = each-below f m positive l (λ i. h (suc i)) k
 
 -- ---- the ticks that all pictures give
-module _ (m : ℕ) (some : 1 ≤ m) (tr : ℕ → ℕ) (small : (k : ℕ) → tr k < m) where
+module _ (m : ℕ) (positive : 1 ≤ m) (tr : ℕ → ℕ) (small : (k : ℕ) → tr k < m) where
   through-tr : (k : ℕ) → tickThrough m tr k % m ≡ tr k
   unfolding tickThrough
   through-tr zero = mod-eq-of-lt (small zero)
-  through-tr (suc k) = tick-is-least m (tickThrough m tr k) (tr (suc k)) some .has-tr ∙ mod-eq-of-lt (small (suc k))
+  through-tr (suc k) = tick-is-least m (tickThrough m tr k) (tr (suc k)) positive .has-tr ∙ mod-eq-of-lt (small (suc k))
 
   through-below : (k : ℕ) → tickThrough m tr k < m * (k + 1)
   unfolding tickThrough
   through-below zero = omega (arith, small zero)
-  through-below (suc k) = omega (arith, through-below k, above-most m (tickThrough m tr k) (tr (suc k)) some)
+  through-below (suc k) = omega (arith, through-below k, above-most m (tickThrough m tr k) (tr (suc k)) positive)
 
   through-onward : (j d : ℕ) → tickThrough m tr j < tickThrough m tr (suc (d + j))
   unfolding tickThrough
-  through-onward j zero = subst (λ (n : ℕ). tickThrough m tr j < tickAbove m (tickThrough m tr n) (tr (suc n))) (sym (zero-add j)) (tick-is-least m (tickThrough m tr j) (tr (suc j)) some .above)
+  through-onward j zero = subst (λ (n : ℕ). tickThrough m tr j < tickAbove m (tickThrough m tr n) (tr (suc n))) (sym (zero-add j)) (tick-is-least m (tickThrough m tr j) (tr (suc j)) positive .above)
   through-onward j (suc d) =
       let e : suc d + j ≡ suc (d + j) = omega arith in
       subst (λ (n : ℕ). tickThrough m tr j < tickThrough m tr (suc n)) (sym e)
-      (omega (arith, through-onward j d, tick-is-least m (tickThrough m tr (suc (d + j))) (tr (suc (suc (d + j)))) some .above))
+      (omega (arith, through-onward j d, tick-is-least m (tickThrough m tr (suc (d + j))) (tr (suc (suc (d + j)))) positive .above))
 
   through-rises : (j k : ℕ) → j < k → tickThrough m tr j < tickThrough m tr k
   through-rises j k l =
@@ -173,7 +173,7 @@ module _ {D : Type 0} {coding : Kind → Coding D} (lawful : AllLawful coding) {
 
   -- ---- it goes on to hold
   known-next : {p : ℕ} {m n : Moment} {answer : Said} → Known m → Moves lawful sound p m answer n → Known n
-  known-next {p} {m} {n} h (stays said is no same onward) = record {
+  known-next {p} {m} {n} h (stays said is other same onward) = record {
     before-wanted = λ f. omega (arith, h .before-wanted (sym (ap (λ (l : Last). anyFinished (l .holder)) same) ∙ f), ap (λ (l : Last). l .picture) same, onward);
     tick-against = λ f. subst (λ (l : Last). TickAgainst (all (l .picture)) (l .tick)) (sym same) (h .tick-against (sym (ap (λ (l : Last). anyFinished (l .holder)) same) ∙ f));
   }
@@ -201,7 +201,7 @@ module _ {D : Type 0} {coding : Kind → Coding D} (lawful : AllLawful coding) {
   same-answer p q t u e = (cc, cc)
 
   answered : {p : ℕ} {m n : Moment} {answer : Said} → Known m → Moves lawful sound p m answer n → (k : ℕ) (tick : Tick) → answer ≡ A.picture k tick → TickAgainst (all k) tick
-  answered h (stays said is no same onward) k tick e = absurd (true≢false (sym (ap isPicture (sym is ∙ e)) ∙ no))
+  answered h (stays said is other same onward) k tick e = absurd (true≢false (sym (ap isPicture (sym is ∙ e)) ∙ other))
   answered {p} {m} h (finishes x at from is last wants) k tick e =
       let same = same-answer p k (tickOf coding kind x (m .last) p) tick (sym is ∙ e) in
       subst (λ (n : ℕ). TickAgainst (all n) tick) (same .0) (subst (TickAgainst (all p)) (same .1) (finished-against m h p x at from))
