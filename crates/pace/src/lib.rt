@@ -5,6 +5,7 @@ use standing::Standing;
 use ticks::Tick;
 ghost use mathlib.Core.Path.{_≡_};
 ghost use Prim.Native.Nat.{_+_, _-_};
+ghost use lib.Dec.{eqb};
 ghost use Rattle.pace.specs.Between.{keptStep, ticksBetween, framesBetween};
 
 // How many frames: the last picture again, or grey.
@@ -13,11 +14,17 @@ pub enum Between {
     Grey(u32),
 }
 
+fn follows(last: u32, picture: u32) -> bool
+    ensures { λ r. ⌜ r ≡ eqb picture (last + 1) ⌝ }
+{
+    picture as u64 == last as u64 + 1
+}
+
 fn kept_step(standing: Standing, picture: u32) -> bool
     ensures { λ r. ⌜ r ≡ keptStep standing picture ⌝ }
 {
     match standing {
-        Standing::InStep(last) => picture as u64 == last as u64 + 1,
+        Standing::InStep(last) => follows(last, picture),
         Standing::Catching => false,
         Standing::Lost => false,
     }
