@@ -5,10 +5,10 @@ use Rattle.frames.proofs.frames.Statement.{statement}
 use Rattle.frames.proofs.frames.Tie as tie
 
 abbrev Inv-loop : tie.InvT-loop
-Inv-loop samples left₀ left = left ≤ left₀
+Inv-loop samples count left₀ left = left ≤ left₀
 
 abbrev μ-loop : tie.MeasureT-loop
-μ-loop samples left₀ left = left
+μ-loop samples count left₀ left = left
 
 pub frames-spec : {M : Type 1} → statement M
 frames-spec =
