@@ -135,9 +135,3 @@ pub fn blocks_of(clip: u16, picture: u32, is_refresh: bool, bits: &Bits) -> Vec<
         })
         .collect()
 }
-
-/// "1001 times the tick, over 30000, in f64: one division, rounded once, of two exactly converted whole
-/// numbers."
-pub fn due(tick: u32) -> f64 {
-    f64::from(1001 * tick) / 30_000.0
-}

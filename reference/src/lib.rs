@@ -1,4 +1,4 @@
-//! An independent implementation of Pagesorrel, from document 01 and H.261 alone: reader,
+//! An independent implementation of Pagesorrel, from its documents and H.261 alone: reader,
 //! reconstruction, writer, blocks, sender, receiver and lister, and a maker of test inputs.
 
 pub mod annex_a;
@@ -22,5 +22,6 @@ pub mod sender;
 pub mod stores;
 pub mod stream;
 pub mod tables;
+pub mod ticks;
 pub mod transform;
 pub mod writer;

@@ -18,7 +18,7 @@ impl fmt::Display for Answer {
         match self {
             Answer::Old(position) => write!(out, "old {position}"),
             Answer::Taken(position) => write!(out, "taken {position}"),
-            Answer::Finished(picture) => write!(out, "picture {picture} tick {picture}"),
+            Answer::Finished(picture, tick) => write!(out, "picture {picture} tick {tick}"),
             Answer::Lost => write!(out, "lost"),
             Answer::Refused(refusal) => write!(out, "{refusal}"),
         }

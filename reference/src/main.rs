@@ -8,14 +8,18 @@ use reference::h263;
 
 mod commands;
 
+use commands::streams::Frames;
+
 const USAGE: &str = "usage:
   reference words|blocks|render|pictures|write|send|deliver|lists|packs|captures|replays SEED COUNT FOLDER
   reference h263-words|h263-render|h263-pictures|h263-write|h263-streams SEED COUNT FOLDER
   reference due
+  reference ticks > RECORDS
   reference annex-a > COEFFICIENTS
   reference annex-a-figures < OUTPUTS
+  reference delivered < SESSIONS
   reference list < BLOCKS
-  reference frames qcif|cif < BLOCKS > YUV4MPEG2
+  reference frames qcif|cif [timed] < BLOCKS > YUV4MPEG2
   reference record < STREAM > CAPTURE
   reference replay < CAPTURE > STREAM
   reference pack qcif|cif CLIP < RAW > BLOCKS
@@ -40,13 +44,25 @@ fn main() -> ExitCode {
 fn run(arguments: &[&str]) -> Outcome {
     match *arguments {
         ["due"] => output(commands::due::lines().as_bytes()),
+        ["ticks"] => output(&commands::due::records()),
         ["annex-a"] => output(&commands::annex_a::coefficients()),
         ["annex-a-figures"] => {
             let text = commands::annex_a::figures(&input()?)?;
             output(text.as_bytes())
         }
+        ["delivered"] => {
+            let expected = commands::deliver::expected(&input()?);
+            output(&expected.ok_or("sessions that end inside a call")?)
+        }
         ["list"] => output(reference::lister::list(&input()?).as_bytes()),
-        ["frames", format] => output(&commands::streams::frames(named(format)?, &input()?)),
+        ["frames", format] => {
+            let frames = commands::streams::frames(named(format)?, &input()?, Frames::Each);
+            output(&frames)
+        }
+        ["frames", format, "timed"] => {
+            let frames = commands::streams::frames(named(format)?, &input()?, Frames::Timed);
+            output(&frames)
+        }
         ["pack", format, clip] => {
             let clip = clip.parse().map_err(|_| USAGE)?;
             let packed = commands::streams::pack(named(format)?, clip, &input()?)?;

@@ -6,6 +6,7 @@ use crate::reader::read;
 use crate::reconstruction::reconstruct;
 use crate::refusal::Refusal;
 use crate::stores::Which;
+use crate::ticks::{Finished, Tick};
 
 #[derive(Clone, Copy, PartialEq, Eq, Debug)]
 pub enum Stand {
@@ -25,13 +26,15 @@ pub struct Receiver {
     refresh_mark: bool,
     /// The store that the next finished picture goes into; the other holds the last finished one.
     into: Which,
+    /// Since opening, not since a loss.
+    last: Option<Finished>,
 }
 
 #[derive(Clone, Copy, PartialEq, Eq, Debug)]
 pub enum Answer {
     Old(Position),
     Taken(Position),
-    Finished(u32),
+    Finished(u32, Tick),
     Lost,
     Refused(Refusal),
 }
@@ -59,6 +62,7 @@ impl Receiver {
             stand: Stand::Lost,
             refresh_mark: false,
             into: Which::First,
+            last: None,
         })
     }
 
@@ -116,9 +120,11 @@ impl Receiver {
         };
         let count = PAYLOAD_BITS * usize::from(part) + block.bits_used;
         match self.finish(count, lent) {
-            Ok(()) => {
+            Ok(temporal_reference) => {
+                let finished = Finished::after(self.last, picture, temporal_reference);
                 self.stand = Stand::InStep(picture);
-                Answer::Finished(picture)
+                self.last = Some(finished);
+                Answer::Finished(picture, finished.tick)
             }
             Err(refusal) => {
                 self.stand = Stand::Lost;
@@ -127,8 +133,8 @@ impl Receiver {
         }
     }
 
-    /// 24 is judged after acceptance and before any sample is written.
-    fn finish(&mut self, count: usize, lent: &mut Lent) -> Result<(), Refusal> {
+    /// The picture's TR. 24 is judged after acceptance and before any sample is written.
+    fn finish(&mut self, count: usize, lent: &mut Lent) -> Result<u8, Refusal> {
         let description = read(lent.collection, count, self.format)?;
         if description.is_refresh() != self.refresh_mark {
             return Err(Refusal::plain(24));
@@ -139,7 +145,7 @@ impl Receiver {
         };
         store.copy_from_slice(&reconstruct(&description, reference));
         self.into = self.into.other();
-        Ok(())
+        Ok(description.temporal_reference)
     }
 
     /// The store that holds the picture to show, after the given answer; none where an empty part is

@@ -8,7 +8,8 @@ pub struct Refusal {
     pub number: u8,
     /// 0 for numbers without a place (1, 2 and 21 up).
     pub place: usize,
-    /// 1 MBA, 2 MTYPE, 3 MVD, 4 CBP, 5 TCOEFF; "other refusals carry table 0".
+    /// 1 MBA, 2 MTYPE, 3 MVD, 4 CBP, 5 TCOEFF; of H.263 6 and 7 MCBPC in INTRA and INTER pictures, 8 CBPY,
+    /// 9 MVD, 10 TCOEF; "other refusals carry table 0".
     pub table: u8,
 }
 
@@ -35,11 +36,11 @@ impl Refusal {
     }
 
     pub fn has_place(self) -> bool {
-        (3..=13).contains(&self.number)
+        (3..=14).contains(&self.number)
     }
 }
 
-/// As the lister writes it: "at" for refusals 3 to 13 only, "table" for 8.
+/// As the lister writes it: "at" for refusals 3 to 14 only, "table" for 8.
 impl fmt::Display for Refusal {
     fn fmt(&self, out: &mut fmt::Formatter<'_>) -> fmt::Result {
         write!(out, "refused {}", self.number)?;

@@ -73,7 +73,7 @@ fn in_step_shows_what_the_sender_has() {
                 }
                 _ => assert!(bench.shown(&answer).is_none()),
             }
-            finished += usize::from(matches!(answer, Answer::Finished(_)));
+            finished += usize::from(matches!(answer, Answer::Finished(..)));
             lost += usize::from(answer == Answer::Lost);
         }
     }
@@ -127,7 +127,7 @@ fn an_untrue_mark_is_24_either_way() {
     assert_eq!(bench.receiver.stand(), Stand::Lost);
     // The next refresh catches up; then a refresh without its mark.
     let answers = send(&mut bench, 1, true, &refresh_bits());
-    assert_eq!(answers.last(), Some(&Answer::Finished(1)));
+    assert!(matches!(answers.last(), Some(Answer::Finished(1, _))));
     let before = bench.stores.clone();
     let answers = send(&mut bench, 2, false, &refresh_bits());
     assert_eq!(answers.last(), Some(&Answer::Refused(Refusal::plain(24))));

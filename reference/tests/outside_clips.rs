@@ -69,7 +69,9 @@ fn every_clip_is_sent_and_received() {
             for block in out.chunks(BLOCK_LENGTH).take(count) {
                 last = vault.receive(block);
             }
-            assert_eq!(last, Answer::Finished(number as u32), "{name}");
+            let finished =
+                matches!(last, Answer::Finished(picture, _) if picture as usize == number);
+            assert!(finished, "{name}");
             assert!(vault.shown(&last) == Some(&store[..]), "{name} {number}");
         }
     }

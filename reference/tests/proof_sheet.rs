@@ -1,7 +1,7 @@
 //! The twelve examples of document 01's proof sheet, its lister example and its due time.
 
 use reference::bits::Bits;
-use reference::block::{blocks_of, due};
+use reference::block::blocks_of;
 use reference::description::{Description, Vector, INTRA};
 use reference::format::Format;
 use reference::lister::list;
@@ -9,6 +9,7 @@ use reference::random::Random;
 use reference::reader::{landing, read};
 use reference::reconstruction::{chroma_vector, loop_filter, reconstruct};
 use reference::refusal::Refusal;
+use reference::ticks::{due, Known};
 use reference::transform::{dequantise, inverse_transform, Block};
 use reference::writer::write_picture;
 
@@ -153,7 +154,8 @@ fn the_listers_other_lines() {
 
 #[test]
 fn due_times() {
-    assert_eq!(due(3750), 125.125);
-    assert_eq!(due(0), 0.0);
-    assert_eq!(due(1), 1001.0 / 30000.0);
+    assert_eq!(due(Known::Exact(3750)), Known::Exact(125.125));
+    assert_eq!(due(Known::Estimated(3750)), Known::Estimated(125.125));
+    assert_eq!(due(Known::Exact(0)), Known::Exact(0.0));
+    assert_eq!(due(Known::Exact(1)), Known::Exact(1001.0 / 30000.0));
 }

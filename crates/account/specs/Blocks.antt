@@ -33,7 +33,7 @@ unfoldable pub metAfter : Met → Answer → Met
 metAfter m (A.Old p part) = m
 metAfter m (A.Taken p part) = record { pictures = m .pictures; begun = true; cut = m .cut }
 metAfter m A.Lost = cutShort m
-metAfter m (A.Picture p) = finished m p
+metAfter m (A.Picture p tick) = finished m p
 metAfter m (A.Refused why) = cutShort m
 
 -- something was cut, or a part is left over

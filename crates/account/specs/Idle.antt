@@ -39,5 +39,5 @@ unfoldable pub idleAfter : Idle → ℕ → Answer → Idle
 idleAfter i n (A.Old p part) = i
 idleAfter i n (A.Taken p part) = pick (eqb part 0) (beginning (dropped i) n) (goingOn i n)
 idleAfter i n A.Lost = wasted (dropped i) n
-idleAfter i n (A.Picture p) = fresh (p + 1)
+idleAfter i n (A.Picture p tick) = fresh (p + 1)
 idleAfter i n (A.Refused why) = pick (ofBlock (number (why .reason))) i (wasted (dropped i) n)

@@ -67,7 +67,7 @@ pub fn after(met: Met, answer: Answer) -> Met
             next.cut = true;
             next
         }
-        Answer::Picture(picture) => finish(met, picture),
+        Answer::Picture(picture, _) => finish(met, picture),
         Answer::Refused(_) => {
             next.cut = true;
             next

@@ -118,7 +118,7 @@ pub fn after(idle: Idle, n: u64, answer: Answer) -> Idle
             go_on(idle, n)
         }
         Answer::Lost => waste(drop(idle), n),
-        Answer::Picture(picture) => open(picture as u64 + 1),
+        Answer::Picture(picture, _) => open(picture as u64 + 1),
         Answer::Refused(why) => {
             let reason = why.reason;
             if of_block(refusals::number_of(reason)) {

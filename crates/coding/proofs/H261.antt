@@ -1,10 +1,13 @@
 -- H.261 obeys the laws of a coding, and so does what each kind's pictures are coded by. Assumes nothing.
 use mathlib.Core.Path.{_≡_, refl, sym, ap, subst, _∙_}
 use mathlib.Core.List.{List}
-use Prim.Native.Nat.{ℕ, _≤_, zero-le, suc-le-suc}
-use lib.Dec.{T}
+use mathlib.Core.Bool.{true}
+use Prim.Native.Nat.{ℕ, _≤_, _<_, zero-le, suc-le-suc}
+use native.Mathlib.Omega.{arith}
+use borrow.Author.Tests.{leb-true}
+use lib.Dec.{T, leb, lit≤}
 use lib.ListN.{length}
-use Rattle.laws.proofs.Choice.{T-true, true-T}
+use Rattle.laws.proofs.Choice.{T-true, true-T, two-of}
 use Rattle.refusals.specs.Told.{accepted}
 use Rattle.refusals.proofs.Told.{accepted-once, told-apart}
 use Rattle.bits.specs.Read.{Read, got, endless, refused as unread}
@@ -13,7 +16,7 @@ use Rattle.h261_groups.specs.declared.Format.{Format}
 use Rattle.h261_groups.specs.Format.{sizeOf}
 use Rattle.h261_description.specs.Value.{Picture, laidPicture}
 use Rattle.layout.specs.Flat.{Flat}
-use Rattle.h261_description.specs.Valid.{valid}
+use Rattle.h261_description.specs.Valid.{lengthsOf, validHead, valid}
 use Rattle.h261_description.specs.Fields.{refresh}
 use Rattle.fields.specs.Answer.{mapRead, found}
 use Rattle.h261_layers.specs.Grammar.{reading}
@@ -26,7 +29,7 @@ use Rattle.h261_readback.specs.ReadBack.{ReadBack}
 use Rattle.h261_readback.proofs.ReadBack.{reads-back}
 use Rattle.h261_render.proofs.Rendered.{rendered-length}
 use Rattle.h261_render.proofs.Reference.{refresh-same}
-use Rattle.coding.specs.H261.{H261Lawful}
+use Rattle.coding.specs.H261.{trOf, H261Lawful}
 use Rattle.coding.specs.Kind.{formatOf, codingOf, CodingLawful}
 
 module _ (f : Format) where
@@ -55,12 +58,24 @@ module _ (f : Format) where
   unfolding pictureBits pictureOf
   some-bits d = suc-le-suc zero-le
 
+  -- "fields are in range"
+  tr-small : (d : Flat) → valid f d ≡ true → trOf d < 32
+  unfolding valid
+  tr-small d v =
+      let fields = two-of (lengthsOf f d) _ v .1 in
+      let head = two-of (validHead f (d .head)) _ fields .0 in
+      let most : trOf d ≤ 31 = leb-true (trOf d) 31 (two-of (leb (trOf d) 31) _ head .0) in
+      omega arith
+
 pub h261-lawful : H261Lawful
 h261-lawful f = record {
   reads = λ d bytes v. read-found f d bytes (true-T (valid f d) v);
   reads-valid = λ bytes n d e. T-true (valid f d) (found-valid f bytes n d e);
   has-bits = some-bits f;
   rendered-long = rendered-length f;
+  tr-below = tr-small f;
+  modulus-some = lit≤ tt;
+  modulus-most = lit≤ tt;
   anew = λ d s t v r. refresh-same f d s t (true-T (refresh f d) r);
 }
 

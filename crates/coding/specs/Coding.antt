@@ -18,3 +18,6 @@ pub record Coding (D : Type 0) : Type 0 where
   pub written : D → List Bit
   -- its store over a reference
   pub render : D → List ℕ → List ℕ
+  -- TR, and the number that it is counted modulo
+  pub tr : D → ℕ
+  pub modulus : ℕ

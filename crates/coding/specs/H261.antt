@@ -1,4 +1,6 @@
 -- H.261 as a coding: the grammar, the layout, the writer, the refresh rule and the samples of the crates below. Assumes nothing.
+use Prim.Native.Nat.{ℕ}
+use lib.ListN.{getD}
 use Rattle.laws.specs.Choice.{either}
 use Rattle.h261_groups.specs.declared.Format.{Format}
 use Rattle.h261_groups.specs.declared.Format.the-variants.{Qcif, Cif}
@@ -13,6 +15,10 @@ use Rattle.fields.specs.Answer.{found}
 use Rattle.coding.specs.Coding.{Coding}
 use Rattle.coding.specs.Lawful.{Lawful}
 
+-- TR stands first in the head; "TR 5"
+abbrev pub trOf : Flat → ℕ
+trOf d = getD (d .head) 0 0
+
 -- the three slices have the lengths of one format; another than opened is no valid description
 abbrev pub h261 : Format → Coding Flat
 h261 f = record {
@@ -22,6 +28,8 @@ h261 f = record {
   refresh = refresh f;
   written = pictureBits f;
   render = rendered f;
+  tr = trOf;
+  modulus = 32;
 }
 
 abbrev pub H261Lawful : Type 0

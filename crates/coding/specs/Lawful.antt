@@ -2,7 +2,7 @@
 use mathlib.Core.Path.{_≡_}
 use mathlib.Core.Bool.{true}
 use mathlib.Core.List.{List}
-use Prim.Native.Nat.{ℕ, _≤_}
+use Prim.Native.Nat.{ℕ, _≤_, _<_}
 use lib.ListN.{length}
 use Rattle.size.specs.declared.Size.{Size}
 use Rattle.size.specs.Size.{limit, storeLength}
@@ -20,5 +20,9 @@ pub record Lawful {D : Type 0} (size : Size) (c : Coding D) : Type 0 where
   pub has-bits : (d : D) → 1 ≤ length (c .written d)
   -- a store has its named length
   pub rendered-long : (d : D) (reference : List ℕ) → length (c .render d reference) ≡ storeLength size
+  -- TR is below its modulus, which is above 0, and so many that TR has eight bits at most
+  pub tr-below : (d : D) → c .valid d ≡ true → c .tr d < c .modulus
+  pub modulus-some : 1 ≤ c .modulus
+  pub modulus-most : c .modulus ≤ 256
   -- a refresh is the same over any reference
   pub anew : (d : D) (s t : List ℕ) → c .valid d ≡ true → c .refresh d ≡ true → c .render d s ≡ c .render d t

@@ -106,6 +106,28 @@ pub fn is_refresh(kind: Kind, head: &[u8], macroblocks: &[u8], levels: &[u8]) ->
     h261_validity::refresh::is_refresh(format, macroblocks)
 }
 
+// ---- TR
+
+// TR, which stands first in a description's head.
+pub fn tr_of(kind: Kind, head: &[u8], macroblocks: &[u8], levels: &[u8]) -> u32
+    ensures { λ r. ⌜ r ≡ codingOf kind .tr (flat (now (head .entry)) (now (macroblocks .entry)) (now (levels .entry))) ⌝ }
+{
+    if head.len() == 0 {
+        return 0;
+    }
+    head[0] as u32
+}
+
+// The number that TR is counted modulo.
+pub fn modulus(kind: Kind) -> u32
+    ensures { λ r. ⌜ r ≡ codingOf kind .modulus ⌝ }
+{
+    match kind {
+        Kind::H261Qcif => 32,
+        Kind::H261Cif => 32,
+    }
+}
+
 // ---- a valid description written and drawn
 
 // How many bits its picture has. They are in the output, unless they are above the limit.

@@ -86,10 +86,10 @@ judged-is r block b = go (R.lentLengths (kindSize (r .kind)) b)
     go false = refl
 
 -- ---- a good block
-abbrev eventVerdict : Event Flat → Verdict
-eventVerdict e = verdictSaid (answerOf e)
-
 module _ (r : Receiver) (block : List ℕ) (b : Buffers) where
+  abbrev eventVerdict : Event Flat → Verdict
+  eventVerdict e = verdictSaid (answerOf codingOf r e)
+
   abbrev header : Header
   header = headerOf block
 
@@ -99,7 +99,7 @@ module _ (r : Receiver) (block : List ℕ) (b : Buffers) where
   -- what a refused event leaves: lost, with the part in the collection
   abbrev Fails : Event Flat → Type 0
   Fails e = (numbers : Numbers) → eventVerdict e ≡ refusedBy numbers
-      → (advance r e ≡ failedReceiver r header) × (collectionAfter block (b .collection) e ≡ after) × (storedBy codingOf r (b .both) e ≡ b .both)
+      → (advance codingOf r e ≡ failedReceiver r header) × (collectionAfter block (b .collection) e ≡ after) × (storedBy codingOf r (b .both) e ≡ b .both)
 
   ended-due : (rules : List Verdict) (found : Told Flat) → verdictOn found ≡ firstOf rules → eventVerdict (endedPicture codingOf r header found) ≡ firstOf (rules ++ (markRule r header found ∷ []))
   unfolding endedPicture
@@ -182,12 +182,12 @@ module _ (r : Receiver) (block : List ℕ) (b : Buffers) where
       (decided (firstOf (blockRules r block b)) refl)
 
   -- what a receiver's call comes to
-  event-refuses : (e : Event Flat) → Comes e → BlockRefuses r block b r (λ s. s) (answerOf e) (advance r e) (record { collection = collectionAfter block (b .collection) e; both = storedBy codingOf r (b .both) e })
+  event-refuses : (e : Event Flat) → Comes e → BlockRefuses r block b r (λ s. s) (answerOf codingOf r e) (advance codingOf r e) (record { collection = collectionAfter block (b .collection) e; both = storedBy codingOf r (b .both) e })
   event-refuses e c = record {
     due = c .due;
     stores = λ numbers h. stored (firstOf (blockRules r block b)) refl numbers h;
     unchanged = λ numbers h.
-        subst (λ (x : Event Flat). (advance r x ≡ r) × (record { collection = collectionAfter block (b .collection) x; both = storedBy codingOf r (b .both) x } ≡ b)) (sym (c .idle numbers h)) (refl, refl);
+        subst (λ (x : Event Flat). (advance codingOf r x ≡ r) × (record { collection = collectionAfter block (b .collection) x; both = storedBy codingOf r (b .both) x } ≡ b)) (sym (c .idle numbers h)) (refl, refl);
     at-last = λ numbers g h. let f = c .fails g numbers h in (f .0, λ i. record { collection = f .1 i; both = f .2 i });
   }
     where

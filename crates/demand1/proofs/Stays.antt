@@ -42,5 +42,5 @@ pub answer-stays : AnswerStays
 answer-stays (G.Old n part) = refl
 answer-stays (G.Taken n part) = refl
 answer-stays G.Lost = refl
-answer-stays (G.Picture n) = refl
+answer-stays (G.Picture n tick) = refl
 answer-stays (G.Refused why) = refl

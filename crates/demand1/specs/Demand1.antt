@@ -63,7 +63,7 @@ abbrev pub verdictSaid : Said → O.Verdict
 verdictSaid (A.old n part) = accepted tt
 verdictSaid (A.taken n part) = accepted tt
 verdictSaid A.lost = accepted tt
-verdictSaid (A.picture n) = accepted tt
+verdictSaid (A.picture n tick) = accepted tt
 verdictSaid (A.refused numbers) = refusedBy numbers
 
 pub record BlockRefuses {X : Type 0} (r : Receiver) (block : List ℕ) (b : Buffers) (before : X) (state : Receiver → X) (answer : Said) (next : X) (left : Buffers) : Type 0 where

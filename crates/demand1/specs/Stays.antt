@@ -8,6 +8,7 @@ use Rattle.refusals.specs.Tables.{withoutTable}
 use Rattle.bits.specs.Bits.{Bit}
 use Rattle.bits.specs.Code.{CodeTable, word}
 use Rattle.fields.specs.Answer.{found}
+use Rattle.ticks.specs.declared.Tick.{Tick}
 use Rattle.standing.specs.declared.Answer.{Answer}
 use Rattle.standing.specs.declared.Answer.the-variants as G
 use Rattle.standing.specs.Answered.{Said, said}
@@ -25,7 +26,7 @@ pub data SaidBefore : Type 0 where
   old : ℕ → ℕ → SaidBefore
   taken : ℕ → ℕ → SaidBefore
   lost : SaidBefore
-  picture : ℕ → SaidBefore
+  picture : ℕ → Tick → SaidBefore
   -- the refusal's number, and its place
   refused : ℕ → ℕ → SaidBefore
 
@@ -33,14 +34,14 @@ abbrev pub saidBefore : Answer → SaidBefore
 saidBefore (G.Old n part) = old n part
 saidBefore (G.Taken n part) = taken n part
 saidBefore G.Lost = lost
-saidBefore (G.Picture n) = picture n
+saidBefore (G.Picture n tick) = picture n tick
 saidBefore (G.Refused why) = refused (number (why .reason)) (why .place)
 
 abbrev pub saidWithoutTable : Said → SaidBefore
 saidWithoutTable (A.old n part) = old n part
 saidWithoutTable (A.taken n part) = taken n part
 saidWithoutTable A.lost = lost
-saidWithoutTable (A.picture n) = picture n
+saidWithoutTable (A.picture n tick) = picture n tick
 saidWithoutTable (A.refused numbers) = refused (numbers .number) (numbers .place)
 
 abbrev pub AnswerStays : Type 0

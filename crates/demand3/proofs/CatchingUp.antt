@@ -15,6 +15,7 @@ use Rattle.laws.specs.Choice.{both, either, opposite}
 use Rattle.laws.proofs.Choice.{two-of}
 use Rattle.coding.specs.declared.Kind.{Kind}
 use Rattle.vault.specs.Parts.{partCount}
+use Rattle.ticks.specs.declared.Tick.{Tick}
 use Rattle.standing.specs.Stores.{shownStore}
 use Rattle.standing.specs.declared.Place.{Place}
 use Rattle.standing.specs.declared.Standing.{Standing}
@@ -91,7 +92,8 @@ module _ {D : Type 0} {coding : Kind → Coding D} (lawful : AllLawful coding) {
 
   pub record Completes (p part : ℕ) (m : Moment) (block : List ℕ) : Type 0 where
     pub next : Moment
-    pub finishes : Finishing lawful clip kind p m block next
+    pub tick : Tick
+    pub finishes : Finishing lawful clip kind p tick m block next
     pub held : Held lawful sound next
     pub complete : Complete p part next
 
@@ -111,7 +113,7 @@ module _ {D : Type 0} {coding : Kind → Coding D} (lawful : AllLawful coding) {
     same-count y e = ap blockCount (Option·some-injective x y (sym (h .at) ∙ e))
 
     took : (standing : Standing) → isLost standing ≡ false → Takes lawful clip kind (block-of lawful sound h) m (held .named) standing → Fits lawful sound h m held
-        → Shows sent standing (shownStore (kindSize kind) (whereShown standing (m .holder)) (m .lent .both)) → Further p (part + 1) m block standing ⊎ Completes p (part + 1) m block
+        → Shows sent standing (shownStore (kindSize kind) (whereShown standing (m .last .holder)) (m .lent .both)) → Further p (part + 1) m block standing ⊎ Completes p (part + 1) m block
     took standing l t fits shows = go (eqb (part + 1) (blockCount x)) refl
       where
         less : (a b : ℕ) → a < b → (a + 1 ≡ b → ⊥) → a + 1 < b
@@ -122,6 +124,7 @@ module _ {D : Type 0} {coding : Kind → Coding D} (lawful : AllLawful coding) {
             inr
             (record {
               next = _;
+              tick = _;
               finishes = goes-arrived lawful sound h m held standing t fits e;
               held = held-drawn lawful sound h m held fits;
               complete = record { stands = refl; wants = refl; count = λ y q. eqb-true (part + 1) (blockCount x) e ∙ same-count y q };
@@ -254,6 +257,7 @@ module _ {D : Type 0} {coding : Kind → Coding D} (lawful : AllLawful coding) {
       block = block;
       after = blocks;
       is = refl;
+      tick = c .tick;
       answers = ap (λ (x : Outcome). x .gave .answer) (c .finishes .comes .is) ∙ c .finishes .answers;
       only-older = s .olds;
     };
@@ -272,6 +276,7 @@ module _ {D : Type 0} {coding : Kind → Coding D} (lawful : AllLawful coding) {
       block = e .finishes .block;
       after = e .finishes .after;
       is = ap (λ (l : List (List ℕ)). block ∷ l) (e .finishes .is);
+      tick = e .finishes .tick;
       answers =
           ap (λ (w : World). upon (step coding) w (e .finishes .before) (e .finishes .block) .gave .answer) (after-comes lawful sound m block n c)
           ∙ e .finishes .answers;
@@ -322,6 +327,7 @@ module _ {D : Type 0} {coding : Kind → Coding D} (lawful : AllLawful coding) {
       block = r .finishes .block;
       after = r .finishes .after;
       is = ap (λ (l : List (List ℕ)). first ++ l) (r .finishes .is) ∙ sym (append-assoc first (r .finishes .before) (r .finishes .block ∷ r .finishes .after));
+      tick = r .finishes .tick;
       answers =
           ap (λ (w : World). step coding (w .receiver) (r .finishes .block) (w .lent) .gave .answer)
           (run-append (worldAt clip kind m) first (r .finishes .before) ∙ ap (λ (w : World). worldGiven (step coding) w (r .finishes .before)) is)

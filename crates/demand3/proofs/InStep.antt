@@ -23,7 +23,7 @@ use Rattle.standing.specs.declared.Receiver.{Receiver}
 use Rattle.standing.specs.Answered.{Said}
 use Rattle.coding.specs.Coding.{Coding}
 use Rattle.coding.specs.Kind.{kindSize, AllLawful}
-use Rattle.standing.specs.Receive.{place, Buffers, lentLengths, judgedBlock, byJudgement, decide, freshReceiver, openedReceiver, Outcome, cameTo, step}
+use Rattle.standing.specs.Receive.{place, Buffers, lentLengths, judgedBlock, byJudgement, decide, freshReceiver, openedReceiver, noneFinished, Outcome, cameTo, step}
 use Rattle.standing.specs.Shown.{whereShown, refusedLength, shownBy}
 use Rattle.standing.specs.Run.{World}
 use Rattle.demand3.specs.Clip.{Picture, pictures, Clip, opening, picturesIn, Each, worldGiven, upon, Shows, Right}
@@ -54,7 +54,7 @@ receiver-opened clip kind r e = go (eqb clip 0) e
     go false h = accepted-once h
 
 abbrev pub start : Buffers → Moment
-start lent = record { wanted = place 0 0; standing = T.Lost; holder = Neither; mark = false; lent = lent }
+start lent = record { wanted = place 0 0; standing = T.Lost; last = noneFinished; mark = false; lent = lent }
 
 module _ {D : Type 0} {coding : Kind → Coding D} (lawful : AllLawful coding) where
   -- a clip from its opening
@@ -91,7 +91,7 @@ module _ {D : Type 0} {coding : Kind → Coding D} (lawful : AllLawful coding) w
     held-right : (answer : Said) (m : Moment) → refusedLength answer ≡ false → Held lawful sound m → Right shownBy sent (outcomeAt clip kind answer m)
     unfolding shownBy
     held-right answer m e h =
-        subst (λ (t : Bool). Shows sent (m .standing) (shownStore (kindSize kind) (pick t Neither (whereShown (m .standing) (m .holder))) (m .lent .both))) (sym e) (h .shows)
+        subst (λ (t : Bool). Shows sent (m .standing) (shownStore (kindSize kind) (pick t Neither (whereShown (m .standing) (m .last .holder))) (m .lent .both))) (sym e) (h .shows)
 
     pub upon-right : (m : Moment) → Held lawful sound m → (blocks : List (List ℕ)) → Parts lawful sound blocks → (block : List ℕ) → Part coding sent block
         → Right shownBy sent (upon (step coding) (worldAt clip kind m) blocks block)
@@ -103,12 +103,12 @@ module _ {D : Type 0} {coding : Kind → Coding D} (lawful : AllLawful coding) w
 
     -- ---- where a lent buffer hasn't its named length, each call is refused by 1
     module _ (lent : Buffers) (e : lentLengths (kindSize kind) lent ≡ false) where
-      short : (block : List ℕ) → step coding (freshReceiver clip kind) block lent ≡ outcomeAt clip kind (A.refused (untabled 1 0)) (start lent)
+      pub short : (block : List ℕ) → step coding (freshReceiver clip kind) block lent ≡ outcomeAt clip kind (A.refused (untabled 1 0)) (start lent)
       unfolding step decide judgedBlock byJudgement cameTo
       short block =
           ap (λ (t : Bool). cameTo coding (freshReceiver clip kind) block lent (byJudgement coding (pick t (judgeOf (kindSize kind) clip block) (refused 1 0)) (freshReceiver clip kind) block (lent .collection))) e
 
-      short-run : (blocks : List (List ℕ)) → worldGiven (step coding) (worldAt clip kind (start lent)) blocks ≡ worldAt clip kind (start lent)
+      pub short-run : (blocks : List (List ℕ)) → worldGiven (step coding) (worldAt clip kind (start lent)) blocks ≡ worldAt clip kind (start lent)
       unfolding worldGiven
       short-run [] = refl
       short-run (block ∷ blocks) = ap (λ (x : Outcome). worldGiven (step coding) (record { receiver = x .gave .next; lent = x .left }) blocks) (short block) ∙ short-run blocks

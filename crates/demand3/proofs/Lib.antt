@@ -10,3 +10,5 @@ pub mod Step
 pub mod WholeClip
 pub mod Reconstructed
 pub mod Soon
+pub mod Ticks
+pub mod ClipTicks

@@ -21,7 +21,8 @@ use Rattle.vault.specs.Parts.{partCount, usedAt, payloadAt, headerAt, blockAt, 
 use Rattle.vault.proofs.Cut.{at-length}
 use Rattle.vault.specs.Collected.{Collected}
 use Rattle.vault.proofs.Collected.{collected-more, placed-length, at-judged, at-payload, count-back}
-use Rattle.standing.specs.declared.Holder.{Holder}
+use Rattle.ticks.specs.declared.Tick.{Tick}
+use Rattle.standing.specs.declared.Last.{Last}
 use Rattle.standing.specs.Stores.{Stores, goesInto, reference, storesWith}
 use Rattle.standing.specs.declared.Place.{Place}
 use Rattle.standing.specs.declared.Standing.{Standing}
@@ -32,7 +33,7 @@ use Rattle.standing.specs.declared.Line.the-variants.{Earlier, Next, Anew, Othe
 use Rattle.standing.specs.Answered.{Said, reply}
 use Rattle.coding.specs.Coding.{Coding}
 use Rattle.coding.specs.Kind.{kindSize, AllLawful}
-use Rattle.standing.specs.Receive.{place, progress, lastIn, Event, old, taken, lost, finished, Buffers, lentLengths, judgedBlock, lineOf, endedPicture, tookOf, byLine, byJudgement, decide, Outcome, cameTo, step}
+use Rattle.standing.specs.Receive.{place, progress, lastIn, tickIn, Event, old, taken, lost, finished, Buffers, lentLengths, judgedBlock, lineOf, endedPicture, tookOf, byLine, byJudgement, decide, Outcome, cameTo, step}
 use Rattle.standing.specs.Shown.{refusedLength}
 use Rattle.standing.specs.Run.{World}
 use Rattle.coding.specs.Described.{bytesIn}
@@ -47,7 +48,7 @@ use Rattle.standing.specs.Answered as A
 pub record Moment : Type 0 where
   pub wanted : Place
   pub standing : Standing
-  pub holder : Holder
+  pub last : Last
   -- the refresh mark of part 0 of what is collected
   pub mark : Bool
   pub lent : Buffers
@@ -57,7 +58,7 @@ progressAt m = progress (m .wanted) (m .standing) (m .mark)
 
 module _ (clip : ℕ) (kind : Kind) where
   abbrev pub receiverAt : Moment → Receiver
-  receiverAt m = record { clip = clip; kind = kind; progress = progressAt m; last = lastIn (m .holder) }
+  receiverAt m = record { clip = clip; kind = kind; progress = progressAt m; last = m .last }
 
   abbrev pub worldAt : Moment → World
   worldAt m = record { receiver = receiverAt m; lent = m .lent }
@@ -71,26 +72,26 @@ marked m header = pick (eqb (header .part) 0) (header .refresh) (m .mark)
 
 -- lost
 abbrev pub astray : Moment → Moment
-astray m = record { wanted = m .wanted; standing = T.Lost; holder = m .holder; mark = m .mark; lent = m .lent }
+astray m = record { wanted = m .wanted; standing = T.Lost; last = m .last; mark = m .mark; lent = m .lent }
 
 -- a part further
 abbrev pub further : Moment → Header → Standing → List ℕ → Moment
 further m header standing block = record {
   wanted = place (header .picture) (header .part + 1);
   standing = standing;
-  holder = m .holder;
+  last = m .last;
   mark = marked m header;
   lent = record { collection = placedPayload block (header .part) (m .lent .collection); both = m .lent .both };
 }
 
--- in step, with this picture
-abbrev pub arrived : Moment → Header → List ℕ → List ℕ → Moment
-arrived m header block picture = record {
+-- in step, with this picture and its tick
+abbrev pub arrived : Moment → Header → List ℕ → List ℕ → Tick → Moment
+arrived m header block picture tick = record {
   wanted = place (header .picture + 1) 0;
   standing = T.InStep (header .picture);
-  holder = goesInto (m .holder);
+  last = lastIn (goesInto (m .last .holder)) (header .picture) tick;
   mark = marked m header;
-  lent = record { collection = placedPayload block (header .part) (m .lent .collection); both = storesWith (m .holder) picture (m .lent .both) };
+  lent = record { collection = placedPayload block (header .part) (m .lent .collection); both = storesWith (m .last .holder) picture (m .lent .both) };
 }
 
 -- ---- a block of the clip
@@ -100,6 +101,10 @@ module _ {D : Type 0} (coding : Kind → Coding D) (kind : Kind) (x : Picture D)
 
   abbrev pub refreshOf : Bool
   refreshOf = coding kind .refresh (x .description)
+
+  -- its tick, finished after this as picture p
+  abbrev pub tickOf : Last → ℕ → Tick
+  tickOf last p = tickIn (coding kind .modulus) last p (coding kind .tr (x .description))
 
   abbrev pub headerOf : ℕ → ℕ → ℕ → Header
   headerOf clip p part = headerAt clip p refreshOf (length bitsOf) part
@@ -141,10 +146,10 @@ module _ {D : Type 0} {coding : Kind → Coding D} (lawful : AllLawful coding) (
     pub long : refusedLength answer ≡ false
     pub is : step coding (receiverAt clip kind m) block (m .lent) ≡ outcomeAt clip kind answer n
 
-  -- and answers that picture p is finished
-  pub record Finishing (p : ℕ) (m : Moment) (block : List ℕ) (n : Moment) : Type 0 where
+  -- and answers that picture p is finished, with this tick
+  pub record Finishing (p : ℕ) (tick : Tick) (m : Moment) (block : List ℕ) (n : Moment) : Type 0 where
     pub comes : Comes m block n
-    pub answers : comes .answer ≡ A.picture p
+    pub answers : comes .answer ≡ A.picture p tick
 
   module _ {x : Picture D} {p part : ℕ} {block : List ℕ} (b : Block coding kind x clip p part block) (m : Moment) (named : lentLengths (kindSize kind) (m .lent) ≡ true) where
     abbrev r : Receiver
@@ -183,6 +188,10 @@ module _ {D : Type 0} {coding : Kind → Coding D} (lawful : AllLawful coding) (
       long = refl;
       is = decided (old header) (ap (λ (l : Line). byLine coding l r header block (m .lent .collection)) q);
     }
+
+    pub old-answers : (q : lineOf (progressAt m) header ≡ Earlier) → comes-old q .answer ≡ A.old p part
+    unfolding comes-old
+    old-answers q = refl
 
     pub comes-lost : lineOf (progressAt m) header ≡ Otherwise → Comes m block (astray m)
     unfolding byLine cameTo
@@ -250,11 +259,11 @@ module _ {D : Type 0} {coding : Kind → Coding D} (lawful : AllLawful coding) (
           ∙ rw (true-mark (coding kind .refresh (x .description)) (marked m header) (sym e))
 
       pub comes-arrived : (standing : Standing) → Takes standing → marked m header ≡ refreshOf coding kind x
-          → Finishing p m block (arrived m header block (coding kind .render (x .description) (reference (m .holder) (m .lent .both))))
+          → Finishing p (tickOf coding kind x (m .last) p) m block (arrived m header block (coding kind .render (x .description) (reference (m .last .holder) (m .lent .both))) (tickOf coding kind x (m .last) p))
       unfolding tookOf cameTo
       comes-arrived standing t e = record {
         comes = record {
-          answer = A.picture p;
+          answer = A.picture p (tickOf coding kind x (m .last) p);
           long = refl;
           is =
               decided (finished header (x .description))

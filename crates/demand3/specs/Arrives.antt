@@ -5,6 +5,7 @@ use mathlib.Core.List.{List, [], _∷_, _++_}
 use mathlib.Core.Option.{some}
 use Prim.Native.Nat.{ℕ, _+_}
 use lib.ListN.{length, getElem?}
+use Rattle.ticks.specs.declared.Tick.{Tick}
 use Rattle.standing.specs.Run.{World}
 use Rattle.demand3.specs.Clip.{Picture, PartOf, Receive, Show, Right, upon}
 use Rattle.standing.specs.Answered as A
@@ -45,7 +46,8 @@ pub record Finishes {D : Type 0} (receive : Receive) (sent : List (Picture D)) (
   pub block : List ℕ
   pub after : List (List ℕ)
   pub is : blocks ≡ before ++ (block ∷ after)
-  pub answers : upon receive w before block .gave .answer ≡ A.picture k
+  pub tick : Tick
+  pub answers : upon receive w before block .gave .answer ≡ A.picture k tick
   pub only-older : EachOlder sent (k + 1) 0 after
 
 -- "finishes that picture in step": and with the last of these blocks the receiver stands in step at picture k, and shows the sender's store after it

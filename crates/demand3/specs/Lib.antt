@@ -4,3 +4,4 @@ pub mod Demand3
 pub mod Theorems
 pub mod Reconstructed
 pub mod Soon
+pub mod Ticks

@@ -1,7 +1,8 @@
 // Writes the pictures of the blocks on standard input that finish in step as YUV4MPEG2: `frames SIZE` or `frames SIZE CLIP`, with SIZE qcif or cif and CLIP from 1 to 65535.
+// With the last word `timed` there is a frame for each tick: a picture stands until the next one's tick; where the receiver left step in between, it stands for one, and the rest is grey.
 //
 // On standard error: the lister's line for a refused or a short block, each run of blocks that led to no picture, the numbers of the pictures that are missing, and at the end
-// how many pictures there were. Without a clip the first good block chooses it, and standard error says which; with one, another clip's blocks are refused by 23.
+// how many pictures there were; with `timed` also how many frames are repeated and how many grey. Without a clip the first good block chooses it, and standard error says which; with one, another clip's blocks are refused by 23.
 //
 //     ./pagesorrel frames qcif 7 < clip.blocks > clip.y4m
 use account::End;
@@ -13,15 +14,19 @@ use coding::Kind;
 use libc::STDERR_FILENO;
 use libc::STDOUT_FILENO;
 use listing::Clip;
+use pace::Between;
 use size::Size;
 use standing::Answer;
 use standing::Opened;
 use standing::Received;
+use standing::Receiver;
+use ticks::Tick;
 ghost use mathlib.Core.Path.{_≡_};
 ghost use lib.ListN.{length};
 ghost use Rattle.io.specs.Counts.{Counts};
 ghost use Rattle.text.specs.Text.{over};
 ghost use Rattle.frames.specs.Header.{headerText};
+ghost use Rattle.frames.specs.Timing.{timingText};
 
 // Whether there is more to do, and if not, why.
 enum Going {
@@ -31,12 +36,26 @@ enum Going {
     Unwritten,
 }
 
-// After a turn: whether there is more to do, the clip, what was met so far, and the blocks that led to no picture.
+// Whether there is a frame for each tick, and the frames that were written between pictures.
+struct Timing {
+    timed: bool,
+    repeated: u64,
+    grey: u64,
+}
+
+// After the frames between two pictures: whether all were written.
+struct Filled {
+    timing: Timing,
+    all: bool,
+}
+
+// After a turn: whether there is more to do, the clip, what was met so far, the blocks that led to no picture, and the frames between pictures.
 struct Turn {
     going: Going,
     clip: Clip,
     met: Met,
     idle: Idle,
+    timing: Timing,
 }
 
 // ---- what is written
@@ -60,6 +79,120 @@ fn begin(kind: Kind) -> bool {
     io::write_all(STDOUT_FILENO, &text[..count])
 }
 
+fn frame(samples: &[u8]) -> bool {
+    if io::write_all(STDOUT_FILENO, b"FRAME\n") {
+        return io::write_all(STDOUT_FILENO, samples);
+    }
+    false
+}
+
+fn frames(samples: &[u8], count: u32) -> bool {
+    let mut left = count;
+    while 0 < left {
+        if !frame(samples) {
+            return false;
+        }
+        left -= 1;
+    }
+    true
+}
+
+// Plain grey in the kind's size.
+fn grey_frames(kind: Kind, count: u32) -> bool {
+    match kind {
+        Kind::H261Qcif => {
+            let grey = [128u8; 38016];
+            frames(&grey, count)
+        }
+        Kind::H261Cif => {
+            let grey = [128u8; 152064];
+            frames(&grey, count)
+        }
+    }
+}
+
+// Counts stop near the greatest number of 64 bits.
+fn more(n: u64, count: u32) -> u64 {
+    if n < 18446744069414584320 {
+        return n + count as u64;
+    }
+    n
+}
+
+fn fill_with<'a>(
+    timing: Timing,
+    receiver: Receiver,
+    between: Between,
+    first: &'a [u8],
+    second: &'a [u8],
+) -> Filled {
+    let kind = receiver.kind;
+    match between {
+        Between::Repeated(count) => {
+            let last = receiver.last;
+            let holder = last.holder;
+            let size = coding::size_of(kind);
+            let all = frames(standing::store_shown(size, holder, first, second), count);
+            Filled {
+                timing: Timing {
+                    timed: timing.timed,
+                    repeated: more(timing.repeated, count),
+                    grey: timing.grey,
+                },
+                all,
+            }
+        }
+        Between::Grey(count) => {
+            let all = grey_frames(kind, count);
+            Filled {
+                timing: Timing {
+                    timed: timing.timed,
+                    repeated: timing.repeated,
+                    grey: more(timing.grey, count),
+                },
+                all,
+            }
+        }
+    }
+}
+
+// The frames between the picture before and this one, by the clip as it was before the block that finished it.
+fn fill_before<'a>(
+    timing: Timing,
+    before: Clip,
+    picture: u32,
+    tick: Tick,
+    first: &'a [u8],
+    second: &'a [u8],
+) -> Filled {
+    match before {
+        Clip::Unknown => Filled { timing, all: true },
+        Clip::Known(receiver) => {
+            let between = pace::frames_between(receiver, picture, tick);
+            fill_with(timing, receiver, between, first, second)
+        }
+    }
+}
+
+fn fill<'a>(
+    timing: Timing,
+    before: Clip,
+    answer: Answer,
+    first: &'a [u8],
+    second: &'a [u8],
+) -> Filled {
+    if timing.timed {
+        match answer {
+            Answer::Picture(picture, tick) => {
+                fill_before(timing, before, picture, tick, first, second)
+            }
+            _ => Filled { timing, all: true },
+        }
+    } else {
+        Filled { timing, all: true }
+    }
+}
+
 // The picture that is finished.
 fn show<'a>(answer: Answer, clip: Clip, first: &'a [u8], second: &'a [u8]) -> bool {
     match clip {
@@ -69,10 +202,7 @@ fn show<'a>(answer: Answer, clip: Clip, first: &'a [u8], second: &'a [u8]) -> bo
                 answer,
                 next: receiver,
             };
-            if io::write_all(STDOUT_FILENO, b"FRAME\n") {
-                return io::write_all(STDOUT_FILENO, standing::show(received, first, second));
-            }
-            false
+            frame(standing::show(received, first, second))
         }
     }
 }
@@ -132,6 +262,26 @@ fn say_rest(idle: Idle) {
     }
 }
 
+// "9 repeated, 31 grey"
+fn timing_line(repeated: u64, grey: u64, out: &mut [u8; 128]) -> usize
+    ensures { λ r. ⌜ Counts r (now (out .exit)) ⌝ }
+    ensures { λ r. ⌜ r ≡ length (timingText repeated grey) ⌝ }
+    ensures { λ r. ⌜ now (out .exit) ≡ over (timingText repeated grey) (now (out .entry)) ⌝ }
+{
+    let repeats = text::put_number(repeated, 0, out);
+    let parted = text::put(b" repeated, ", repeats, out);
+    let greys = text::put_number(grey, parted, out);
+    text::put(b" grey\n", greys, out)
+}
+
+fn say_timing(timing: Timing) {
+    if timing.timed {
+        let mut text = [0u8; 128];
+        let count = timing_line(timing.repeated, timing.grey, &mut text);
+        io::write_all(STDERR_FILENO, &text[..count]);
+    }
+}
+
 fn say_pictures(pictures: u64) {
     let mut text = [0u8; 128];
     let count = text::remarks::pictures(pictures, &mut text);
@@ -150,7 +300,7 @@ fn follow<'a>(
     second: &'a [u8],
 ) -> bool {
     match answer {
-        Answer::Picture(picture) => {
+        Answer::Picture(picture, _) => {
             say_idle(idle);
             say_missing(idle.next, picture as u64);
             show(answer, clip, first, second)
@@ -170,12 +320,40 @@ fn written(all: bool) -> Going {
     Going::Unwritten
 }
 
+// What the block's answer leads to: frames up to its picture, then the picture and what is said. After a failed write nothing more is done.
+fn shown<'a>(
+    n: u64,
+    before: Clip,
+    clip: Clip,
+    answer: Answer,
+    met: Met,
+    idle: Idle,
+    timing: Timing,
+    first: &'a [u8],
+    second: &'a [u8],
+) -> Turn {
+    let filled = fill(timing, before, answer, first, second);
+    let timing_after = filled.timing;
+    let mut all = false;
+    if filled.all {
+        all = follow(n, answer, clip, idle, first, second);
+    }
+    Turn {
+        going: written(all),
+        clip,
+        met: account::blocks::after(met, answer),
+        idle: account::idle::after(idle, n, answer),
+        timing: timing_after,
+    }
+}
+
 fn whole(
     n: u64,
     kind: Kind,
     clip: Clip,
     met: Met,
     idle: Idle,
+    timing: Timing,
     block: &[u8; 512],
     collection: &mut [u8],
     first: &mut [u8],
@@ -185,22 +363,17 @@ fn whole(
     let answer = listed.answer;
     let next = listed.next;
     choose(n, clip, next);
-    let all = follow(n, answer, next, idle, first, second);
-    Turn {
-        going: written(all),
-        clip: next,
-        met: account::blocks::after(met, answer),
-        idle: account::idle::after(idle, n, answer),
-    }
+    shown(n, clip, next, answer, met, idle, timing, first, second)
 }
 
-fn short(n: u64, clip: Clip, met: Met, idle: Idle) -> Turn {
+fn short(n: u64, clip: Clip, met: Met, idle: Idle, timing: Timing) -> Turn {
     say_short(n);
     Turn {
         going: Going::Ended,
         clip,
         met: account::blocks::short(met),
         idle,
+        timing,
     }
 }
 
@@ -210,6 +383,7 @@ fn one(
     clip: Clip,
     met: Met,
     idle: Idle,
+    timing: Timing,
     collection: &mut [u8],
     first: &mut [u8],
     second: &mut [u8],
@@ -222,19 +396,32 @@ fn one(
             clip,
             met,
             idle,
+            timing,
         };
     }
     if filled.count == 512 {
-        return whole(n, kind, clip, met, idle, &block, collection, first, second);
+        return whole(
+            n,
+            kind,
+            clip,
+            met,
+            idle,
+            timing,
+            &block,
+            collection,
+            first,
+            second,
+        );
     }
     if 0 < filled.count {
-        return short(n, clip, met, idle);
+        return short(n, clip, met, idle, timing);
     }
     Turn {
         going: Going::Ended,
         clip,
         met,
         idle,
+        timing,
     }
 }
 
@@ -250,19 +437,20 @@ fn unwritten() -> End {
     End::Unwritten
 }
 
-fn end(met: Met, idle: Idle) -> End {
+fn end(met: Met, idle: Idle, timing: Timing) -> End {
     let left = account::idle::drop(idle);
     say_idle(left);
     say_rest(left);
     say_pictures(met.pictures);
+    say_timing(timing);
     account::blocks::end(met)
 }
 
-fn finish(going: Going, met: Met, idle: Idle) -> End {
+fn finish(going: Going, met: Met, idle: Idle, timing: Timing) -> End {
     match going {
         Going::Unread => unread(),
         Going::Unwritten => unwritten(),
-        _ => end(met, idle),
+        _ => end(met, idle, timing),
     }
 }
 
@@ -277,6 +465,7 @@ fn goes_on(going: Going) -> bool {
 fn all(
     kind: Kind,
     opened: Clip,
+    timed: bool,
     collection: &mut [u8],
     first: &mut [u8],
     second: &mut [u8],
@@ -284,39 +473,47 @@ fn all(
     let mut clip = opened;
     let mut met = account::blocks::open();
     let mut idle = account::idle::open(0);
+    let mut timing = Timing {
+        timed,
+        repeated: 0,
+        grey: 0,
+    };
     let mut going = written(begin(kind));
     let mut n: u64 = 0;
     while n < 18446744073709551615 && goes_on(going) {
-        let turn = one(n, kind, clip, met, idle, collection, first, second);
+        let turn = one(n, kind, clip, met, idle, timing, collection, first, second);
         clip = turn.clip;
         met = turn.met;
         idle = turn.idle;
+        timing = turn.timing;
         going = turn.going;
         n += 1;
     }
-    finish(going, met, idle)
+    finish(going, met, idle, timing)
 }
 
-fn qcif(clip: Clip) -> End {
+fn qcif(clip: Clip, timed: bool) -> End {
     let mut collection = [0u8; 8500];
     let mut first = [0u8; 38016];
     let mut second = [0u8; 38016];
     all(
         Kind::H261Qcif,
         clip,
+        timed,
         &mut collection,
         &mut first,
         &mut second,
     )
 }
 
-fn cif(clip: Clip) -> End {
+fn cif(clip: Clip, timed: bool) -> End {
     let mut collection = [0u8; 33000];
     let mut first = [0u8; 152064];
     let mut second = [0u8; 152064];
     all(
         Kind::H261Cif,
         clip,
+        timed,
         &mut collection,
         &mut first,
         &mut second,
@@ -328,47 +525,63 @@ fn cif(clip: Clip) -> End {
 fn usage() -> End {
     io::write_all(
         STDERR_FILENO,
-        b"usage: frames qcif|cif [CLIP] < BLOCKS > PICTURES.y4m, with CLIP from 1 to 65535\n",
+        b"usage: frames qcif|cif [CLIP] [timed] < BLOCKS > PICTURES.y4m, with CLIP from 1 to 65535\n",
     );
     End::Misnamed
 }
 
-fn run(kind: Kind, clip: Clip) -> End {
+fn run(kind: Kind, clip: Clip, timed: bool) -> End {
     match kind {
-        Kind::H261Qcif => qcif(clip),
-        Kind::H261Cif => cif(clip),
+        Kind::H261Qcif => qcif(clip, timed),
+        Kind::H261Cif => cif(clip, timed),
     }
 }
 
-fn of_clip(kind: Kind, word: &[u8]) -> End {
+fn of_clip(kind: Kind, word: &[u8], timed: bool) -> End {
     match arguments::clip_named(word) {
         ClipWord::Names(clip) => match standing::open(clip, kind) {
-            Opened::Open(receiver) => run(kind, Clip::Known(receiver)),
+            Opened::Open(receiver) => run(kind, Clip::Known(receiver), timed),
             Opened::Refused(_) => usage(),
         },
         ClipWord::Other => usage(),
     }
 }
 
-fn of_size(count: usize, size: &[u8], clip: &[u8]) -> End {
+fn of_size(count: usize, size: &[u8], clip: &[u8], timed: bool) -> End {
     match arguments::format_named(size) {
         FormatWord::Names(format) => {
             let kind = coding::kind_of(format);
             if count == 2 {
-                return run(kind, Clip::Unknown);
+                return run(kind, Clip::Unknown, timed);
             }
-            of_clip(kind, clip)
+            of_clip(kind, clip, timed)
         }
         FormatWord::Other => usage(),
     }
 }
 
-// How many words there are, the program's own name among them, and the two after it.
-fn of_words(count: usize, size: &[u8], clip: &[u8]) -> End {
+// How many words there are, the program's own name among them and `timed` not, and the two after it.
+fn of_words(count: usize, size: &[u8], clip: &[u8], timed: bool) -> End {
     if 2 <= count && count <= 3 {
-        return of_size(count, size, clip);
+        return of_size(count, size, clip, timed);
     }
     usage()
+}
+
+// The words without a last one that is `timed`.
+fn of_timed(count: usize, size: &[u8], clip: &[u8], last: &[u8]) -> End {
+    if 3 <= count && text::same(last, b"timed") {
+        return of_words(count - 1, size, clip, true);
+    }
+    of_words(count, size, clip, false)
+}
+
+// Which word is the last.
+fn last_of(count: usize) -> usize {
+    if 1 <= count {
+        return count - 1;
+    }
+    0
 }
 
 fn main() {
@@ -376,5 +589,8 @@ fn main() {
     let mut clip = [0u8; 16];
     let sizes = os::arg(1, &mut size);
     let clips = os::arg(2, &mut clip);
-    account::tell(of_words(os::arg_count(), &size[..sizes], &clip[..clips]));
+    let mut last = [0u8; 16];
+    let count = os::arg_count();
+    let lasts = os::arg(last_of(count), &mut last);
+    account::tell(of_timed(count, &size[..sizes], &clip[..clips], &last[..lasts]));
 }

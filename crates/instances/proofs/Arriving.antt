@@ -16,16 +16,19 @@ use Rattle.coding.specs.declared.Kind.{Kind}
 use Rattle.coding.specs.Coding.{Coding}
 use Rattle.coding.specs.Kind.{kindSize, AllLawful}
 use Rattle.vault.specs.Parts.{partCount}
+use Rattle.ticks.specs.declared.Tick.{Tick}
+use Rattle.standing.specs.declared.Last.{Last}
+use Rattle.standing.specs.Stores.{goesInto}
 use Rattle.standing.specs.declared.Place.{Place}
 use Rattle.standing.specs.declared.Standing.{Standing}
 use Rattle.standing.specs.declared.Line.the-variants.{Otherwise}
 use Rattle.standing.specs.Answered.{Said, taken, lost, picture}
-use Rattle.standing.specs.Receive.{place, earlierPlace, samePlace, isLost, lineOf, step}
+use Rattle.standing.specs.Receive.{place, lastIn, earlierPlace, samePlace, isLost, lineOf, step}
 use Rattle.standing.specs.Run.{World, worldAfter, answers}
 use Rattle.demand3.specs.Clip.{Picture, PartOf, worldGiven, afterBlock}
 use Rattle.demand3.specs.Soon.{InOrder, here, next}
 use Rattle.demand3.proofs.Finished.{none-shown}
-use Rattle.demand3.proofs.Step.{Moment, progressAt, worldAt, astray, bitsOf, refreshOf, headerOf, Comes, comes-old, comes-lost, lost-answers, Takes, takes-next, takes-anew}
+use Rattle.demand3.proofs.Step.{Moment, progressAt, worldAt, astray, bitsOf, refreshOf, tickOf, headerOf, Comes, comes-old, comes-lost, lost-answers, Takes, takes-next, takes-anew}
 use Rattle.demand3.proofs.Held.{lost-in-step, Sound, Held, held-astray, Goes, step-held, Fits, block-of, fits-next, fits-anew, goes-further, goes-answers, goes-arrived, held-further, held-drawn, line-of, after-comes}
 use Rattle.instances.specs.Instances.{arrival}
 use Rattle.instances.specs.Bound.{NotInStep}
@@ -47,13 +50,14 @@ onward : (part i : ℕ) → part + suc i ≡ part + 1 + i
 onward part i = omega arith
 
 module _ {D : Type 0} {coding : Kind → Coding D} (lawful : AllLawful coding) {clip : ℕ} {kind : Kind} {sent : List (Picture D)} (sound : Sound coding clip kind sent) where
-  -- from this moment the blocks bring picture p in step, and this is said of them
-  pub record Brings (p : ℕ) (m : Moment) (blocks : List (List ℕ)) (says : List Said) : Type 0 where
+  -- from this moment the blocks bring picture p in step, this is known of it as the last one, and this is said of them
+  pub record Brings (p : ℕ) (after : Last) (m : Moment) (blocks : List (List ℕ)) (says : List Said) : Type 0 where
     pub last : Moment
     pub is : worldGiven (step coding) (worldAt clip kind m) blocks ≡ worldAt clip kind last
     pub held : Held lawful sound last
     pub stands : last .standing ≡ T.InStep p
     pub wants : last .wanted ≡ place (p + 1) 0
+    pub leaves : last .last ≡ after
     pub said-are : answers coding (worldAt clip kind m) blocks ≡ says
 
   -- what is said of one block, and then of the others
@@ -64,15 +68,16 @@ module _ {D : Type 0} {coding : Kind → Coding D} (lawful : AllLawful coding) {
       (λ i. c .is i .gave .answer ∷ answers coding (record { receiver = c .is i .gave .next; lent = c .is i .left }) blocks)
       ∙ ap (λ (s : Said). s ∷ answers coding (worldAt clip kind n) blocks) e
 
-  more : (p : ℕ) (m n : Moment) (block : List ℕ) (blocks : List (List ℕ)) (a : Said) (rest : List Said) (c : Comes lawful clip kind m block n) → c .answer ≡ a
-      → Brings p n blocks rest → Brings p m (block ∷ blocks) (a ∷ rest)
+  more : (p : ℕ) (after : Last) (m n : Moment) (block : List ℕ) (blocks : List (List ℕ)) (a : Said) (rest : List Said) (c : Comes lawful clip kind m block n) → c .answer ≡ a
+      → Brings p after n blocks rest → Brings p after m (block ∷ blocks) (a ∷ rest)
   unfolding worldGiven
-  more p m n block blocks a rest c e r = record {
+  more p after m n block blocks a rest c e r = record {
     last = r .last;
     is = ap (λ (w : World). worldGiven (step coding) w blocks) (after-comes lawful sound m block n c) ∙ r .is;
     held = r .held;
     stands = r .stands;
     wants = r .wants;
+    leaves = r .leaves;
     said-are = answers-on m n block blocks a c e ∙ ap (λ (l : List Said). a ∷ l) (r .said-are);
   }
 
@@ -85,6 +90,13 @@ module _ {D : Type 0} {coding : Kind → Coding D} (lawful : AllLawful coding) {
 
     abbrev part-of : (part : ℕ) (block : List ℕ) (blocks : List (List ℕ)) → Own part (block ∷ blocks) → PartOf sent p part block
     part-of part block blocks h = record { picture = x; at = at; has = ap (getElem? (x .blocks)) (sym (add-zero part)) ∙ sym (h 0) }
+
+    -- the tick of this picture, finished after this one, and what is known then
+    abbrev tickAfter : Last → Tick
+    tickAfter last = tickOf coding kind x last p
+
+    abbrev lastAfter : Last → Last
+    lastAfter last = lastIn (goesInto (last .holder)) p (tickAfter last)
 
     -- ---- the parts that are wanted
     module _ (part : ℕ) (block : List ℕ) (blocks : List (List ℕ)) (own : Own part (block ∷ blocks)) (m : Moment) (held : Held lawful sound m) (l : isLost (m .standing) ≡ false) (w : m .wanted ≡ place p part) where
@@ -100,28 +112,30 @@ module _ {D : Type 0} {coding : Kind → Coding D} (lawful : AllLawful coding) {
       fits : Fits lawful sound h m held
       fits = fits-next lawful sound h m held l (sym (ap (λ (q : Place). q .picture) w)) (sym (ap (λ (q : Place). q .part) w))
 
-      last-part : part + 1 ≡ count → Brings p m (block ∷ []) (picture p ∷ [])
+      last-part : part + 1 ≡ count → Brings p (lastAfter (m .last)) m (block ∷ []) (picture p (tickAfter (m .last)) ∷ [])
       unfolding worldGiven answers
       last-part c =
           let f = goes-arrived lawful sound h m held (m .standing) took fits (eq-eqb (part + 1) count c) in
-          more p m _ block [] (picture p) [] (f .comes) (f .answers)
-          (record { last = _; is = refl; held = held-drawn lawful sound h m held fits; stands = refl; wants = refl; said-are = refl })
+          more p (lastAfter (m .last)) m _ block [] (picture p (tickAfter (m .last))) [] (f .comes) (f .answers)
+          (record { last = _; is = refl; held = held-drawn lawful sound h m held fits; stands = refl; wants = refl; leaves = refl; said-are = refl })
 
-      next-part : (part + 1 ≡ count → ⊥) → (rest : List Said)
-          → ((n : Moment) → Held lawful sound n → isLost (n .standing) ≡ false → n .wanted ≡ place p (part + 1) → Brings p n blocks rest) → Brings p m (block ∷ blocks) (taken p part ∷ rest)
-      next-part c rest on =
+      next-part : (part + 1 ≡ count → ⊥) → (after : Last) (rest : List Said)
+          → ((n : Moment) → Held lawful sound n → isLost (n .standing) ≡ false → n .wanted ≡ place p (part + 1) → n .last ≡ m .last → Brings p after n blocks rest)
+          → Brings p after m (block ∷ blocks) (taken p part ∷ rest)
+      next-part c after rest on =
           let e = ne-eqb (part + 1) count c in
-          more p m _ block blocks (taken p part) rest (goes-further lawful sound h m held (m .standing) took e) (goes-answers lawful sound h m held (m .standing) took e)
-          (on _ (held-further lawful sound h m held (m .standing) fits (held .shows)) l refl)
+          more p after m _ block blocks (taken p part) rest (goes-further lawful sound h m held (m .standing) took e) (goes-answers lawful sound h m held (m .standing) took e)
+          (on _ (held-further lawful sound h m held (m .standing) fits (held .shows)) l refl refl)
 
     pub from-part : (left part : ℕ) (blocks : List (List ℕ)) → Own part blocks → length blocks ≡ suc left → part + suc left ≡ count → (m : Moment) → Held lawful sound m → isLost (m .standing) ≡ false → m .wanted ≡ place p part
-        → Brings p m blocks (arrival p part left)
-    from-part left part [] own n c m held l w = absurd (omega arith)
-    from-part zero part (block ∷ []) own n c m held l w = last-part part block [] own m held l w (omega arith)
-    from-part zero part (block ∷ second ∷ blocks) own n c m held l w = absurd (omega arith)
-    from-part (suc left) part (block ∷ blocks) own n c m held l w =
-        next-part part block blocks own m held l w (λ e. omega arith) (arrival p (part + 1) left)
-        (λ k h l′ w′. from-part left (part + 1) blocks (λ i. own (suc i) ∙ ap (getElem? (x .blocks)) (onward part i)) (omega arith) (omega arith) k h l′ w′)
+        → (last : Last) → m .last ≡ last → Brings p (lastAfter last) m blocks (arrival p part left (tickAfter last))
+    from-part left part [] own n c m held l w last q = absurd (omega arith)
+    from-part zero part (block ∷ []) own n c m held l w last q =
+        subst (λ (a : Last). Brings p (lastAfter a) m (block ∷ []) (picture p (tickAfter a) ∷ [])) q (last-part part block [] own m held l w (omega arith))
+    from-part zero part (block ∷ second ∷ blocks) own n c m held l w last q = absurd (omega arith)
+    from-part (suc left) part (block ∷ blocks) own n c m held l w last q =
+        next-part part block blocks own m held l w (λ e. omega arith) (lastAfter last) (arrival p (part + 1) left (tickAfter last))
+        (λ k h l′ w′ q′. from-part left (part + 1) blocks (λ i. own (suc i) ∙ ap (getElem? (x .blocks)) (onward part i)) (omega arith) (omega arith) k h l′ w′ last (q′ ∙ q))
 
     -- ---- a refresh of two parts or more, to a receiver that is lost
     module _ (block : List ℕ) (blocks : List (List ℕ)) (own : Own 0 (block ∷ blocks)) (m : Moment) (held : Held lawful sound m) (r : refreshOf coding kind x ≡ true) (l : isLost (m .standing) ≡ true) (e : earlierPlace (place p 0) (m .wanted) ≡ false) where
@@ -133,18 +147,19 @@ module _ {D : Type 0} {coding : Kind → Coding D} (lawful : AllLawful coding) {
           takes-anew lawful clip kind (block-of lawful sound begun) m (held .named)
           (line-of lawful sound begun m held false false true e (second-no (samePlace (place p 0) (m .wanted)) (opposite (isLost (m .standing))) (ap opposite l)) (ap (λ (t : Bool). both t true) r))
 
-      from-refresh : (left : ℕ) → length (block ∷ blocks) ≡ suc (suc left) → suc (suc left) ≡ count → Brings p m (block ∷ blocks) (arrival p 0 (suc left))
-      from-refresh left n c =
+      from-refresh : (left : ℕ) → length (block ∷ blocks) ≡ suc (suc left) → suc (suc left) ≡ count → (last : Last) → m .last ≡ last → Brings p (lastAfter last) m (block ∷ blocks) (arrival p 0 (suc left) (tickAfter last))
+      from-refresh left n c last q =
           let fits = fits-anew lawful sound begun m held refl r in
           let e : eqb (0 + 1) count ≡ false = ne-eqb (0 + 1) count (λ q. omega arith) in
-          more p m _ block blocks (taken p 0) (arrival p (0 + 1) left) (goes-further lawful sound begun m held T.Catching took-anew e) (goes-answers lawful sound begun m held T.Catching took-anew e)
-          (from-part left (0 + 1) blocks (λ i. own (suc i) ∙ ap (getElem? (x .blocks)) (onward 0 i)) (omega arith) (omega arith) _ (held-further lawful sound begun m held T.Catching fits (none-shown (kindSize kind) (m .lent .both))) refl refl)
+          more p (lastAfter last) m _ block blocks (taken p 0) (arrival p (0 + 1) left (tickAfter last)) (goes-further lawful sound begun m held T.Catching took-anew e) (goes-answers lawful sound begun m held T.Catching took-anew e)
+          (from-part left (0 + 1) blocks (λ i. own (suc i) ∙ ap (getElem? (x .blocks)) (onward 0 i)) (omega arith) (omega arith) _ (held-further lawful sound begun m held T.Catching fits (none-shown (kindSize kind) (m .lent .both))) refl refl last q)
 
     pub from-start : (left : ℕ) (blocks : List (List ℕ)) → Own 0 blocks → 1 ≤ left → length blocks ≡ suc left → suc left ≡ count → (m : Moment) → Held lawful sound m
-        → refreshOf coding kind x ≡ true → isLost (m .standing) ≡ true → earlierPlace (place p 0) (m .wanted) ≡ false → Brings p m blocks (arrival p 0 left)
-    from-start zero blocks own o n c m held r l e = absurd (omega arith)
-    from-start (suc left) [] own o n c m held r l e = absurd (omega arith)
-    from-start (suc left) (block ∷ blocks) own o n c m held r l e = from-refresh block blocks own m held r l e left n c
+        → refreshOf coding kind x ≡ true → isLost (m .standing) ≡ true → earlierPlace (place p 0) (m .wanted) ≡ false → (last : Last) → m .last ≡ last
+        → Brings p (lastAfter last) m blocks (arrival p 0 left (tickAfter last))
+    from-start zero blocks own o n c m held r l e last q = absurd (omega arith)
+    from-start (suc left) [] own o n c m held r l e last q = absurd (omega arith)
+    from-start (suc left) (block ∷ blocks) own o n c m held r l e last q = from-refresh block blocks own m held r l e left n c last q
 
   -- ---- part 0 of a later picture that is no refresh
   module _ {p : ℕ} {block : List ℕ} (h : PartOf sent p 0 block) (m : Moment) (held : Held lawful sound m) (r : refreshOf coding kind (h .picture) ≡ false) (e : earlierPlace (place p 0) (m .wanted) ≡ false) (s : samePlace (place p 0) (m .wanted) ≡ false) where

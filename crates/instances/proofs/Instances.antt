@@ -22,9 +22,14 @@ use Rattle.coding.specs.declared.Kind.{Kind}
 use Rattle.coding.specs.Kind.{formatOf, kindSize, codingOf}
 use Rattle.coding.proofs.H261.{coding-lawful}
 use Rattle.vault.specs.Parts.{partCount}
+use Rattle.ticks.specs.declared.Tick.{Tick}
+use Rattle.ticks.specs.declared.Tick.the-variants.{Exact, Estimated}
+use Rattle.ticks.specs.Tick.{trDifference, tickAbove, laterTick}
+use Rattle.standing.specs.declared.Holder.the-variants.{First, Second}
+use Rattle.standing.specs.declared.Last.{Last}
 use Rattle.standing.specs.declared.Place.{Place}
 use Rattle.standing.specs.Answered.{lost, picture}
-use Rattle.standing.specs.Receive.{place, earlierPlace, samePlace, isLost, step}
+use Rattle.standing.specs.Receive.{place, lastIn, noneFinished, tickIn, earlierPlace, samePlace, isLost, step}
 use Rattle.standing.specs.Run.{World, answers}
 use Rattle.standing.specs.Shown.{shownBy}
 use Rattle.sender.specs.Run.{callOutcome, worldAfter}
@@ -33,13 +38,13 @@ use Rattle.demand2.proofs.Demand2.{write-refused}
 use Rattle.demand3.specs.Clip.{Picture, PartOf, pictures, opening, blocksIn, picturesIn, begin, Each, worldGiven}
 use Rattle.demand3.specs.Arrives.{Follow, inTurn, InStepAt}
 use Rattle.demand3.proofs.Finished.{bothSized}
-use Rattle.demand3.proofs.Step.{Moment, worldAt, astray, Comes}
+use Rattle.demand3.proofs.Step.{Moment, worldAt, tickOf, astray, Comes}
 use Rattle.demand3.proofs.Held.{Sound, held-astray, after-comes}
 use Rattle.demand3.proofs.InStep.{start, start-held, sound-clip}
 use Rattle.demand3.proofs.Calls.{each-of, given-append}
 use Rattle.demand3.proofs.WholeClip.{blocksEach, clip-in-turn, own-arrive}
 use Rattle.demand3.proofs.Meets.{codings-meet}
-use Rattle.instances.specs.Uniform.{still, grey, heavy, greyLevels}
+use Rattle.instances.specs.Uniform.{uniform, still, grey, heavy, greyLevels}
 use Rattle.instances.specs.Example.{newcomer, call, calls, example}
 use Rattle.instances.specs.Instances.{AboveLimitValid, arrival, beforeLast, Example, Delivered, ExampleDelivered}
 use Rattle.instances.proofs.Uniform.{still-valid, still-long, still-no-refresh, Code, one, two, codeOf, grey-valid, grey-long, intra-refresh, heavy-valid, heavy-above}
@@ -226,10 +231,30 @@ module _ (kind : Kind) where
   abbrev opened : Moment
   opened = start (newcomer kind .lent)
 
-  bring0 : Brings coding-lawful sound 0 opened (sent0 .blocks) (arrival 0 0 (beforeLast kind))
+  -- ---- each TR is 0, so that a tick is 32 above the last
+  abbrev last0 : Last
+  last0 = lastIn First 0 (Exact 0)
+
+  abbrev last3 : Last
+  last3 = lastIn Second 3 (Estimated 32)
+
+  tick0 : tickOf codingOf kind sent0 noneFinished 0 ≡ Exact 0
+  unfolding tickIn codingOf uniform
+  tick0 = refl
+
+  tick3 : tickOf codingOf kind sent3 last0 3 ≡ Estimated 32
+  unfolding tickIn laterTick tickAbove trDifference codingOf uniform
+  tick3 = refl
+
+  tick4 : tickOf codingOf kind sent4 last3 4 ≡ Estimated 64
+  unfolding tickIn laterTick tickAbove trDifference codingOf uniform
+  tick4 = refl
+
+  bring0 : Brings coding-lawful sound 0 last0 opened (sent0 .blocks) (arrival 0 0 (beforeLast kind) (Exact 0))
   bring0 =
-      from-start coding-lawful sound 0 sent0 (at 0 sent0 refl) (beforeLast kind) (sent0 .blocks) (own sent0) (some-left kind) (sound .whole 0 sent0 (at 0 sent0 refl) .count ∙ grey-parts kind one) (sym (grey-parts kind one))
-      opened (start-held coding-lawful sound (newcomer kind .lent) (newcomer-named kind)) (grey-refresh one) refl refl
+      subst (λ (t : Tick). Brings coding-lawful sound 0 (lastIn First 0 t) opened (sent0 .blocks) (arrival 0 0 (beforeLast kind) t)) tick0
+      (from-start coding-lawful sound 0 sent0 (at 0 sent0 refl) (beforeLast kind) (sent0 .blocks) (own sent0) (some-left kind) (sound .whole 0 sent0 (at 0 sent0 refl) .count ∙ grey-parts kind one) (sym (grey-parts kind one))
+      opened (start-held coding-lawful sound (newcomer kind .lent) (newcomer-named kind)) (grey-refresh one) refl refl noneFinished refl)
 
   abbrev finished0 : Moment
   finished0 = bring0 .last
@@ -274,29 +299,31 @@ module _ (kind : Kind) where
   not-past : earlierPlace (place 3 0) (worldGiven (step codingOf) opening-world (sent0 .blocks ++ sent2 .blocks) .receiver .progress .wanted) ≡ false
   not-past = ap (λ (w : World). earlierPlace (place 3 0) (w .receiver .progress .wanted)) run2 ∙ ap (earlierPlace (place 3 0)) (bring0 .wants)
 
-  bring3 : Brings coding-lawful sound 3 (astray finished0) (sent3 .blocks) (arrival 3 0 (beforeLast kind))
+  bring3 : Brings coding-lawful sound 3 last3 (astray finished0) (sent3 .blocks) (arrival 3 0 (beforeLast kind) (Estimated 32))
   bring3 =
-      from-start coding-lawful sound 3 sent3 (at 3 sent3 refl) (beforeLast kind) (sent3 .blocks) (own sent3) (some-left kind) (sound .whole 3 sent3 (at 3 sent3 refl) .count ∙ grey-parts kind two) (sym (grey-parts kind two))
-      (astray finished0) (held-astray coding-lawful sound finished0 (bring0 .held)) (grey-refresh two) refl (ap (earlierPlace (place 3 0)) (bring0 .wants))
+      subst (λ (t : Tick). Brings coding-lawful sound 3 (lastIn Second 3 t) (astray finished0) (sent3 .blocks) (arrival 3 0 (beforeLast kind) t)) tick3
+      (from-start coding-lawful sound 3 sent3 (at 3 sent3 refl) (beforeLast kind) (sent3 .blocks) (own sent3) (some-left kind) (sound .whole 3 sent3 (at 3 sent3 refl) .count ∙ grey-parts kind two) (sym (grey-parts kind two))
+      (astray finished0) (held-astray coding-lawful sound finished0 (bring0 .held)) (grey-refresh two) refl (ap (earlierPlace (place 3 0)) (bring0 .wants)) last0 (bring0 .leaves))
 
-  bring4 : Brings coding-lawful sound 4 (bring3 .last) (sent4 .blocks) (picture 4 ∷ [])
+  bring4 : Brings coding-lawful sound 4 (lastIn First 4 (Estimated 64)) (bring3 .last) (sent4 .blocks) (picture 4 (Estimated 64) ∷ [])
   bring4 =
-      from-part coding-lawful sound 4 sent4 (at 4 sent4 refl) 0 0 (sent4 .blocks) (own sent4) (sound .whole 4 sent4 (at 4 sent4 refl) .count ∙ still-parts kind) (sym (still-parts kind))
-      (bring3 .last) (bring3 .held) (ap isLost (bring3 .stands)) (bring3 .wants)
+      subst (λ (t : Tick). Brings coding-lawful sound 4 (lastIn First 4 t) (bring3 .last) (sent4 .blocks) (picture 4 t ∷ [])) tick4
+      (from-part coding-lawful sound 4 sent4 (at 4 sent4 refl) 0 0 (sent4 .blocks) (own sent4) (sound .whole 4 sent4 (at 4 sent4 refl) .count ∙ still-parts kind) (sym (still-parts kind))
+      (bring3 .last) (bring3 .held) (ap isLost (bring3 .stands)) (bring3 .wants) last3 (bring3 .leaves))
 
   said-are : answers codingOf opening-world ((sent0 .blocks ++ sent2 .blocks) ++ (sent3 .blocks ++ sent4 .blocks))
-      ≡ arrival 0 0 (beforeLast kind) ++ (lost ∷ (arrival 3 0 (beforeLast kind) ++ (picture 4 ∷ [])))
+      ≡ arrival 0 0 (beforeLast kind) (Exact 0) ++ (lost ∷ (arrival 3 0 (beforeLast kind) (Estimated 32) ++ (picture 4 (Estimated 64) ∷ [])))
   said-are =
       answers-append codingOf opening-world (sent0 .blocks ++ sent2 .blocks) (sent3 .blocks ++ sent4 .blocks)
       ∙ (λ i. until i ++ later i)
-      ∙ append-assoc (arrival 0 0 (beforeLast kind)) (lost ∷ []) (arrival 3 0 (beforeLast kind) ++ (picture 4 ∷ []))
+      ∙ append-assoc (arrival 0 0 (beforeLast kind) (Exact 0)) (lost ∷ []) (arrival 3 0 (beforeLast kind) (Estimated 32) ++ (picture 4 (Estimated 64) ∷ []))
     where
-      until : answers codingOf opening-world (sent0 .blocks ++ sent2 .blocks) ≡ arrival 0 0 (beforeLast kind) ++ (lost ∷ [])
+      until : answers codingOf opening-world (sent0 .blocks ++ sent2 .blocks) ≡ arrival 0 0 (beforeLast kind) (Exact 0) ++ (lost ∷ [])
       until =
           answers-append codingOf opening-world (sent0 .blocks) (sent2 .blocks)
           ∙ (λ i. bring0 .said-are i ++ (ap (λ (w : World). answers codingOf w (sent2 .blocks)) (bring0 .is) ∙ lost2) i)
 
-      later : answers codingOf (worldGiven (step codingOf) opening-world (sent0 .blocks ++ sent2 .blocks)) (sent3 .blocks ++ sent4 .blocks) ≡ arrival 3 0 (beforeLast kind) ++ (picture 4 ∷ [])
+      later : answers codingOf (worldGiven (step codingOf) opening-world (sent0 .blocks ++ sent2 .blocks)) (sent3 .blocks ++ sent4 .blocks) ≡ arrival 3 0 (beforeLast kind) (Estimated 32) ++ (picture 4 (Estimated 64) ∷ [])
       later =
           ap (λ (w : World). answers codingOf w (sent3 .blocks ++ sent4 .blocks)) run2
           ∙ answers-append codingOf (worldAt 1 kind (astray finished0)) (sent3 .blocks) (sent4 .blocks)

@@ -23,6 +23,8 @@ use Rattle.demand3.specs.Clip.{Picture, opening, blocksIn, picturesIn, begin, E
 use Rattle.demand3.specs.Arrives.{InStepAt}
 use Rattle.instances.specs.Uniform.{grey, heavy}
 use Rattle.instances.specs.Example.{newcomer, call, example}
+use Rattle.ticks.specs.declared.Tick.{Tick}
+use Rattle.ticks.specs.declared.Tick.the-variants.{Exact, Estimated}
 use Rattle.coding.specs.declared.Kind.the-variants as K
 use Rattle.standing.specs.declared.Standing.the-variants as T
 
@@ -35,10 +37,10 @@ pub record Above (f : Format) (d : Flat) : Type 0 where
 abbrev pub AboveLimitValid : Type 0
 AboveLimitValid = (f : Format) → Above f (heavy f)
 
--- ---- the answers to a picture's parts from this one on, if so many come before the last
-abbrev pub arrival : ℕ → ℕ → ℕ → List Said
-arrival p part zero = picture p ∷ []
-arrival p part (suc left) = taken p part ∷ arrival p (part + 1) left
+-- ---- the answers to a picture's parts from this one on, if so many come before the last, which has this tick
+abbrev pub arrival : ℕ → ℕ → ℕ → Tick → List Said
+arrival p part zero tick = picture p tick ∷ []
+arrival p part (suc left) tick = taken p part ∷ arrival p (part + 1) left tick
 
 -- a refresh of the example has two blocks in QCIF and seven in CIF
 abbrev pub beforeLast : Kind → ℕ
@@ -80,8 +82,9 @@ module _ {kind : Kind} (x : Example kind) where
     -- what `InStep` and `CatchesUp` ask for
     pub named : lentLengths (kindSize kind) (newcomer kind .lent) ≡ true
     pub each : Each (blocksIn codingOf (example kind)) delivered
-    -- what comes of it
-    pub said : answers codingOf (begin (newcomer kind)) delivered ≡ arrival 0 0 (beforeLast kind) ++ (lost ∷ (arrival 3 0 (beforeLast kind) ++ (picture 4 ∷ [])))
+    -- what comes of it: each TR is 0, so that a tick is 32 above the last
+    pub said : answers codingOf (begin (newcomer kind)) delivered
+        ≡ arrival 0 0 (beforeLast kind) (Exact 0) ++ (lost ∷ (arrival 3 0 (beforeLast kind) (Estimated 32) ++ (picture 4 (Estimated 64) ∷ [])))
     pub at-0 : InStepAt (step codingOf) shownBy (picturesIn codingOf (example kind)) 0 (begin (newcomer kind)) (x .picture0 .blocks)
     -- lost, "wanted place kept": picture 3 isn't earlier
     pub is-lost : astray .receiver .progress .standing ≡ T.Lost

@@ -1,15 +1,13 @@
 -- Document 01, "The vault lister": the bytes of each line. Assumes nothing.
 use Prim.Native.Nat.{ℕ}
 use mathlib.Core.List.{List, [], _∷_, _++_}
+use Rattle.ticks.specs.declared.Tick.{Tick}
 use Rattle.standing.specs.declared.Answer.{Answer}
 use Rattle.standing.specs.declared.Standing.{Standing}
 use Rattle.standing.specs.Answered.{Said, old, taken, lost, picture, refused, said}
 use Rattle.text.specs.Text.{decimal, refusalText}
 use Rattle.standing.specs.declared.Standing.the-variants as S
-
--- "The tick of a picture is its number."
-abbrev pub tickOf : ℕ → ℕ
-tickOf n = n
+use Rattle.ticks.specs.declared.Tick.the-variants as T
 
 -- ---- the words, in ASCII
 -- " old "
@@ -31,6 +29,10 @@ pictureWord = 32 ∷ 112 ∷ 105 ∷ 99 ∷ 116 ∷ 117 ∷ 114 ∷ 101 ∷ 32 �
 -- " tick "
 abbrev pub tickWord : List ℕ
 tickWord = 32 ∷ 116 ∷ 105 ∷ 99 ∷ 107 ∷ 32 ∷ []
+
+-- "about "
+abbrev pub aboutWord : List ℕ
+aboutWord = 97 ∷ 98 ∷ 111 ∷ 117 ∷ 116 ∷ 32 ∷ []
 
 -- "."
 abbrev pub dot : List ℕ
@@ -65,16 +67,21 @@ newline = 10 ∷ []
 unfoldable pub placeText : List ℕ → ℕ → ℕ → List ℕ
 placeText word n part = word ++ decimal n ++ dot ++ decimal part
 
--- "picture 0 tick 0"
-unfoldable pub pictureText : ℕ → List ℕ
-pictureText n = pictureWord ++ decimal n ++ tickWord ++ decimal (tickOf n)
+-- `The lister writes "tick about 9" where estimated.`
+unfoldable pub tickText : Tick → List ℕ
+tickText (T.Exact n) = decimal n
+tickText (T.Estimated n) = aboutWord ++ decimal n
 
--- "taken 0.0", "picture 0 tick 0", "old 0.0", "lost", "refused 21", "refused 8 at 311 table 5"
+-- "picture 0 tick 0", "picture 2 tick about 33"
+unfoldable pub pictureText : ℕ → Tick → List ℕ
+pictureText n tick = pictureWord ++ decimal n ++ tickWord ++ tickText tick
+
+-- "taken 0.0", "picture 0 tick 0", "picture 2 tick about 33", "old 0.0", "lost", "refused 21", "refused 8 at 311 table 5"
 unfoldable pub textOf : Said → List ℕ
 textOf (old n part) = placeText oldWord n part
 textOf (taken n part) = placeText takenWord n part
 textOf lost = lostWord
-textOf (picture n) = pictureText n
+textOf (picture n tick) = pictureText n tick
 textOf (refused numbers) = refusalText numbers
 
 -- a line for block n

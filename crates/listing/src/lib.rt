@@ -6,6 +6,7 @@ use standing::Answer;
 use standing::Opened;
 use standing::Receiver;
 use standing::Standing;
+use ticks::Tick;
 use vault::Checked;
 ghost use mathlib.Core.Path.{_≡_};
 ghost use Prim.Native.Nat.{_+_, _≤_};
@@ -16,7 +17,7 @@ ghost use Rattle.standing.specs.Answered.{toldOpened, said};
 ghost use Rattle.standing.specs.Receive.{buffers, step};
 ghost use Rattle.text.specs.Text.{over};
 ghost use Rattle.text.specs.Puts.{Puts};
-ghost use Rattle.listing.specs.Lines.{tickOf, placeText, pictureText, textOf, lineText, shortText, standingText};
+ghost use Rattle.listing.specs.Lines.{placeText, tickText, pictureText, textOf, lineText, shortText, standingText};
 ghost use Rattle.listing.specs.Listed.{foundBy, unknownBy, came, stepped, listed as listedOf, endText};
 
 // The clip that is listed, once it is found.
@@ -103,12 +104,6 @@ pub fn list(
 
 // ---- the lines
 
-fn tick_of(picture: u32) -> u32
-    ensures { λ r. ⌜ r ≡ tickOf picture ⌝ }
-{
-    picture
-}
-
 fn put_place(word: &[u8], picture: u32, part: u8, at: usize, out: &mut [u8]) -> usize
     requires { ⌜ at + length (now word) + 41 ≤ length (now out) ⌝ }
     ensures { λ r. ⌜ r ≤ at + length (now (word .entry)) + 41 ⌝ }
@@ -120,18 +115,33 @@ fn put_place(word: &[u8], picture: u32, part: u8, at: usize, out: &mut [u8]) -> 
     text::put_number(part as u64, dotted, out)
 }
 
-fn put_picture(picture: u32, at: usize, out: &mut [u8]) -> usize
-    requires { ⌜ at + 55 ≤ length (now out) ⌝ }
-    ensures { λ r. ⌜ r ≤ at + 55 ⌝ }
-    ensures { λ r. ⌜ Puts (pictureText picture) at (now (out .entry)) (now (out .exit)) r ⌝ }
+// "65", "about 33".
+fn put_tick(tick: Tick, at: usize, out: &mut [u8]) -> usize
+    requires { ⌜ at + 26 ≤ length (now out) ⌝ }
+    ensures { λ r. ⌜ r ≤ at + 26 ⌝ }
+    ensures { λ r. ⌜ Puts (tickText tick) at (now (out .entry)) (now (out .exit)) r ⌝ }
+{
+    match tick {
+        Tick::Exact(n) => text::put_number(n as u64, at, out),
+        Tick::Estimated(n) => {
+            let named = text::put(b"about ", at, out);
+            text::put_number(n as u64, named, out)
+        }
+    }
+}
+
+fn put_picture(picture: u32, tick: Tick, at: usize, out: &mut [u8]) -> usize
+    requires { ⌜ at + 61 ≤ length (now out) ⌝ }
+    ensures { λ r. ⌜ r ≤ at + 61 ⌝ }
+    ensures { λ r. ⌜ Puts (pictureText picture tick) at (now (out .entry)) (now (out .exit)) r ⌝ }
 {
     let named = text::put(b" picture ", at, out);
     let pictured = text::put_number(picture as u64, named, out);
     let ticking = text::put(b" tick ", pictured, out);
-    text::put_number(tick_of(picture) as u64, ticking, out)
+    put_tick(tick, ticking, out)
 }
 
-// " taken 3.1", " picture 3 tick 3", " refused 21", " refused 8 at 311 table 5".
+// " taken 3.1", " picture 3 tick 3", " picture 3 tick about 36", " refused 21", " refused 8 at 311 table 5".
 pub fn put_answer(answer: Answer, at: usize, out: &mut [u8]) -> usize
     requires { ⌜ at + 80 ≤ length (now out) ⌝ }
     ensures { λ r. ⌜ r ≤ at + 80 ⌝ }
@@ -141,7 +151,7 @@ pub fn put_answer(answer: Answer, at: usize, out: &mut [u8]) -> usize
         Answer::Old(picture, part) => put_place(b" old ", picture, part, at, out),
         Answer::Taken(picture, part) => put_place(b" taken ", picture, part, at, out),
         Answer::Lost => text::put(b" lost", at, out),
-        Answer::Picture(picture) => put_picture(picture, at, out),
+        Answer::Picture(picture, tick) => put_picture(picture, tick, at, out),
         Answer::Refused(why) => text::put_refusal(why, at, out),
     }
 }

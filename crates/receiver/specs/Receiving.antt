@@ -49,5 +49,5 @@ pub record Settleable (kind : Kind) (header : Header) (d : Flat) (first second :
 module _ {D : Type 0} (coding : Kind → Coding D) where
   -- what a last part gives back and leaves in the stores
   pub record Settles (r : Receiver) (s : Stores) (e : Event D) (x : Received) (t : Stores) : Type 0 where
-    pub gave : toldReceived x ≡ reply (answerOf e) (advance r e)
+    pub gave : toldReceived x ≡ reply (answerOf coding r e) (advance coding r e)
     pub left : t ≡ storedBy coding r s e

@@ -40,7 +40,8 @@ fn settle(
     let refreshed = coding::is_refresh(kind, head, macroblocks, levels);
     if standing::agree(refreshed, marked) {
         stores::keep(kind, holder, head, macroblocks, levels, first, second);
-        return standing::succeed(receiver, header);
+        let tr = coding::tr_of(kind, head, macroblocks, levels);
+        return standing::succeed(receiver, header, tr);
     }
     standing::fail(
         receiver,

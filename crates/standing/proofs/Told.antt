@@ -17,7 +17,7 @@ answerOf : Said → Answer
 answerOf (old n part) = A.Old n part
 answerOf (taken n part) = A.Taken n part
 answerOf lost = A.Lost
-answerOf (picture n) = A.Picture n
+answerOf (picture n tick) = A.Picture n tick
 answerOf (refused numbers) = A.Refused (refusalOf numbers)
 
 answer-back : (a : Answer) → answerOf (said a) ≡ a
@@ -25,7 +25,7 @@ unfolding answerOf
 answer-back (A.Old n part) = refl
 answer-back (A.Taken n part) = refl
 answer-back A.Lost = refl
-answer-back (A.Picture n) = refl
+answer-back (A.Picture n tick) = refl
 answer-back (A.Refused why) = ap A.Refused (refusal-back why)
 
 pub answer-told-once : AnswerToldOnce

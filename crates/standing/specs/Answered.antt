@@ -1,7 +1,8 @@
--- What document 01 calls each answer, with its values ("0 taken 0.0", "1 picture 0 tick 0", "n lost", "n refused 8 at 311 table 5"). Assumes nothing.
+-- What document 01 calls each answer, with its values ("0 taken 0.0", "1 picture 0 tick 0", "4 picture 2 tick about 33", "n lost", "n refused 8 at 311 table 5"). Assumes nothing.
 use Prim.Native.Nat.{ℕ}
 use mathlib.Core.Path.{_≡_}
 use Rattle.refusals.specs.Told.{Numbers, numbersOf, Told, accepted, refusedBy}
+use Rattle.ticks.specs.declared.Tick.{Tick}
 use Rattle.standing.specs.declared.Receiver.{Receiver}
 use Rattle.standing.specs.declared.Opened.{Opened}
 use Rattle.standing.specs.declared.Answer.{Answer}
@@ -20,8 +21,8 @@ pub data Said : Type 0 where
   old : ℕ → ℕ → Said
   taken : ℕ → ℕ → Said
   lost : Said
-  -- the picture's number
-  picture : ℕ → Said
+  -- the picture's number, and its tick
+  picture : ℕ → Tick → Said
   -- the refusal's numbers
   refused : Numbers → Said
 
@@ -29,7 +30,7 @@ abbrev pub said : Answer → Said
 said (A.Old n part) = old n part
 said (A.Taken n part) = taken n part
 said A.Lost = lost
-said (A.Picture n) = picture n
+said (A.Picture n tick) = picture n tick
 said (A.Refused why) = refused (numbersOf why)
 
 -- with the state that a call gives back

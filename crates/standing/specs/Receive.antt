@@ -14,9 +14,12 @@ use Rattle.coding.specs.Kind.{kindSize}
 use Rattle.vault.specs.declared.Header.{Header}
 use Rattle.vault.specs.Block.{judgeOf}
 use Rattle.vault.specs.Parts.{placedPayload}
+use Rattle.ticks.specs.declared.Tick.{Tick}
+use Rattle.ticks.specs.declared.Tick.the-variants.{Exact}
+use Rattle.ticks.specs.Tick.{firstTick, laterTick}
 use Rattle.standing.specs.declared.Holder.{Holder}
 use Rattle.standing.specs.declared.Holder.the-variants.{Neither}
-use Rattle.standing.specs.Stores.{Stores, stores, storesSized, goesInto, reference, storesWith}
+use Rattle.standing.specs.Stores.{Stores, stores, storesSized, goesInto, anyFinished, reference, storesWith}
 use Rattle.standing.specs.declared.Place.{Place}
 use Rattle.standing.specs.declared.Standing.{Standing}
 use Rattle.standing.specs.declared.Progress.{Progress}
@@ -36,12 +39,16 @@ place picture part = record { picture = picture; part = part }
 abbrev pub progress : Place → Standing → Bool → Progress
 progress wanted standing mark = record { wanted = wanted; standing = standing; mark = mark }
 
-abbrev pub lastIn : Holder → Last
-lastIn holder = record { holder = holder }
+abbrev pub lastIn : Holder → ℕ → Tick → Last
+lastIn holder picture tick = record { holder = holder; picture = picture; tick = tick }
+
+-- before a first picture is finished, where its number and its tick mean nothing
+abbrev pub noneFinished : Last
+noneFinished = lastIn Neither 0 (Exact 0)
 
 -- ---- opening: "It wants a place (picture, part), at first (0, 0), and starts lost." Refusal 22: "opening with clip 0"
 abbrev pub freshReceiver : ℕ → Kind → Receiver
-freshReceiver clip kind = record { clip = clip; kind = kind; progress = progress (place 0 0) S.Lost false; last = lastIn Neither }
+freshReceiver clip kind = record { clip = clip; kind = kind; progress = progress (place 0 0) S.Lost false; last = noneFinished }
 
 abbrev pub openedReceiver : ℕ → Kind → Told Receiver
 openedReceiver clip kind = pick (eqb clip 0) (refused 22 0) (accepted (freshReceiver clip kind))
@@ -154,33 +161,46 @@ withProgress r p = record { clip = r .clip; kind = r .kind; progress = p; last =
 abbrev pub failedReceiver : Receiver → Header → Receiver
 failedReceiver r header = withProgress r (endedProgress (r .progress) header S.Lost)
 
+-- the tick of the picture of this number and TR, finished after the last one: first, next and last are of pictures finished since opening
+unfoldable pub tickIn : ℕ → Last → ℕ → ℕ → Tick
+tickIn modulus last picture tr =
+    pick (anyFinished (last .holder)) (laterTick modulus (last .picture) (last .tick) picture tr) (firstTick picture tr)
+
 -- "accepted means in step at that picture"
-abbrev pub finishedReceiver : Receiver → Header → Receiver
-finishedReceiver r header = record {
+abbrev pub finishedReceiver : Receiver → Header → Tick → Receiver
+finishedReceiver r header tick = record {
   clip = r .clip;
   kind = r .kind;
   progress = endedProgress (r .progress) header (S.InStep (header .picture));
-  last = lastIn (goesInto (r .last .holder));
+  last = lastIn (goesInto (r .last .holder)) (header .picture) tick;
 }
 
-module _ {D : Type 0} where
+abbrev pub finishedReply : Receiver → Header → Tick → Reply
+finishedReply r header tick = reply (A.picture (header .picture) tick) (finishedReceiver r header tick)
+
+module _ {D : Type 0} (coding : Kind → Coding D) where
+  -- a refused picture's TR counts for nothing: only here is a tick made
+  abbrev pub finishedTick : Receiver → Header → D → Tick
+  finishedTick r header d = tickIn (coding (r .kind) .modulus) (r .last) (header .picture) (coding (r .kind) .tr d)
+
   abbrev pub advance : Receiver → Event D → Receiver
   advance r (refusing numbers) = r
   advance r (old header) = r
   advance r (taken header standing) = withProgress r (takenProgress (r .progress) header standing)
   advance r lost = withProgress r (lostProgress (r .progress))
   advance r (failed header numbers) = failedReceiver r header
-  advance r (finished header d) = finishedReceiver r header
+  advance r (finished header d) = finishedReceiver r header (finishedTick r header d)
 
   -- ---- the answer
-  abbrev pub answerOf : Event D → Said
-  answerOf (refusing numbers) = A.refused numbers
-  answerOf (old header) = A.old (header .picture) (header .part)
-  answerOf (taken header standing) = A.taken (header .picture) (header .part)
-  answerOf lost = A.lost
-  answerOf (failed header numbers) = A.refused numbers
-  answerOf (finished header d) = A.picture (header .picture)
+  abbrev pub answerOf : Receiver → Event D → Said
+  answerOf r (refusing numbers) = A.refused numbers
+  answerOf r (old header) = A.old (header .picture) (header .part)
+  answerOf r (taken header standing) = A.taken (header .picture) (header .part)
+  answerOf r lost = A.lost
+  answerOf r (failed header numbers) = A.refused numbers
+  answerOf r (finished header d) = A.picture (header .picture) (finishedTick r header d)
 
+module _ {D : Type 0} where
   -- ---- the lent buffers
   -- "Taken copies 500 payload bytes to 500 times part in the collection buffer"; "a dropped collection's bytes stay as they lie"
   abbrev pub collectionAfter : List ℕ → List ℕ → Event D → List ℕ
@@ -212,7 +232,7 @@ outcome gave left = record { gave = toldReceived gave; left = left }
 module _ {D : Type 0} (coding : Kind → Coding D) where
   unfoldable pub cameTo : Receiver → List ℕ → Buffers → Event D → Outcome
   cameTo r block b e = record {
-    gave = reply (answerOf e) (advance r e);
+    gave = reply (answerOf coding r e) (advance coding r e);
     left = record { collection = collectionAfter block (b .collection) e; both = storedBy coding r (b .both) e };
   }
 

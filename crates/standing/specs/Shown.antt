@@ -25,7 +25,7 @@ abbrev pub refusedLength : Said → Bool
 refusedLength (A.old picture part) = false
 refusedLength (A.taken picture part) = false
 refusedLength A.lost = false
-refusedLength (A.picture picture) = false
+refusedLength (A.picture picture tick) = false
 refusedLength (A.refused numbers) = eqb (numbers .number) 1
 
 abbrev pub holderShown : Reply → Holder

@@ -2,7 +2,7 @@
 -- store; the other is the reference." Assumes nothing.
 use Prim.Native.Nat.{ℕ}
 use mathlib.Core.Path.{_≡_}
-use mathlib.Core.Bool.{Bool}
+use mathlib.Core.Bool.{Bool, true, false}
 use mathlib.Core.List.{List, []}
 use lib.Dec.{eqb}
 use lib.ListN.{length}
@@ -29,6 +29,12 @@ abbrev pub goesInto : Holder → Holder
 goesInto Neither = First
 goesInto First = Second
 goesInto Second = First
+
+-- whether one was finished
+abbrev pub anyFinished : Holder → Bool
+anyFinished Neither = false
+anyFinished First = true
+anyFinished Second = true
 
 -- "the other is the reference"
 abbrev pub reference : Holder → Stores → List ℕ

@@ -3,6 +3,7 @@ use coding::Kind;
 use refusals::Reason;
 use refusals::Refusal;
 use size::Size;
+use ticks::Tick;
 use vault::Header;
 ghost use mathlib.Core.Path.{_≡_};
 ghost use Prim.Native.Nat.{_<_, _≤_};
@@ -11,9 +12,10 @@ ghost use Rattle.laws.specs.Choice.{both, opposite, alike};
 ghost use Rattle.refusals.specs.Number.{number};
 ghost use Rattle.refusals.specs.Told.{numbersOf};
 ghost use Rattle.vault.specs.Block.{pictures};
-ghost use Rattle.standing.specs.Answered.{toldOpened, old, taken, lost, picture, refused, said, reply, toldReceived};
-ghost use Rattle.standing.specs.Stores.{storesSized as sizedOf, goesInto, HandsBack};
-ghost use Rattle.standing.specs.Receive.{openedReceiver, earlierPlace as earlierOf, samePlace as sameOf, isLost, placeOf, lineOf, markOf, namedLengths as namedOf, lostProgress, takenProgress, endedProgress, withProgress, failedReceiver, finishedReceiver};
+ghost use Rattle.coding.specs.Kind.{codingOf};
+ghost use Rattle.standing.specs.Answered.{toldOpened, old, taken, lost, refused, said, reply, toldReceived};
+ghost use Rattle.standing.specs.Stores.{storesSized as sizedOf, goesInto, anyFinished, HandsBack};
+ghost use Rattle.standing.specs.Receive.{openedReceiver, earlierPlace as earlierOf, samePlace as sameOf, isLost, placeOf, lineOf, markOf, namedLengths as namedOf, lostProgress, takenProgress, endedProgress, withProgress, failedReceiver, tickIn, finishedReply};
 ghost use Rattle.standing.specs.Shown.{whereShown, refusedLength, ShowHands};
 
 // Which store holds the last finished picture.
@@ -47,6 +49,8 @@ pub struct Progress {
 // What only a finished picture changes.
 pub struct Last {
     pub holder: Holder,
+    pub picture: u32,
+    pub tick: Tick,
 }
 
 pub struct Receiver {
@@ -61,12 +65,12 @@ pub enum Opened {
     Refused(Refusal),
 }
 
-// With the picture and the part; with the picture's number.
+// With the picture and the part; with the picture's number and its tick.
 pub enum Answer {
     Old(u32, u8),
     Taken(u32, u8),
     Lost,
-    Picture(u32),
+    Picture(u32, Tick),
     Refused(Refusal),
 }
 
@@ -156,6 +160,8 @@ pub fn open(clip: u16, kind: Kind) -> Opened
         },
         last: Last {
             holder: Holder::Neither,
+            picture: 0,
+            tick: Tick::Exact(0),
         },
     })
 }
@@ -380,24 +386,53 @@ pub fn fail(receiver: Receiver, header: Header, why: Refusal) -> Received
     }
 }
 
-// A last part, whose picture is accepted: "accepted means in step at that picture".
-pub fn succeed(receiver: Receiver, header: Header) -> Received
+// Whether a picture was finished.
+pub fn any_finished(holder: Holder) -> bool
+    ensures { λ r. ⌜ r ≡ anyFinished holder ⌝ }
+{
+    match holder {
+        Holder::Neither => false,
+        Holder::First => true,
+        Holder::Second => true,
+    }
+}
+
+// The tick of the picture of this number and TR, finished after the last one.
+fn tick_in(modulus: u32, last: Last, picture: u32, tr: u32) -> Tick
+    requires { ⌜ 1 ≤ modulus ⌝ }
+    ensures { λ r. ⌜ r ≡ tickIn modulus last picture tr ⌝ }
+{
+    let holder = last.holder;
+    let tick = last.tick;
+    if any_finished(holder) {
+        return ticks::later(modulus, last.picture, tick, picture, tr);
+    }
+    ticks::first(picture, tr)
+}
+
+// A last part, whose picture is accepted, with its TR: "accepted means in step at that picture".
+pub fn succeed(receiver: Receiver, header: Header, tr: u32) -> Received
     requires { ⌜ header .picture < pictures ⌝ }
-    ensures { λ r. ⌜ toldReceived r ≡ reply (picture (header .picture)) (finishedReceiver receiver header) ⌝ }
+    ensures { λ r. ⌜ toldReceived r ≡ finishedReply receiver header (tickIn (codingOf (receiver .kind) .modulus) (receiver .last) (header .picture) tr) ⌝ }
 {
     let kind = receiver.kind;
     let last = receiver.last;
     let held = last.holder;
+    let tick = tick_in(coding::modulus(kind), last, header.picture, tr);
     let holder = goes_into(held);
     let before = receiver.progress;
     let progress = next_picture(before, header, Standing::InStep(header.picture));
     Received {
-        answer: Answer::Picture(header.picture),
+        answer: Answer::Picture(header.picture, tick),
         next: Receiver {
             clip: receiver.clip,
             kind,
             progress,
-            last: Last { holder },
+            last: Last {
+                holder,
+                picture: header.picture,
+                tick,
+            },
         },
     }
 }
@@ -434,7 +469,7 @@ fn refused_length(answer: Answer) -> bool
         Answer::Old(_, _) => false,
         Answer::Taken(_, _) => false,
         Answer::Lost => false,
-        Answer::Picture(_) => false,
+        Answer::Picture(_, _) => false,
     }
 }
 

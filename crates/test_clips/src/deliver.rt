@@ -11,7 +11,7 @@ use standing::Standing;
 // Whether a last part was read.
 fn was_read(answer: Answer) -> bool {
     match answer {
-        Answer::Picture(_) => true,
+        Answer::Picture(_, _) => true,
         Answer::Refused(why) => {
             let reason = why.reason;
             let number = refusals::number_of(reason);

@@ -13,7 +13,7 @@ use lib.Ieee.Exact.{HasValue}
 use lib.Ieee.Fits.{up-pos, down-pos}
 use lib.Ieee.Positive.{first-pos}
 use lib.Ieee.Scale.{round-same}
-use Rattle.ticks.specs.Due.{converted, dueOf, Exactly, ConvertedExactly, RoundedOnce, Due3750}
+use Rattle.ticks.specs.Due.{converted, secondsOf, Exactly, ConvertedExactly, RoundedOnce, Due3750}
 
 -- ---- every whole number up to 2^53 is converted exactly
 up-to-53 : {n : ℕ} → n ≤ 2 ^ 53 → Exactly n
@@ -59,10 +59,10 @@ quotient f (fin s m e) (fin t n d) a b h k =
     (crossed (m * up e) (n * up d) (down e) (down d) a (suc b) (h .1) (k .1))
 
 pub rounded-once : RoundedOnce
-unfolding dueOf
+unfolding secondsOf
 rounded-once tick fits = quotient binary64 (converted (1001 * tick)) (converted 30000) (1001 * tick) 29999 (converted-exactly .0 tick fits) (converted-exactly .1)
 
 -- ---- the exact case
 pub due-3750 : Due3750
-unfolding converted dueOf div ofInt ofBits
+unfolding converted secondsOf div ofInt ofBits
 due-3750 = refl

@@ -9,7 +9,7 @@ use lib.Dec.{eqb, lit<, lit≤}
 use lib.ListN.{length, replicate, getD, length-replicate, getD-replicate}
 use Rattle.laws.specs.Choice.{pick, both, opposite, alike}
 use Rattle.laws.proofs.Choice.{T-true}
-use Rattle.refusals.specs.Told.{Told, accepted, refused, verdictOn}
+use Rattle.refusals.specs.Told.{untabled, Told, accepted, refused, verdictOn}
 use Rattle.size.specs.Size.{storeLength, collectionLength}
 use Rattle.bits.specs.Bits.{Bit}
 use Rattle.bits.specs.Write.{Holds}
@@ -176,6 +176,6 @@ pub drawing-first-wrong : DrawingFirstWrong
 drawing-first-wrong p d =
     let x = d .receives receiver block lent in
     let same : Stores = p .receive receiver block lent .left .both in
-    let kept : drawnFor same (headerOf block) ≡ lent .both = x .stores 24 0 (x .due ∙ due-24) in
+    let kept : drawnFor same (headerOf block) ≡ lent .both = x .stores (untabled 24 0) (x .due ∙ due-24) in
     let z : _≡_ {A = ℕ} 1 0 = sym (all-first size 1 (lit< tt)) ∙ ap (λ (s : List ℕ). getD s 0 0) (sym (drawn-is same) ∙ ap (λ (s : Stores). s .first) kept) ∙ all-first size 0 (lit< tt) in
     omega arith

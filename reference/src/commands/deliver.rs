@@ -59,6 +59,35 @@ pub fn make(seed: u64, count: usize) -> Made {
     made
 }
 
+/// What is expected of these sessions, as `make` writes them.
+pub fn expected(input: &[u8]) -> Option<Vec<u8>> {
+    let mut made = Made {
+        input: Vec::new(),
+        expected: Vec::new(),
+    };
+    let mut rest = input;
+    while !rest.is_empty() {
+        let (head, after) = rest.split_at_checked(7)?;
+        let format = *Format::ALL.get(usize::from(head[0]))?;
+        let clip = u16::from_be_bytes([head[1], head[2]]);
+        let count = u32::from_be_bytes([head[3], head[4], head[5], head[6]]);
+        rest = after;
+        let mut calls = Vec::new();
+        for _ in 0..count {
+            let (head, after) = rest.split_at_checked(3)?;
+            let length = usize::from(u16::from_be_bytes([head[1], head[2]]));
+            let (block, after) = after.split_at_checked(length)?;
+            calls.push(Call {
+                length_kind: head[0],
+                block: block.to_vec(),
+            });
+            rest = after;
+        }
+        session(&mut made, format, clip, &calls);
+    }
+    Some(made.expected)
+}
+
 fn random_calls(random: &mut Random, format: Format, clip: u16) -> Vec<Call> {
     let pictures = random.between(3, 10) as usize;
     let first = maker::first_number(random, pictures);
@@ -88,7 +117,8 @@ fn wrong_length(random: &mut Random, block: &[u8]) -> Call {
 /// The receiver's rules one by one.
 fn hand_made(random: &mut Random, format: Format) -> Vec<Vec<Call>> {
     let bits_of = |description: &Description| writer::picture(description, &mut Plain);
-    let refresh = bits_of(&maker::description(random, format, Style::Refresh));
+    let refresh_description = maker::description(random, format, Style::Refresh);
+    let refresh = bits_of(&refresh_description);
     let dense = bits_of(&maker::description(random, format, Style::DenseRefresh));
     let empty = bits_of(&Description::empty(format));
     let cut = empty.cut(empty.count - 1);
@@ -97,6 +127,15 @@ fn hand_made(random: &mut Random, format: Format) -> Vec<Vec<Call>> {
             .iter()
             .map(|block| block.to_bytes().to_vec())
             .collect()
+    };
+    // A picture with this TR: a refresh or an empty one.
+    let timed = |number: u32, is_refresh: bool, temporal_reference: u8| -> Vec<Vec<u8>> {
+        let mut description = Description::empty(format);
+        if is_refresh {
+            description = refresh_description.clone();
+        }
+        description.temporal_reference = temporal_reference;
+        picture(number, is_refresh, &bits_of(&description))
     };
     let sessions: Vec<Vec<Vec<Vec<u8>>>> = vec![
         // Untrue marks either way, and catching up after each.
@@ -161,6 +200,38 @@ fn hand_made(random: &mut Random, format: Format) -> Vec<Vec<Call>> {
             picture(PICTURES, true, &refresh),
             picture(255 * 65_536, true, &refresh),
             picture(0, true, &refresh),
+        ],
+        // Ticks (document 02, T-02): TRs 30, 1, 1, 4, 9, 11 with picture 1 skipped; picture 2 after a loss;
+        // each rule in turn; a first picture that isn't picture 0; a refused one.
+        vec![
+            timed(0, true, 30),
+            timed(2, true, 1),
+            timed(3, false, 4),
+            timed(4, true, 9)[..1].to_vec(),
+            timed(5, false, 11),
+        ],
+        vec![
+            timed(0, true, 30),
+            timed(1, false, 1),
+            timed(3, false, 4),
+            timed(2, true, 1),
+        ],
+        vec![
+            timed(0, true, 30),
+            timed(1, false, 1),
+            timed(2, false, 1),
+            timed(3, false, 0),
+            timed(7, true, 9),
+            timed(8, false, 12),
+            timed(9, true, 12),
+            timed(10, false, 11),
+        ],
+        vec![timed(4, true, 17), timed(5, false, 17)],
+        vec![
+            timed(0, true, 31),
+            picture(1, true, &empty),
+            timed(2, true, 0),
+            timed(3, false, 31),
         ],
         vec![more_parts(format, false, 4000), picture(1, true, &refresh)],
         vec![more_parts(format, true, 4000), picture(1, true, &refresh)],
@@ -243,7 +314,7 @@ fn session(made: &mut Made, format: Format, clip: u16, calls: &[Call]) {
 /// Whether a last part was read.
 fn was_read(answer: &Answer) -> bool {
     match answer {
-        Answer::Finished(_) => true,
+        Answer::Finished(..) => true,
         Answer::Refused(refusal) => matches!(refusal.number, 2..=13 | 24),
         _ => false,
     }

@@ -7,7 +7,7 @@ use reference::random::Random;
 use reference::writer::{self, Plain};
 
 use super::made::File;
-use super::streams::{frames, pack};
+use super::streams::{frames, pack, Frames};
 
 /// The clip that every stream is packed as.
 const CLIP: u16 = 7;
@@ -28,7 +28,7 @@ pub fn files(seed: u64, count: usize) -> Vec<File> {
             rough_stream(&mut random, format)
         };
         let packed = pack(format, CLIP, &raw.bytes).expect("a clip that isn't 0");
-        let shown = frames(format, &packed.blocks);
+        let shown = frames(format, &packed.blocks, Frames::Each);
         files.extend([
             (format!("pack-{name}-{number}.input"), raw.bytes),
             (format!("pack-{name}-{number}.expected"), packed.blocks),

@@ -57,8 +57,26 @@ pub fn pack(format: Format, clip: u16, raw: &[u8]) -> Result<Packed, String> {
     Ok(packed)
 }
 
+/// How many frames a finished picture has.
+#[derive(Clone, Copy, PartialEq, Eq)]
+pub enum Frames {
+    /// One.
+    Each,
+    /// One for each tick until the next picture's; where the receiver left step in between, one, and grey
+    /// for the other ticks.
+    Timed,
+}
+
+/// The last finished picture: its number, its tick, its samples, and whether step was left since.
+struct Standing {
+    picture: u32,
+    tick: u32,
+    samples: Vec<u8>,
+    left_step: bool,
+}
+
 /// YUV4MPEG2 of the pictures finished in step.
-pub fn frames(format: Format, blocks: &[u8]) -> Vec<u8> {
+pub fn frames(format: Format, blocks: &[u8], how: Frames) -> Vec<u8> {
     // 4:3 over 352 by 288 makes a sample 12:11; chroma lies in the middle of four Y samples.
     let header = format!(
         "YUV4MPEG2 W{} H{} F30000:1001 Ip A12:11 C420jpeg\n",
@@ -67,12 +85,32 @@ pub fn frames(format: Format, blocks: &[u8]) -> Vec<u8> {
     );
     let mut output = header.into_bytes();
     let mut vault = Vault::new(format);
+    let mut last: Option<Standing> = None;
+    let grey = vec![128; format.store_length()];
     for block in blocks.chunks_exact(BLOCK_LENGTH) {
         let answer = vault.receive(block);
-        if let Answer::Finished(_) = answer {
-            output.extend(b"FRAME\n");
-            output.extend(vault.shown(&answer).expect("a finished picture"));
+        let Answer::Finished(picture, tick) = answer else {
+            if let Some(last) = &mut last {
+                last.left_step |= vault.shown(&answer).is_none();
+            }
+            continue;
+        };
+        if let (Frames::Timed, Some(last)) = (how, &last) {
+            let left_step = last.left_step || picture != last.picture + 1;
+            for _ in last.tick + 1..tick.number() {
+                output.extend(b"FRAME\n");
+                output.extend(if left_step { &grey } else { &last.samples });
+            }
         }
+        let samples = vault.shown(&answer).expect("a finished picture").to_vec();
+        output.extend(b"FRAME\n");
+        output.extend(&samples);
+        last = Some(Standing {
+            picture,
+            tick: tick.number(),
+            samples,
+            left_step: false,
+        });
     }
     output
 }

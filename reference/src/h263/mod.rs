@@ -8,9 +8,10 @@ pub mod maker;
 pub mod reader;
 pub mod reads;
 pub mod reconstruction;
-pub mod refusal;
 pub mod stream;
 pub mod tables;
 pub mod vectors;
 pub mod words;
 pub mod writer;
+
+pub use crate::refusal;

@@ -2,6 +2,7 @@
 use borrow.Author.Needs.{needs}
 use mathlib.Core.Path.{_≡_, refl, sym, ap, subst, _∙_}
 use mathlib.Core.Bool.{Bool, true, false}
+use Prim.Native.Nat.{ℕ}
 use Rattle.laws.specs.Choice.{pick, alike}
 use Rattle.refusals.specs.Number.{number, readTable}
 use Rattle.refusals.specs.Told.{untabled, accepted}
@@ -11,8 +12,8 @@ use Rattle.vault.specs.declared.Header.{Header}
 use Rattle.standing.specs.Stores.{Stores, stores, reference, storesWith}
 use Rattle.standing.specs.declared.Receiver.{Receiver}
 use Rattle.standing.specs.declared.Received.{Received}
-use Rattle.standing.specs.Answered.{picture, refused, reply, toldReceived}
-use Rattle.standing.specs.Receive.{Event, failed, finished, markOf, endedPicture, failedReceiver, finishedReceiver}
+use Rattle.standing.specs.Answered.{refused, reply, toldReceived}
+use Rattle.standing.specs.Receive.{Event, failed, finished, markOf, endedPicture, failedReceiver, tickIn, finishedReply}
 use Rattle.receiver.specs.Receiving.{Settles}
 use Rattle.receiver.proofs.settle.Statement.{statement}
 use Rattle.receiver.proofs.settle.Tie as tie
@@ -24,8 +25,11 @@ module _ {marked refreshed agreed : Bool} (r : Receiver) (header : Header) (d : 
   comes b e = ap (λ (t : Bool). pick t (finished header d) (failed header (untabled 24 0))) (sym e ∙ a ∙ (λ i. alike (f i) (m i)))
 
   true-mark : {x : Received} {t : Stores} → agreed ≡ true → t ≡ storesWith (r .last .holder) (codingOf (r .kind) .render d (reference (r .last .holder) s)) s
-      → toldReceived x ≡ reply (picture (header .picture)) (finishedReceiver r header) → Settles codingOf r s (endedPicture codingOf r header (accepted d)) x t
-  true-mark {x} {t} e k h = subst (λ (v : Event Flat). Settles codingOf r s v x t) (comes true e) (record { gave = h; left = k })
+      → (tr : ℕ) → tr ≡ codingOf (r .kind) .tr d → toldReceived x ≡ finishedReply r header (tickIn (codingOf (r .kind) .modulus) (r .last) (header .picture) tr)
+      → Settles codingOf r s (endedPicture codingOf r header (accepted d)) x t
+  true-mark {x} {t} e k tr is h =
+      subst (λ (v : Event Flat). Settles codingOf r s v x t) (comes true e)
+      (record { gave = h ∙ ap (λ (n : ℕ). finishedReply r header (tickIn (codingOf (r .kind) .modulus) (r .last) (header .picture) n)) is; left = k })
 
   untrue-mark : {x : Received} → agreed ≡ false → toldReceived x ≡ reply (refused (untabled 24 0)) (failedReceiver r header)
       → Settles codingOf r s (endedPicture codingOf r header (accepted d)) x s
@@ -43,13 +47,14 @@ keep-requires c κs =
 
 returns : tie.Need-returns
 returns c =
-    let at-keep = c .before .before .before .before .before in
+    let at-tr-of = c .before in
+    let at-keep = at-tr-of .before .before .before .before .before in
     let at-if1 = at-keep .before .before .before in
     let at-agree = at-if1 .before in
     let at-is-refresh = at-agree .before in
     let at-mark-with = at-is-refresh .before in
     let start = at-mark-with .before .before .before .before .before .before .before .before in
-    true-mark (start .args .receiver) (start .args .header) (flat (start .args .head .now) (start .args .macroblocks .now) (start .args .levels .now)) (stores (start .args .first .now) (start .args .second .now)) (at-mark-with .mark-with .ensures) (at-is-refresh .is-refresh .ensures) (at-agree .agree .ensures) (at-if1 .if1 .taken) (at-keep .keep .ensures) (c .succeed .ensures)
+    true-mark (start .args .receiver) (start .args .header) (flat (start .args .head .now) (start .args .macroblocks .now) (start .args .levels .now)) (stores (start .args .first .now) (start .args .second .now)) (at-mark-with .mark-with .ensures) (at-is-refresh .is-refresh .ensures) (at-agree .agree .ensures) (at-if1 .if1 .taken) (at-keep .keep .ensures) (at-tr-of .tr-of .result) (at-tr-of .tr-of .ensures) (c .succeed .ensures)
 
 returns-2 : tie.Need-returns-2
 unfolding number readTable
@@ -64,5 +69,5 @@ returns-2 c =
 pub settle-spec : {M : Type 1} → statement M
 settle-spec =
     tie.close
-    (tie.spec (λ c κs. search needs) is-refresh-requires (λ c κs. search needs) keep-requires (λ c κs. search needs) (λ c. search needs)
+    (tie.spec (λ c κs. search needs) is-refresh-requires (λ c κs. search needs) keep-requires (λ c κs. search needs) (λ c κs. search needs) (λ c. search needs)
     (λ c. search needs) returns (λ c κs. search needs) returns-2)

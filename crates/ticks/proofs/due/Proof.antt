@@ -1,24 +1,21 @@
--- `ticks::due` meets its contract. The literal 30000.0 is the exact conversion of 30000.
--- Assumes nothing.
+-- `ticks::due` meets its contract: an arm for each tick. Assumes nothing.
+use mathlib.Core.Path.{sym, ap, _∙_}
 use borrow.Author.Needs.{needs}
-use mathlib.Core.Path.{ap, _∙_}
-use Prim.Native.Nat.{_*_, _^_}
-use borrow.Author.Tests.{le-leb}
-use denote.Floats.{passes}
-use native.Mathlib.Omega.{arith}
-use lib.Ieee.{div, ofInt, ofBits, inFloat}
 use Rattle.ticks.specs.Due.{dueOf}
-use Rattle.ticks.proofs.DueLaws.{due-3750}
+use Rattle.ticks.specs.declared.DueTime.the-variants as D
 use Rattle.ticks.proofs.due.Statement.{statement}
 use Rattle.ticks.proofs.due.Tie as tie
 
-int-to-float-result : tie.Need-int-to-float-result
-unfolding inFloat
-int-to-float-result c = passes _ (le-leb (1001 * c .before .args .tick) (2 ^ 53) (omega arith))
-
 returns : tie.Need-returns
-unfolding dueOf div ofInt ofBits
-returns c = (search needs, λ e. ap dueOf e ∙ due-3750)
+returns c =
+    let at-tick = c .before .before in
+    ap D.Exact (c .seconds .ensures .0) ∙ sym (ap dueOf (at-tick .tick .given .1))
+
+returns-2 : tie.Need-returns-2
+returns-2 c =
+    let at-tick = c .before .before in
+    ap D.Estimated (c .seconds2 .ensures .0) ∙ sym (ap dueOf (at-tick .tick2 .given .1))
 
 pub due-spec : {M : Type 1} → statement M
-due-spec = tie.close (tie.spec (λ c. search needs) int-to-float-result returns)
+due-spec =
+    tie.close (tie.spec (λ c. search needs) (λ c κs. search needs) (λ c. search needs) (λ c κs. search needs) returns returns-2)
