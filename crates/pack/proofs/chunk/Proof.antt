@@ -1,6 +1,7 @@
 -- `pack::chunk` ends: each turn goes on by a bit at least, and no buffer changes its length. Assumes nothing.
 use mathlib.Core.Path.{_≡_}
 use Prim.Native.Nat.{_-_, _*_}
+use native.Mathlib.Omega.{arith}
 use lib.ListN.{length}
 use borrow.Author.Needs.{needs}
 use Rattle.pack.proofs.chunk.Statement.{statement}
@@ -12,10 +13,15 @@ Inv-loop bytes picture₀ first₀ second₀ pack₀ at₀ picture first second 
 abbrev μ-loop : tie.MeasureT-loop
 μ-loop bytes picture₀ first₀ second₀ pack₀ at₀ picture first second pack at = 8 * length bytes - at
 
-loop-less : tie.Need-loop-less Inv-loop μ-loop
-loop-less c = search needs
+-- where a start code ends with a bit of what was read
+add-at : tie.Need-add-at Inv-loop μ-loop
+add-at c =
+    let at-if1 = c .before .before .before .before .before .before .before .before .before .before in
+    let at-loop = at-if1 .before .before .before .before .before .before .before .before in
+    let start = at-loop .before .before .before .before .before in
+    omega (arith, at-if1 .if1 .left, start .pre)
 
 pub chunk-spec : {M : Type 1} → statement M
 chunk-spec =
     tie.close
-    (tie.spec Inv-loop μ-loop (λ c. search needs) (λ c κs. search needs) (λ c. search needs) (λ c. search needs) (λ c. search needs) (λ c. search needs) (λ c κs. search needs) (λ c. search needs) loop-less (λ c. search needs) (λ c. search needs) (λ c. search needs) (λ c. search needs) (λ c. search needs))
+    (tie.spec Inv-loop μ-loop (λ c. search needs) (λ c κs. search needs) (λ c. search needs) (λ c. search needs) (λ c. search needs) (λ c. search needs) (λ c κs. search needs) add-at (λ c. search needs) (λ c. search needs) (λ c. search needs) (λ c. search needs) (λ c. search needs) (λ c. search needs))
