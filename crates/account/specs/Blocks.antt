@@ -10,8 +10,8 @@ use Rattle.account.specs.declared.End.{End}
 use Rattle.account.specs.declared.End.the-variants.{Done}
 use Rattle.account.specs.declared.blocks.Met.{Met}
 
-abbrev pub fresh : Met
-fresh = record { pictures = 0; begun = false; cut = false }
+abbrev pub freshMet : Met
+freshMet = record { pictures = 0; begun = false; cut = false }
 
 -- counts stop at the greatest number of 64 bits
 abbrev pub oneMore : ℕ → ℕ

@@ -9,8 +9,8 @@ use Rattle.standing.specs.declared.Answer.the-variants as A
 use Rattle.account.specs.declared.idle.Idle.{Idle}
 
 -- nothing since the picture before this one
-abbrev pub fresh : ℕ → Idle
-fresh next = record { any = false; from = 0; to = 0; begun = false; first = 0; last = 0; next = next }
+abbrev pub freshIdle : ℕ → Idle
+freshIdle next = record { any = false; from = 0; to = 0; begun = false; first = 0; last = 0; next = next }
 
 -- the blocks of a picture that has begun, and is dropped, led to none
 unfoldable pub dropped : Idle → Idle
@@ -39,5 +39,5 @@ unfoldable pub idleAfter : Idle → ℕ → Answer → Idle
 idleAfter i n (A.Old p part) = i
 idleAfter i n (A.Taken p part) = pick (eqb part 0) (beginning (dropped i) n) (goingOn i n)
 idleAfter i n A.Lost = wasted (dropped i) n
-idleAfter i n (A.Picture p tick) = fresh (p + 1)
+idleAfter i n (A.Picture p tick) = freshIdle (p + 1)
 idleAfter i n (A.Refused why) = pick (ofBlock (number (why .reason))) i (wasted (dropped i) n)

@@ -4,7 +4,7 @@ use standing::Answer;
 ghost use mathlib.Core.Path.{_≡_};
 ghost use lib.Dec.{eqb};
 ghost use Rattle.laws.specs.Choice.{either, opposite};
-ghost use Rattle.account.specs.Blocks.{fresh, oneMore, finished, metAfter, cutShort, endOf};
+ghost use Rattle.account.specs.Blocks.{freshMet, oneMore, finished, metAfter, cutShort, endOf};
 
 // How many pictures were finished; whether a picture has begun and isn't finished; whether something was cut.
 pub struct Met {
@@ -14,7 +14,7 @@ pub struct Met {
 }
 
 pub fn open() -> Met
-    ensures { λ r. ⌜ r ≡ fresh ⌝ }
+    ensures { λ r. ⌜ r ≡ freshMet ⌝ }
 {
     Met {
         pictures: 0,

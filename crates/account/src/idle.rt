@@ -2,7 +2,7 @@
 use standing::Answer;
 ghost use mathlib.Core.Path.{_≡_};
 ghost use Rattle.laws.specs.Choice.{pick};
-ghost use Rattle.account.specs.Idle.{fresh, dropped, wasted, beginning, goingOn, ofBlock, idleAfter};
+ghost use Rattle.account.specs.Idle.{freshIdle, dropped, wasted, beginning, goingOn, ofBlock, idleAfter};
 
 // Since the last picture that was finished: whether blocks led to none, the first and the last of them; whether a picture has begun, its first block and its last so far;
 // and the number of the picture that comes next.
@@ -17,7 +17,7 @@ pub struct Idle {
 }
 
 pub fn open(next: u64) -> Idle
-    ensures { λ r. ⌜ r ≡ fresh next ⌝ }
+    ensures { λ r. ⌜ r ≡ freshIdle next ⌝ }
 {
     Idle {
         any: false,

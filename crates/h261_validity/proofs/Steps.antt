@@ -2,17 +2,17 @@
 use mathlib.Core.Path.{_≡_, refl, sym, ap, ap₂, _∙_}
 use mathlib.Core.Bool.{Bool, true, false}
 use mathlib.Core.List.{List, _∷_}
-use Prim.Native.Nat.{ℕ, zero, suc, _+_, _-_, _*_, _≤_, _<_}
+use Prim.Native.Nat.{ℕ, zero, suc, _+_, _-_, _*_, _≤_, _<_, max}
 use native.Mathlib.Omega.{arith}
 use native.Mathlib.Nat.{add-zero}
 use borrow.Author.Tests.{lt-ltb, le-ltb, le-leb, lt-leb, eq-eqb, ne-eqb}
-use lib.Dec.{T, leb, ltb, eqb, eqb→eq, lit≤}
+use lib.Dec.{T, leb, ltb, eqb, eqb→eq, eqb·suc-zero, lit≤}
 use Rattle.h261_words.specs.Words.{isIntra, isMC, hasMQUANT, hasCBP}
 use lib.ListN.{length, getD, take, drop, length-drop}
 use lib.Seq.{drop-length, drop-drop, getD-drop, take-all, length-take-le}
 use lib.IntN.{ℤ, pos, negsuc, natAbs}
 use Rattle.laws.specs.Choice.{pick, both, opposite}
-use Rattle.laws.proofs.Choice.{both-left, both-right, true-T}
+use Rattle.laws.proofs.Choice.{both-left, both-right, both-assoc, both-true, true-T}
 use Rattle.laws.proofs.Lists.{drop-on}
 use Rattle.h261_groups.specs.Format.{formatBit, groupNumbers, groupCount, column, row, headLength, macroblocksLength, levelsLength, sizeOf}
 use Rattle.size.specs.Size.{width, height}
@@ -122,6 +122,33 @@ module _ {whole : Bool} {good : ℕ → Bool} {bytes : List ℕ} {i : ℕ} (h : 
 
     pub all-more : good (getD bytes i 0) ≡ true → AllSoFar whole good bytes (i + 1)
     all-more e = record { inside = omega arith; same = on ∙ ap (λ (b : Bool). both b (all good (drop (i + 1) bytes))) e }
+
+-- ---- the largest of i bytes' marks is 0 where all of them pass
+pub record LargestSoFar (whole : Bool) (good : ℕ → Bool) (bytes : List ℕ) (largest i : ℕ) : Type 0 where
+  pub inside : i ≤ length bytes
+  pub same : whole ≡ both (isZero largest) (all good (drop i bytes))
+
+largest-zero : (m x : ℕ) → both (isZero m) (isZero x) ≡ isZero (max m x)
+largest-zero zero x = let e : x ≡ max 0 x = omega arith in ap isZero e
+largest-zero (suc m) x = ap (λ (b : Bool). both b (isZero x)) (eqb·suc-zero m) ∙ sym (ne-eqb (max (suc m) x) 0 (λ e. omega (arith, e)))
+
+pub largest-first : (good : ℕ → Bool) (bytes : List ℕ) → LargestSoFar (all good bytes) good bytes 0 0
+largest-first good bytes = record { inside = omega arith; same = refl }
+
+module _ {whole : Bool} {good : ℕ → Bool} {bytes : List ℕ} {largest i : ℕ} (h : LargestSoFar whole good bytes largest i) where
+  pub largest-done : length bytes ≤ i → isZero largest ≡ whole
+  largest-done l =
+      let e : i ≡ length bytes = omega (arith, h .inside) in
+      sym (h .same ∙ ap (λ (n : ℕ). both (isZero largest) (all good (drop n bytes))) e ∙ ap (λ (x : List ℕ). both (isZero largest) (all good x)) (drop-length bytes) ∙ both-true (isZero largest))
+
+  pub largest-more : (mark : ℕ) {m : ℕ} → i < length bytes → isZero mark ≡ good (getD bytes i 0) → m ≡ max largest mark → LargestSoFar whole good bytes m (i + 1)
+  largest-more mark l g e = record {
+    inside = omega arith;
+    same =
+        h .same ∙ ap (λ (x : List ℕ). both (isZero largest) (all good x)) (drop-on bytes i l)
+        ∙ both-assoc (isZero largest) (good (getD bytes i 0)) (all good (drop (i + 1) bytes))
+        ∙ ap (λ (b : Bool). both b (all good (drop (i + 1) bytes))) (ap (both (isZero largest)) (sym g) ∙ largest-zero largest mark ∙ ap isZero (sym e));
+  }
 
 -- ---- the DC codes of six blocks: k are behind
 pub record CodesSoFar (whole : Bool) (bytes : List ℕ) (k : ℕ) : Type 0 where

@@ -1,35 +1,53 @@
 // The levels of a macroblock under their rules.
 ghost use mathlib.Core.Path.{_≡_};
+ghost use Prim.Native.Nat.{max};
 ghost use lib.ListN.{length};
 ghost use Rattle.layout.specs.Numbers.{all, isZero, isLevel, codesFirst};
 ghost use Rattle.h261_description.specs.Valid.{validLevels};
 
-// Whether every byte is 0.
+fn larger(a: u8, b: u8) -> u8
+    ensures { λ r. ⌜ r ≡ max a b ⌝ }
+{
+    if a < b {
+        return b;
+    }
+    a
+}
+
+// Whether every byte is 0: then the largest is. No byte ends the loop, so that it goes over many at once.
 pub fn all_zero(bytes: &[u8]) -> bool
     ensures { λ r. ⌜ r ≡ all isZero (now (bytes .entry)) ⌝ }
 {
+    let mut largest: u8 = 0;
     let mut i: usize = 0;
     while i < bytes.len() {
-        if bytes[i] != 0 {
-            return false;
-        }
+        largest = larger(largest, bytes[i]);
         i += 1;
     }
-    true
+    largest == 0
 }
 
-// Whether every byte is a level: -128 is none.
+// 0 for a level, 1 for -128, which is none.
+fn no_level(code: u8) -> u8
+    ensures { λ r. ⌜ isZero r ≡ isLevel code ⌝ }
+{
+    if code == 128 {
+        return 1;
+    }
+    0
+}
+
+// Whether every byte is a level.
 fn all_levels(bytes: &[u8]) -> bool
     ensures { λ r. ⌜ r ≡ all isLevel (now (bytes .entry)) ⌝ }
 {
+    let mut largest: u8 = 0;
     let mut i: usize = 0;
     while i < bytes.len() {
-        if bytes[i] == 128 {
-            return false;
-        }
+        largest = larger(largest, no_level(bytes[i]));
         i += 1;
     }
-    true
+    largest == 0
 }
 
 // Whether each of six INTRA blocks has a DC code.

@@ -9,9 +9,9 @@ use native.Mathlib.Numerals.{add-one}
 use borrow.Author.Tests.{eq-eqb, ne-eqb}
 use lib.Dec.{T, leb, eqb, leb→le, lit≤, eqb·suc-zero}
 use lib.ListN.{length, getD, take, drop, length-drop}
-use lib.Seq.{drop-length, drop-drop, getD-drop, getD-take}
+use lib.Seq.{drop-length, drop-drop, getD-drop, getD-take, take-all}
 use Rattle.laws.specs.Choice.{both, either, opposite}
-use Rattle.laws.proofs.Choice.{both-left, both-right, both-make, true-false, opposite-no}
+use Rattle.laws.proofs.Choice.{both-left, both-right, both-make, T-true, true-T, true-false, opposite-no}
 use Rattle.laws.proofs.Lists.{drop-on}
 use Rattle.bits.specs.Bits.{Bit, bitsOf}
 use Rattle.bits.specs.Code.{wordOf}
@@ -61,9 +61,37 @@ unfolding gather
 gather-code run zero ls n = absurd (n refl)
 gather-code run (suc code) ls n = refl
 
-gather-none : (run : ℕ) → gather run [] ≡ []
+gather-zeros : (run : ℕ) (l : List ℕ) → T (all isZero l) → gather run l ≡ []
 unfolding gather
-gather-none run = refl
+gather-zeros run [] z = refl
+gather-zeros run (zero ∷ xs) z = gather-zeros (suc run) xs z
+gather-zeros run (suc x ∷ xs) z = absurd (subst T (eqb·suc-zero x) (both-left (isZero (suc x)) (all isZero xs) z))
+
+-- ---- where the zeros begin
+zeros-joined : (n : ℕ) (l : List ℕ) → T (all isZero (take n l)) → T (all isZero (drop n l)) → T (all isZero l)
+zeros-joined zero l a b = b
+zeros-joined (suc n) [] a b = b
+zeros-joined (suc n) (x ∷ xs) a b = both-make (isZero x) (all isZero xs) (both-left (isZero x) (all isZero (take n xs)) a) (zeros-joined n xs (both-right (isZero x) (all isZero (take n xs)) a) b)
+
+module _ (levels : List ℕ) (size : length levels ≡ 64) where
+  pub zeros-none : T (all isZero (drop 64 levels))
+  zeros-none = rw (past levels 64 size) tt
+
+  pub zeros-half : all isZero (take 32 (drop 32 levels)) ≡ true → T (all isZero (drop 32 levels))
+  zeros-half e =
+      let l : length (drop 32 levels) ≤ 32 = omega (arith, length-drop 32 levels, size) in
+      true-T (all isZero (drop 32 levels)) (ap (all isZero) (sym (take-all 32 (drop 32 levels) l)) ∙ e)
+
+  pub zeros-most : all isZero (take 32 (drop 32 levels)) ≡ true → all isZero (take 16 (drop 16 levels)) ≡ true → T (all isZero (drop 16 levels))
+  zeros-most e f =
+      zeros-joined 16 (drop 16 levels) (true-T (all isZero (take 16 (drop 16 levels))) f)
+      (true-T (all isZero (drop 16 (drop 16 levels))) (ap (all isZero) (drop-drop 16 16 levels) ∙ T-true (all isZero (drop 32 levels)) (zeros-half e)))
+
+pub zeros-on : (levels : List ℕ) (end k : ℕ) → end ≤ k → T (all isZero (drop end levels)) → T (all isZero (drop k levels))
+zeros-on levels end k l z =
+    let e : end + (k - end) ≡ k = omega (arith, l) in
+    true-T (all isZero (drop k levels))
+    (ap (λ (n : ℕ). all isZero (drop n levels)) (sym e) ∙ ap (all isZero) (sym (drop-drop (k - end) end levels)) ∙ T-true (all isZero (drop (k - end) (drop end levels))) (all-drop isZero (k - end) (drop end levels) z))
 
 coded-cons : (first : Bool) (c : Coefficient) (cs : Block) → codedBits first (c ∷ cs) ≡ tcoeffOf (tableOf first) c ++ codedBits false cs
 unfolding coefficientsOf
@@ -126,9 +154,9 @@ module _ {whole : List Bit} {levels : List ℕ} {s : List ℕ} {at : ℕ} {t : L
         same = coded-on ∙ sym (append-assoc (h .bits) coded-word coded-rest);
       }
 
-    module _ (l : 64 ≤ k) where
+    module _ (z : T (all isZero (drop k levels))) where
       ended : (b : Bool) → first ≡ b → whole ≡ h .bits ++ codedBits b []
-      ended b e = h .same ∙ ap₂ (λ (x : Bool) (y : Block). h .bits ++ codedBits x y) e (ap (gather run) (past levels k (omega (arith, h .inside))) ∙ gather-none run)
+      ended b e = h .same ∙ ap₂ (λ (x : Bool) (y : Block). h .bits ++ codedBits x y) e (gather-zeros run (drop k levels) z)
 
       pub coded-none : first ≡ true → WroteBits whole s at t place
       coded-none e = wrote-as (h .wrote) (sym (ended true e ∙ append-nil (h .bits)))
@@ -299,7 +327,7 @@ pattern-zero zero (x ∷ xs) h e = absurd (omega arith)
 pattern-zero (suc n) l h e =
     let z : presenceOf (gather 0 (take 64 l)) ≡ 0 = none (gather 0 (take 64 l)) (2 ^ length (gathers n (drop 64 l))) _ (pow-pos (length (gathers n (drop 64 l)))) e in
     let r : patternOf (gathers n (drop 64 l)) ≡ 0 = omega (arith, e) in
-    joined 64 l (zero-all 0 (take 64 l) z) (pattern-zero n (drop 64 l) (omega (arith, length-drop 64 l)) r)
+    zeros-joined 64 l (zero-all 0 (take 64 l) z) (pattern-zero n (drop 64 l) (omega (arith, length-drop 64 l)) r)
   where
     none : (b : Block) (p m : ℕ) → 0 < p → presenceOf b * p + m ≡ 0 → presenceOf b ≡ 0
     none [] p m h e = refl
@@ -311,11 +339,6 @@ pattern-zero (suc n) l h e =
         go : (b : Bool) → all isZero l ≡ b → T b
         go true g = tt
         go false g = absurd (omega (arith, present-some run l g, e))
-
-    joined : (n : ℕ) (l : List ℕ) → T (all isZero (take n l)) → T (all isZero (drop n l)) → T (all isZero l)
-    joined zero l a b = b
-    joined (suc n) [] a b = b
-    joined (suc n) (x ∷ xs) a b = both-make (isZero x) (all isZero xs) (both-left (isZero x) (all isZero (take n xs)) a) (joined n xs (both-right (isZero x) (all isZero (take n xs)) a) b)
 
 pub pattern-some : (l : List ℕ) → length l ≡ 384 → T (opposite (all isZero l)) → 1 ≤ patternOf (gathers 6 l)
 pattern-some l h t = go (patternOf (gathers 6 l)) refl

@@ -1,12 +1,29 @@
 // The blocks of a macroblock: their coefficients as runs and levels, to EOB.
 use h261_words::WordTables;
 ghost use mathlib.Core.Path.{_≡_};
+ghost use Prim.Native.Nat.{_≤_};
+ghost use lib.Dec.{T};
 ghost use lib.ListN.{length, drop};
 ghost use Rattle.bits.specs.Appended.{WroteBits};
 ghost use Rattle.layout.specs.Flat.{gather, gathers};
+ghost use Rattle.layout.specs.Numbers.{all, isZero};
 ghost use Rattle.h261_writer.specs.Write.{blockOf, blocksOf, presenceOf, patternOf};
 ghost use Rattle.h261_writer.specs.Sound.{codedBits};
 ghost use Rattle.h261_writer.specs.Asked.{CoefficientsAsked, BlockAsked, BlocksAsked};
+
+// From where on a block's levels are all zeros, in steps of 16: as most are, and a look at many at once is cheap.
+fn zeros_from(levels: &[u8]) -> usize
+    requires { ⌜ length (now levels) ≡ 64 ⌝ }
+    ensures { λ r. ⌜ (r ≤ 64) × (T (all isZero (drop r (now (levels .entry))))) ⌝ }
+{
+    if !h261_validity::levels::all_zero(&levels[32..64]) {
+        return 64;
+    }
+    if !h261_validity::levels::all_zero(&levels[16..32]) {
+        return 32;
+    }
+    16
+}
 
 // The coefficients of a block from one of its levels on; `opening` where the first is yet to come in a block that isn't INTRA, which isn't sent if it has none.
 fn coefficients(
@@ -20,11 +37,12 @@ fn coefficients(
     requires { ⌜ CoefficientsAsked (now tables) (now levels) from opening at ⌝ }
     ensures { λ r. ⌜ WroteBits (codedBits opening (gather 0 (drop from (now (levels .entry))))) (now (out .entry)) at (now (out .exit)) r ⌝ }
 {
+    let end = zeros_from(levels);
     let mut first = opening;
     let mut run: usize = 0;
     let mut k = from;
     let mut place = at;
-    while k < 64 {
+    while k < end {
         let code = levels[k];
         k += 1;
         if code == 0 {

@@ -17,7 +17,8 @@ use sender::Answer;
 use sender::Opened;
 use sender::Sender;
 use stream::Stream;
-ghost use Prim.Native.Nat.{_<_, _≤_};
+ghost use Prim.Native.Nat.{_≤_};
+ghost use lib.ListN.{length};
 
 // What has gone by of the stream, and the sender so far; whether the blocks can still be written; whether something was cut; whether a terminal shows how far it has come.
 struct Pack {
@@ -190,7 +191,7 @@ fn finish(
     )
 }
 
-// How many bits the picture has where the next start code ends with the next bit.
+// How many bits the picture has where the next start code, of 20 bits, ends with the next bit.
 fn bits_before(count: usize) -> usize {
     if count < 19 {
         return 0;
@@ -198,18 +199,18 @@ fn bits_before(count: usize) -> usize {
     count - 19
 }
 
-// Where a start code ends with the next bit, the picture before it is whole. After a failed write nothing more is done.
-fn end(pack: Pack, starts: bool, picture: &[u8], first: &mut [u8], second: &mut [u8]) -> Pack {
+// The picture that has begun is whole: it has `count` bits, the last one of them before `ones`. After a failed write nothing more is done.
+fn close(
+    pack: Pack,
+    count: usize,
+    ones: usize,
+    picture: &[u8],
+    first: &mut [u8],
+    second: &mut [u8],
+) -> Pack {
     let stream = pack.stream;
-    if starts && stream.begun && pack.writes {
-        return finish(
-            pack,
-            bits_before(stream.count),
-            stream.before,
-            picture,
-            first,
-            second,
-        );
+    if stream.begun && pack.writes {
+        return finish(pack, count, ones, picture, first, second);
     }
     pack
 }
@@ -226,37 +227,42 @@ fn begun(before: Pack) -> Pack {
     before
 }
 
-fn bit(before: Pack, bit: bool, picture: &mut [u8], first: &mut [u8], second: &mut [u8]) -> Pack {
+// A start code ends with the next bit, which is the last of its zeros: the picture before it is whole.
+fn start(before: Pack, picture: &mut [u8], first: &mut [u8], second: &mut [u8]) -> Pack {
     let stream = before.stream;
-    let starts = stream::starts(stream, bit);
-    let mut pack = end(before, starts, picture, first, second);
-    let next = stream::push(stream, bit, picture);
+    let count = bits_before(stream.count);
+    let mut pack = close(before, count, stream.before, picture, first, second);
+    let next = stream::push(stream, false, picture);
     pack.stream = next;
-    if starts && !stream.begun {
-        return begun(pack);
+    if stream.begun {
+        return pack;
     }
-    pack
+    begun(pack)
 }
 
-fn bit_at(bytes: &[u8; 4096], at: usize) -> bool
-    requires { ⌜ at < 32768 ⌝ }
-{
-    bytes[at / 8] >> (7 - at % 8) & 1 == 1
-}
-
+// What was read of the stream, from one start code to the next.
 fn chunk(
     before: Pack,
-    bytes: &[u8; 4096],
-    count: usize,
+    bytes: &[u8],
     picture: &mut [u8],
     first: &mut [u8],
     second: &mut [u8],
 ) -> Pack
-    requires { ⌜ count ≤ 32768 ⌝ }
+    requires { ⌜ length (now bytes) ≤ 4096 ⌝ }
 {
     let mut pack = before;
-    for at in 0..count {
-        pack = bit(pack, bit_at(bytes, at), picture, first, second);
+    let mut at: usize = 0;
+    while at / 8 < bytes.len() {
+        let stream = pack.stream;
+        let passed = stream::pass(stream, bytes, at, picture);
+        let next = passed.stream;
+        let there = passed.at;
+        pack.stream = next;
+        if bytes.len() <= there / 8 {
+            return pack;
+        }
+        pack = start(pack, picture, first, second);
+        at = there + 1;
     }
     pack
 }
@@ -273,7 +279,7 @@ fn one(pack: Pack, picture: &mut [u8], first: &mut [u8], second: &mut [u8]) -> T
     let mut input = io::buffer();
     let filled = account::input::fill(&mut input);
     let got = filled.count;
-    let next = chunk(pack, &input, 8 * got, picture, first, second);
+    let next = chunk(pack, &input[..got], picture, first, second);
     Turn {
         more: goes_on(got, next.writes),
         reads: !filled.failed,
@@ -307,15 +313,6 @@ fn recorded(pack: Pack) -> End {
     End::Done(pack.cut, sender.picture as u64)
 }
 
-// The picture at the stream's end.
-fn last(pack: Pack, picture: &[u8], first: &mut [u8], second: &mut [u8]) -> Pack {
-    let stream = pack.stream;
-    if stream.begun {
-        return finish(pack, stream.count, stream.last, picture, first, second);
-    }
-    pack
-}
-
 fn ended(before: Pack, reads: bool, picture: &[u8], first: &mut [u8], second: &mut [u8]) -> End {
     if !before.writes {
         return unwritten(before.terminal);
@@ -323,7 +320,8 @@ fn ended(before: Pack, reads: bool, picture: &[u8], first: &mut [u8], second: &m
     if !reads {
         return unread(before.terminal);
     }
-    let pack = last(before, picture, first, second);
+    let stream = before.stream;
+    let pack = close(before, stream.count, stream.last, picture, first, second);
     if !pack.writes {
         return unwritten(pack.terminal);
     }

@@ -4,3 +4,6 @@ pub mod Last
 pub mod Pictures
 pub mod StreamLaws
 pub mod Window
+pub mod Bytes
+pub mod Ones
+pub mod Fill

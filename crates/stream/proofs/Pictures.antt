@@ -16,13 +16,13 @@ use Rattle.bits.proofs.Source.{source-left}
 use Rattle.bits.specs.Write.{bytesWith}
 use Rattle.bits.proofs.Write.{length-written, written-bits}
 use Rattle.stream.specs.declared.Stream.{Stream}
-use Rattle.stream.specs.Stream.{bitNumber, oneMore, freshStream, windowAfter, startsAt, offsetOf, begunBy, longerBy, streamAfter, beginning, extended, keptAfter}
-use Rattle.stream.proofs.StreamLaws.{more-below}
+use Rattle.stream.specs.Stream.{bitNumber, oneMore, freshStream, windowAfter, startsAt, offsetOf, begunBy, longerBy, streamAfter, beginning, extended, keptAfter, ranFrom, keptFrom}
+use Rattle.stream.proofs.StreamLaws.{more-below, one-bit}
 use Rattle.stream.specs.Last.{startCode, Last, none, found, lastPicture, Ends, Says, lastOne, beforeLast, longer}
 use Rattle.stream.proofs.Last.{last-says, ends-here, goes-on, length-snoc, last-one, last-zero, before-one, before-zero, code-length, code-last, code-before, begins-length, before-code, almost, next-is, picture-is}
 use Rattle.stream.specs.Window.{number, lastTwenty}
 use Rattle.stream.proofs.Window.{window-more, ends-with, with-end}
-use Rattle.stream.specs.Pictures.{earlierOf, ownOf, going, ranFrom, told, keptFrom, asBit, Next, stateOf, starting, keptBytes, ran, isFound, PicturesKnown, PictureKept, PictureEnded}
+use Rattle.stream.specs.Pictures.{earlierOf, ownOf, going, told, asBit, Next, stateOf, starting, keptBytes, ran, isFound, PicturesKnown, PictureKept, PictureEnded}
 
 abbrev current : List Bool → List Bool
 current seen = ownOf seen (lastPicture seen)
@@ -172,10 +172,6 @@ holds-code n bytes l room =
           ap (bitsFrom (beginning bytes) 0) count ∙ ap (λ (s : List ℕ). bitsFrom s 0 20) is ∙ written-bits bytes 0 (bitsOf 20 16) fits
           ∙ ap (λ (s : List Bit). s ++ bitsOf 20 16) (bits-none bytes) ∙ code-bits ∙ sym (take-all (8 * n) (map asBit startCode) whole);
     }
-
-one-bit : (b : Bool) → bitsOf 1 (bitNumber b) ≡ asBit b ∷ []
-one-bit true = refl
-one-bit false = refl
 
 holds-more : (n : ℕ) (bytes : List ℕ) (own : List Bool) (b : Bool) → Holds n bytes own → Holds n (extended (length own) b bytes) (own ++ (b ∷ []))
 holds-more n bytes own b h = go (ltb (length own) (8 * length bytes)) refl

@@ -6,19 +6,11 @@ use Prim.Native.Nat.{ℕ, _-_, _*_, _/_, _<_, _≤_, min}
 use lib.ListN.{length, take}
 use Rattle.bits.specs.Bits.{Bit, O, I, source}
 use Rattle.stream.specs.declared.Stream.{Stream}
-use Rattle.stream.specs.Stream.{freshStream, startsAt, streamAfter, keptAfter}
+use Rattle.stream.specs.Stream.{freshStream, startsAt, ranFrom, keptFrom}
 use Rattle.stream.specs.Last.{startCode, Last, none, found, lastPicture, lastOne, beforeLast, longer}
 use Rattle.stream.specs.Window.{number, lastTwenty}
 
--- ---- a run: one bit after another
-abbrev pub ranFrom : Stream → List Bool → Stream
-ranFrom s [] = s
-ranFrom s (b ∷ bits) = ranFrom (streamAfter s b) bits
-
-abbrev pub keptFrom : Stream → List Bool → List ℕ → List ℕ
-keptFrom s [] bytes = bytes
-keptFrom s (b ∷ bits) bytes = keptFrom (streamAfter s b) bits (keptAfter s b bytes)
-
+-- ---- from the first bit on
 abbrev pub ran : List Bool → Stream
 ran seen = ranFrom freshStream seen
 

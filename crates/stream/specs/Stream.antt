@@ -1,11 +1,11 @@
 -- A raw H.261 stream, bit by bit: a picture reaches from its start code, at any bit, to the next one or to the stream's end. Assumes nothing.
 use Prim.Native.Nat.{ℕ, _+_, _-_, _*_, _/_, _%_}
 use mathlib.Core.Bool.{Bool, true, false}
-use mathlib.Core.List.{List}
+use mathlib.Core.List.{List, [], _∷_, map}
 use lib.Dec.{eqb, ltb, leb}
 use lib.ListN.{length}
 use Rattle.laws.specs.Choice.{pick}
-use Rattle.bits.specs.Bits.{bitsOf}
+use Rattle.bits.specs.Bits.{Bit, O, I, bitsOf, bitsLeft}
 use Rattle.bits.specs.Write.{bytesWith}
 use Rattle.stream.specs.declared.Stream.{Stream}
 
@@ -69,3 +69,25 @@ extended count bit bytes = pick (ltb count (8 * length bytes)) (bytesWith bytes 
 
 unfoldable pub keptAfter : Stream → Bool → List ℕ → List ℕ
 keptAfter s bit bytes = pick (startsAt s bit) (beginning bytes) (extended (s .count) bit bytes)
+
+-- ---- one bit after another
+abbrev pub ranFrom : Stream → List Bool → Stream
+ranFrom s [] = s
+ranFrom s (b ∷ bits) = ranFrom (streamAfter s b) bits
+
+abbrev pub keptFrom : Stream → List Bool → List ℕ → List ℕ
+keptFrom s [] bytes = bytes
+keptFrom s (b ∷ bits) bytes = keptFrom (streamAfter s b) bits (keptAfter s b bytes)
+
+-- those before the one with which the next start code ends
+abbrev pub untilStart : Stream → List Bool → List Bool
+untilStart s [] = []
+untilStart s (b ∷ bits) = pick (startsAt s b) [] (b ∷ untilStart (streamAfter s b) bits)
+
+-- ---- a stream's bytes are its bits, most significant first: those from a place on
+abbrev pub isOne : Bit → Bool
+isOne I = true
+isOne O = false
+
+abbrev pub bitsOn : List ℕ → ℕ → List Bool
+bitsOn bytes at = map isOne (bitsLeft bytes (8 * length bytes) at)
