@@ -2,7 +2,7 @@
 use mathlib.Core.Path.{_≡_}
 use mathlib.Core.Bool.{true}
 use mathlib.Core.List.{List, _++_}
-use Prim.Native.Nat.{ℕ}
+use Prim.Native.Nat.{ℕ, _≤_}
 use lib.Dec.{ltb}
 use lib.ListN.{length, drop}
 use Rattle.laws.specs.Choice.{pick}
@@ -13,12 +13,18 @@ use Rattle.size.specs.Size.{limit, storeLength, outputLength}
 use Rattle.h261_reader.specs.Described.{Blank}
 use Rattle.coding.specs.declared.Kind.{Kind}
 use Rattle.layout.specs.Flat.{Flat}
-use Rattle.coding.specs.Kind.{formatOf, kindSize, codingOf}
+use Rattle.coding.specs.Kind.{formatOf, kindSize, headLengthOf, macroblocksLengthOf, levelsLengthOf, codingOf}
 
 -- ---- reading, into three slices
 -- that are zeros in the kind's lengths
 abbrev pub BlankFor : Kind → List ℕ → List ℕ → List ℕ → Type 0
 BlankFor k head macroblocks levels = Blank (formatOf k) head macroblocks levels
+
+-- arrays of these lengths have room for them
+pub record RoomIn (head macroblocks levels : ℕ) (k : Kind) : Type 0 where
+  pub head-room : headLengthOf k ≤ head
+  pub macroblocks-room : macroblocksLengthOf k ≤ macroblocks
+  pub levels-room : levelsLengthOf k ≤ levels
 
 -- ---- writing
 -- "fills the output's last started byte with zeros"

@@ -6,7 +6,6 @@ use native.Mathlib.Nat.{le-of-suc-le-suc, not-suc-le-zero}
 use native.Mathlib.Omega.{arith}
 use lib.ListN.{length, take, replicate, length-replicate}
 use Rattle.h261_groups.specs.Format.{groupCount, headLength, macroblocksLength, levelsLength}
-use Rattle.h261_groups.proofs.Room.{groups-most}
 use Rattle.h261_groups.specs.declared.Format.{Format}
 use Rattle.h261_reader.specs.Described.{Lengths, Blank}
 
@@ -26,12 +25,8 @@ zeros-first (suc m) (suc n) h = ap (λ (l : List ℕ). 0 ∷ l) (zeros-first m n
 part : (m : ℕ) {n k : ℕ} → n ≤ m → n ≡ k → take {A = ℕ} n (replicate m 0) ≡ replicate k 0
 part m {n} h e = zeros-first m n h ∙ ap (λ (j : ℕ). replicate j 0) e
 
--- scratch that has room for either format
-pub blank-scratch : (f : Format) {h m l : ℕ} → h ≡ headLength f → m ≡ macroblocksLength f → l ≡ levelsLength f
-    → Blank f (take h (replicate 15 0)) (take m (replicate 1584 0)) (take l (replicate 152064 0))
-blank-scratch f {h} {m} {l} eh em el =
-    record {
-      head-blank = part 15 (omega (arith, groups-most f)) eh;
-      ms-blank = part 1584 (omega (arith, groups-most f)) em;
-      ls-blank = part 152064 (omega (arith, groups-most f)) el;
-    }
+-- scratch that has room for the format
+pub blank-scratch : (f : Format) {head macroblocks levels h m l : ℕ} → headLength f ≤ head → macroblocksLength f ≤ macroblocks → levelsLength f ≤ levels
+    → h ≡ headLength f → m ≡ macroblocksLength f → l ≡ levelsLength f → Blank f (take h (replicate head 0)) (take m (replicate macroblocks 0)) (take l (replicate levels 0))
+blank-scratch f {head} {macroblocks} {levels} rh rm rl eh em el =
+    record { head-blank = part head (omega arith) eh; ms-blank = part macroblocks (omega arith) em; ls-blank = part levels (omega arith) el }

@@ -57,9 +57,9 @@ module _ (f : Format) (s : List ℕ) (n : ℕ) {v : Verdict} (w : toldVerdict v 
   refused-unchanged r a before = kept (described f s n) r before a w
 
 -- ---- the lengths
-pub lengths-are : (f : Format) (before : Flat) {o : Bool} → o ≡ lengthsOf f before → o ≡ true → Lengths f (before .head) (before .macroblocks) (before .levels)
-lengths-are f before e h =
-    let all : T (lengthsOf f before) = true-T _ (sym e ∙ h) in
+named-lengths : (f : Format) (before : Flat) → lengthsOf f before ≡ true → Lengths f (before .head) (before .macroblocks) (before .levels)
+named-lengths f before h =
+    let all : T (lengthsOf f before) = true-T _ h in
     let a : Bool = eqb (length (before .head)) (3 + groupCount f) in
     let b : Bool = eqb (length (before .macroblocks)) (groupCount f * 132) in
     let c : Bool = eqb (length (before .levels)) (groupCount f * 12672) in
@@ -78,6 +78,13 @@ module _ (f : Format) (s : List ℕ) (n : ℕ) (before : Flat) {o : Bool} (e : o
   unfolding number readTable
   unfit h = (sym (ap verdictOn (on false h)), sym (ap (foundOr before) (on false h)))
 
-  pub fit : o ≡ true → (v : Verdict) {after : Flat} → toldVerdict v ≡ verdictOn (found (described f s n)) → after ≡ foundOr before (found (described f s n))
-      → (toldVerdict v ≡ verdictOn (readOf f s n before)) × (after ≡ foundOr before (readOf f s n before))
-  fit h v w b = (w ∙ sym (ap verdictOn (on true h)), b ∙ sym (ap (foundOr before) (on true h)))
+  -- read as the format that it is
+  module _ (h : o ≡ true) {g : Format} (is : f ≡ g) where
+    pub lengths-are : Lengths g (before .head) (before .macroblocks) (before .levels)
+    lengths-are = named-lengths g before (ap (λ (f : Format). lengthsOf f before) (sym is) ∙ sym e ∙ h)
+
+    pub fit : (v : Verdict) {after : Flat} → toldVerdict v ≡ verdictOn (found (described g s n)) → after ≡ foundOr before (found (described g s n))
+        → (toldVerdict v ≡ verdictOn (readOf f s n before)) × (after ≡ foundOr before (readOf f s n before))
+    fit v w b =
+        let as-read : found (described g s n) ≡ readOf f s n before = ap (λ (f : Format). found (described f s n)) (sym is) ∙ sym (on true h) in
+        (w ∙ ap verdictOn as-read, b ∙ ap (foundOr before) as-read)

@@ -6,6 +6,7 @@ use refusals::Verdict;
 ghost use mathlib.Core.Path.{_≡_};
 ghost use Rattle.refusals.specs.Told.{toldVerdict, verdictOn, foundOr};
 ghost use Rattle.fields.specs.Answer.{found};
+ghost use Rattle.h261_groups.specs.declared.Format.the-variants.{Qcif, Cif};
 ghost use Rattle.h261_reader.specs.Described.{Lengths, Blank, described};
 ghost use Rattle.h261_reader.specs.ReadOf.{ReadSays, ReadLeaves};
 ghost use Rattle.layout.specs.Flat.{flat};
@@ -41,6 +42,62 @@ fn read_in(
     }
 }
 
+// ---- scratch in the format's own lengths
+
+fn read_qcif(
+    bytes: &[u8],
+    count: usize,
+    head: &mut [u8],
+    macroblocks: &mut [u8],
+    levels: &mut [u8],
+) -> Verdict
+    requires { ⌜ Lengths Qcif (now head) (now macroblocks) (now levels) ⌝ }
+    ensures verdict { λ r. ⌜ toldVerdict r ≡ verdictOn (found (described Qcif (now (bytes .entry)) count)) ⌝ }
+    ensures buffers { λ _. ⌜ flat (now (head .exit)) (now (macroblocks .exit)) (now (levels .exit)) ≡ foundOr (flat (now (head .entry)) (now (macroblocks .entry)) (now (levels .entry))) (found (described Qcif (now (bytes .entry)) count)) ⌝ }
+{
+    let mut header = [0u8; 6];
+    let mut fields = [0u8; 396];
+    let mut coefficients = [0u8; 38016];
+    read_in(
+        bytes,
+        count,
+        Format::Qcif,
+        &mut header,
+        &mut fields,
+        &mut coefficients,
+        head,
+        macroblocks,
+        levels,
+    )
+}
+
+fn read_cif(
+    bytes: &[u8],
+    count: usize,
+    head: &mut [u8],
+    macroblocks: &mut [u8],
+    levels: &mut [u8],
+) -> Verdict
+    requires { ⌜ Lengths Cif (now head) (now macroblocks) (now levels) ⌝ }
+    ensures verdict { λ r. ⌜ toldVerdict r ≡ verdictOn (found (described Cif (now (bytes .entry)) count)) ⌝ }
+    ensures buffers { λ _. ⌜ flat (now (head .exit)) (now (macroblocks .exit)) (now (levels .exit)) ≡ foundOr (flat (now (head .entry)) (now (macroblocks .entry)) (now (levels .entry))) (found (described Cif (now (bytes .entry)) count)) ⌝ }
+{
+    let mut header = [0u8; 15];
+    let mut fields = [0u8; 1584];
+    let mut coefficients = [0u8; 152064];
+    read_in(
+        bytes,
+        count,
+        Format::Cif,
+        &mut header,
+        &mut fields,
+        &mut coefficients,
+        head,
+        macroblocks,
+        levels,
+    )
+}
+
 // The verdict of the rules. On acceptance the three buffers hold the description; on a refusal they are unchanged.
 pub fn read(
     bytes: &[u8],
@@ -59,21 +116,8 @@ pub fn read(
             place: 0,
         });
     }
-    let mut header = [0u8; 15];
-    let mut fields = [0u8; 1584];
-    let mut coefficients = [0u8; 152064];
-    let header_length = h261_groups::head_length(format);
-    let fields_length = h261_groups::macroblocks_length(format);
-    let coefficients_length = h261_groups::levels_length(format);
-    read_in(
-        bytes,
-        count,
-        format,
-        &mut header[..header_length],
-        &mut fields[..fields_length],
-        &mut coefficients[..coefficients_length],
-        head,
-        macroblocks,
-        levels,
-    )
+    match format {
+        Format::Qcif => read_qcif(bytes, count, head, macroblocks, levels),
+        Format::Cif => read_cif(bytes, count, head, macroblocks, levels),
+    }
 }

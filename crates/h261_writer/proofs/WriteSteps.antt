@@ -1,12 +1,12 @@
 -- The answer and the output of `write`, on plain values. Assumes nothing.
-use mathlib.Core.Path.{_≡_, refl, sym, ap, _∙_}
+use mathlib.Core.Path.{_≡_, refl, sym, ap, subst, _∙_}
 use mathlib.Core.Bool.{Bool, true, false}
 use mathlib.Core.List.{List, [], _∷_, _++_}
 use Prim.Native.Nat.{ℕ, _+_, _*_, _/_, _≤_, _<_}
 use native.Mathlib.Omega.{arith}
 use native.Mathlib.Nat.{zero-add}
 use borrow.Author.Tests.{eq-eqb, ne-eqb, lt-ltb, le-ltb}
-use lib.Dec.{eqb, ltb, lit≤}
+use lib.Dec.{T, eqb, ltb, lit≤}
 use lib.ListN.{length, take, drop}
 use lib.Seq.{take-at, take-length, length-take-le}
 use Rattle.laws.specs.Choice.{pick, both, either}
@@ -149,6 +149,17 @@ written-told-once (Refused a) (Refused b) e = ap Refused (refused-once a b e)
 written-told-once (Bits m) (Refused b) e = absurd (told-apart e)
 written-told-once (Refused a) (Bits n) e = absurd (told-apart (sym e))
 
+-- ---- a valid description, read as the format that it is
+module _ {f g : Format} (is : f ≡ g) (d : Flat) (out : List ℕ) where
+  pub valid-as : T (valid f d) → T (valid g d)
+  valid-as = subst (λ (f : Format). T (valid f d)) is
+
+  pub long-as : length out ≡ outputLength (sizeOf f) → length out ≡ outputLength (sizeOf g)
+  long-as h = h ∙ ap (λ (f : Format). outputLength (sizeOf f)) is
+
+  pub written-as : {c : ℕ} {u : List ℕ} → c ≡ length (pictureBits g d) → u ≡ filledWithin g d out → (c ≡ length (pictureBits f d)) × (u ≡ filledWithin f d out)
+  written-as h k = (h ∙ ap (λ (f : Format). length (pictureBits f d)) (sym is), k ∙ ap (λ (f : Format). filledWithin f d out) (sym is))
+
 -- ---- a valid description's bits, which the scratch has room for and which are copied where they are not above the limit
 module _ (f : Format) (d : Flat) (out : List ℕ) {s t : List ℕ} {c : ℕ} (w : WroteBits (pictureBits f d) s 0 t c) {l : ℕ} (le : l ≡ limit (sizeOf f)) where
   pub counted : c ≡ length (pictureBits f d)
@@ -157,9 +168,9 @@ module _ (f : Format) (d : Flat) (out : List ℕ) {s t : List ℕ} {c : ℕ} (w 
   pub left-alone : l < c → out ≡ filledWithin f d out
   left-alone h = sym (rw (lt-ltb (limit (sizeOf f)) (length (pictureBits f d)) (omega (arith, counted))))
 
-  module _ (h : c ≤ l) (long : length s ≡ 32768) where
+  module _ (h : c ≤ l) (long : length s ≡ outputLength (sizeOf f)) where
     within : c ≤ 8 * length s
-    within = omega (arith, limit-most f)
+    within = omega (arith, limit-is f)
 
     first : take (startedBytes (length (pictureBits f d))) t ≡ bytesOf (startedBytes (length (pictureBits f d))) (pictureBits f d)
     first = ap (take (startedBytes (length (pictureBits f d)))) (w .is ∙ ap (appendedBits s 0) (room-whole s 0 (pictureBits f d) (omega (arith, counted, within)))) ∙ first-bytes (pictureBits f d) s

@@ -3,7 +3,7 @@ use Prim.Native.Nat.{ℕ}
 use mathlib.Core.Path.{_≡_}
 use mathlib.Core.Bool.{Bool}
 use mathlib.Core.List.{List, _++_}
-use lib.Dec.{ltb, eqb}
+use lib.Dec.{T, ltb, eqb}
 use lib.ListN.{length, drop}
 use Rattle.laws.specs.Choice.{pick, both, either}
 use Rattle.refusals.specs.Told.{numbersOf, Told, accepted, refusedBy, refused}
@@ -68,3 +68,9 @@ WriteSays f d out answer = toldWritten answer ≡ writeOf f d (length out)
 
 abbrev pub WriteLeaves : Format → Flat → List ℕ → List ℕ → Type 0
 WriteLeaves f d out left = left ≡ outputOf f d out
+
+-- what is known on the way: a valid description, an output of its named length, and scratch of the same
+pub record Writing (f : Format) (d : Flat) (scratch out : List ℕ) : Type 0 where
+  pub valid-is : T (valid f d)
+  pub scratch-long : length scratch ≡ outputLength (sizeOf f)
+  pub out-long : length out ≡ outputLength (sizeOf f)

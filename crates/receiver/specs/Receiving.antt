@@ -1,15 +1,12 @@
 -- What `receive` promises, and what is known on the way: of a block that passed the checks, and of what a last part comes to. Assumes nothing.
 use Prim.Native.Nat.{ℕ, _+_, _*_, _≤_, _<_}
 use mathlib.Core.Path.{_≡_}
-use mathlib.Core.Bool.{true}
 use mathlib.Core.List.{List}
 use lib.ListN.{length}
 use Rattle.size.specs.Size.{storeLength}
 use Rattle.coding.specs.declared.Kind.{Kind}
 use Rattle.coding.specs.Coding.{Coding}
-use Rattle.layout.specs.Flat.{Flat}
 use Rattle.coding.specs.Kind.{kindSize, codingOf}
-use Rattle.coding.specs.Described.{BlankFor}
 use Rattle.vault.specs.declared.Header.{Header}
 use Rattle.vault.specs.Block.{pictures}
 use Rattle.standing.specs.Stores.{Stores}
@@ -34,16 +31,6 @@ pub record Fitting (kind : Kind) (header : Header) (first second : List ℕ) : T
 pub record Ready (kind : Kind) (header : Header) (block collection first second : List ℕ) : Type 0 where
   pub block-long : length block ≡ 512
   pub room : 500 * header .part + 500 ≤ length collection
-  pub fitting : Fitting kind header first second
-
--- a last part, and scratch to read its picture into
-pub record Readable (kind : Kind) (header : Header) (head macroblocks levels first second : List ℕ) : Type 0 where
-  pub blank : BlankFor kind head macroblocks levels
-  pub fitting : Fitting kind header first second
-
--- a last part whose picture is accepted
-pub record Settleable (kind : Kind) (header : Header) (d : Flat) (first second : List ℕ) : Type 0 where
-  pub valid-is : codingOf kind .valid d ≡ true
   pub fitting : Fitting kind header first second
 
 module _ {D : Type 0} (coding : Kind → Coding D) where

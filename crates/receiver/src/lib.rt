@@ -1,7 +1,8 @@
 // A receiver of one clip's blocks: each is judged, collected and answered, and a last part's picture is read and drawn.
+use decoder::Drawn;
+use decoder::Mark;
 use refusals::Reason;
 use refusals::Refusal;
-use refusals::Verdict;
 use standing::Line;
 use standing::Received;
 use standing::Receiver;
@@ -9,73 +10,24 @@ use standing::Standing;
 use vault::Checked;
 use vault::Header;
 ghost use mathlib.Core.Path.{_≡_};
-ghost use Rattle.refusals.specs.Told.{accepted};
-ghost use Rattle.layout.specs.Flat.{flat};
+ghost use Prim.Native.Nat.{_≤_};
 ghost use Rattle.coding.specs.Kind.{codingOf};
 ghost use Rattle.vault.specs.Parts.{placedPayload};
 ghost use Rattle.standing.specs.Stores.{stores};
 ghost use Rattle.standing.specs.Receive.{lineOf, countOf, endedPicture, tookOf, byLine, buffers, outcome, cameTo};
-ghost use Rattle.receiver.specs.Receiving.{ReceiveDoes, Fitting, Ready, Readable, Settleable, Settles};
+ghost use Rattle.receiver.specs.Receiving.{ReceiveDoes, Fitting, Ready, Settles};
 
 // ---- a last part
 
-// Its picture is accepted: the mark is judged before a sample is written.
-fn settle(
-    receiver: Receiver,
-    header: Header,
-    head: &[u8],
-    macroblocks: &[u8],
-    levels: &[u8],
-    first: &mut [u8],
-    second: &mut [u8],
-) -> Received
-    requires { ⌜ Settleable (receiver .kind) header (flat (now head) (now macroblocks) (now levels)) (now first) (now second) ⌝ }
-    ensures { λ r. ⌜ Settles codingOf receiver (stores (now (first .entry)) (now (second .entry))) (endedPicture codingOf receiver header (accepted (flat (now (head .entry)) (now (macroblocks .entry)) (now (levels .entry))))) r (stores (now (first .exit)) (now (second .exit))) ⌝ }
+// N, by the last part: all parts before it have 4000 bits.
+fn count_of(header: Header) -> usize
+    requires { ⌜ (header .part ≤ 65) × (header .used ≤ 4000) ⌝ }
+    ensures { λ r. ⌜ r ≡ countOf header ⌝ }
 {
-    let kind = receiver.kind;
-    let progress = receiver.progress;
-    let last = receiver.last;
-    let holder = last.holder;
-    let marked = standing::mark_with(progress, header);
-    let refreshed = coding::is_refresh(kind, head, macroblocks, levels);
-    if standing::agree(refreshed, marked) {
-        stores::keep(kind, holder, head, macroblocks, levels, first, second);
-        let tr = coding::tr_of(kind, head, macroblocks, levels);
-        return standing::succeed(receiver, header, tr);
-    }
-    standing::fail(
-        receiver,
-        header,
-        Refusal {
-            reason: Reason::UntrueMark,
-            place: 0,
-        },
-    )
+    4000 * (header.part as usize) + (header.used as usize)
 }
 
-// It is read into the lent scratch, then settled.
-fn finish_in(
-    receiver: Receiver,
-    header: Header,
-    collection: &[u8],
-    head: &mut [u8],
-    macroblocks: &mut [u8],
-    levels: &mut [u8],
-    first: &mut [u8],
-    second: &mut [u8],
-) -> Received
-    requires { ⌜ Readable (receiver .kind) header (now head) (now macroblocks) (now levels) (now first) (now second) ⌝ }
-    ensures { λ r. ⌜ Settles codingOf receiver (stores (now (first .entry)) (now (second .entry))) (endedPicture codingOf receiver header (codingOf (receiver .kind) .read (now (collection .entry)) (countOf header))) r (stores (now (first .exit)) (now (second .exit))) ⌝ }
-{
-    let kind = receiver.kind;
-    let count = 4000 * (header.part as usize) + (header.used as usize);
-    let verdict = coding::parse(kind, collection, count, head, macroblocks, levels);
-    match verdict {
-        Verdict::Refused(why) => standing::fail(receiver, header, why),
-        Verdict::Accepted => settle(receiver, header, head, macroblocks, levels, first, second),
-    }
-}
-
+// Its picture is read, its mark judged, and then it is drawn into a store.
 fn finish(
     receiver: Receiver,
     header: Header,
@@ -87,22 +39,17 @@ fn finish(
     ensures { λ r. ⌜ Settles codingOf receiver (stores (now (first .entry)) (now (second .entry))) (endedPicture codingOf receiver header (codingOf (receiver .kind) .read (now (collection .entry)) (countOf header))) r (stores (now (first .exit)) (now (second .exit))) ⌝ }
 {
     let kind = receiver.kind;
-    let mut head = [0u8; 15];
-    let mut macroblocks = [0u8; 1584];
-    let mut levels = [0u8; 152064];
-    let heads = coding::head_length(kind);
-    let fields = coding::macroblocks_length(kind);
-    let coefficients = coding::levels_length(kind);
-    finish_in(
-        receiver,
-        header,
-        collection,
-        &mut head[..heads],
-        &mut macroblocks[..fields],
-        &mut levels[..coefficients],
-        first,
-        second,
-    )
+    let progress = receiver.progress;
+    let last = receiver.last;
+    let holder = last.holder;
+    let count = count_of(header);
+    let marked = standing::mark_with(progress, header);
+    let mark = Mark::Refresh(marked);
+    let drawn = stores::keep_read(kind, holder, collection, count, mark, first, second);
+    match drawn {
+        Drawn::Refused(why) => standing::fail(receiver, header, why),
+        Drawn::Picture(tr) => standing::succeed(receiver, header, tr),
+    }
 }
 
 // ---- a block

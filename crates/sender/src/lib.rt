@@ -2,6 +2,7 @@
 use coding::Kind;
 use refusals::Reason;
 use refusals::Refusal;
+use size::Size;
 use standing::Holder;
 ghost use mathlib.Core.Path.{_≡_};
 ghost use Prim.Native.Nat.{_<_};
@@ -182,6 +183,64 @@ fn send_in(
     )
 }
 
+// ---- scratch by size
+
+// QCIF and smaller.
+fn send_small(
+    sender: Sender,
+    refreshed: bool,
+    head: &[u8],
+    macroblocks: &[u8],
+    levels: &[u8],
+    out: &mut [u8],
+    first: &mut [u8],
+    second: &mut [u8],
+) -> Sent
+    requires { ⌜ (Passed codingOf sender refreshed (flat (now head) (now macroblocks) (now levels)) (buffers (now out) (now first) (now second))) × (outputLength (kindSize (sender .kind)) ≡ 8192) ⌝ }
+    ensures { λ r. ⌜ SendDoes sender (flat (now (head .entry)) (now (macroblocks .entry)) (now (levels .entry))) (buffers (now (out .entry)) (now (first .entry)) (now (second .entry))) r (buffers (now (out .exit)) (now (first .exit)) (now (second .exit))) ⌝ }
+{
+    let mut scratch = [0u8; 8192];
+    send_in(
+        sender,
+        refreshed,
+        head,
+        macroblocks,
+        levels,
+        &mut scratch,
+        out,
+        first,
+        second,
+    )
+}
+
+// CIF.
+fn send_large(
+    sender: Sender,
+    refreshed: bool,
+    head: &[u8],
+    macroblocks: &[u8],
+    levels: &[u8],
+    out: &mut [u8],
+    first: &mut [u8],
+    second: &mut [u8],
+) -> Sent
+    requires { ⌜ (Passed codingOf sender refreshed (flat (now head) (now macroblocks) (now levels)) (buffers (now out) (now first) (now second))) × (outputLength (kindSize (sender .kind)) ≡ 32768) ⌝ }
+    ensures { λ r. ⌜ SendDoes sender (flat (now (head .entry)) (now (macroblocks .entry)) (now (levels .entry))) (buffers (now (out .entry)) (now (first .entry)) (now (second .entry))) r (buffers (now (out .exit)) (now (first .exit)) (now (second .exit))) ⌝ }
+{
+    let mut scratch = [0u8; 32768];
+    send_in(
+        sender,
+        refreshed,
+        head,
+        macroblocks,
+        levels,
+        &mut scratch,
+        out,
+        first,
+        second,
+    )
+}
+
 // A description comes: the answer and the next state; the picture's blocks in the output, its samples in a store. A refusal changes nothing.
 pub fn send(
     sender: Sender,
@@ -208,20 +267,39 @@ pub fn send(
     if !begins(sender.picture, refreshed) {
         return refused(sender, Reason::NotRefresh);
     }
-    let mut scratch = [0u8; 32768];
     let size = coding::size_of(kind);
-    let room = size::output_length(size);
-    send_in(
-        sender,
-        refreshed,
-        head,
-        macroblocks,
-        levels,
-        &mut scratch[..room],
-        out,
-        first,
-        second,
-    )
+    match size {
+        Size::SubQcif => send_small(
+            sender,
+            refreshed,
+            head,
+            macroblocks,
+            levels,
+            out,
+            first,
+            second,
+        ),
+        Size::Qcif => send_small(
+            sender,
+            refreshed,
+            head,
+            macroblocks,
+            levels,
+            out,
+            first,
+            second,
+        ),
+        Size::Cif => send_large(
+            sender,
+            refreshed,
+            head,
+            macroblocks,
+            levels,
+            out,
+            first,
+            second,
+        ),
+    }
 }
 
 // The store of the last picture sent, not copied; before the first, or where a store hasn't its named length, an empty part of the first.

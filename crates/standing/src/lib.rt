@@ -8,7 +8,7 @@ use vault::Header;
 ghost use mathlib.Core.Path.{_≡_};
 ghost use Prim.Native.Nat.{_<_, _≤_};
 ghost use lib.Dec.{eqb};
-ghost use Rattle.laws.specs.Choice.{both, opposite, alike};
+ghost use Rattle.laws.specs.Choice.{both, opposite};
 ghost use Rattle.refusals.specs.Number.{number};
 ghost use Rattle.refusals.specs.Told.{numbersOf};
 ghost use Rattle.vault.specs.Block.{pictures};
@@ -255,19 +255,6 @@ pub fn mark_with(progress: Progress, header: Header) -> bool
     } else {
         progress.mark
     }
-}
-
-// Whether a mark is true.
-pub fn agree(a: bool, b: bool) -> bool
-    ensures { λ r. ⌜ r ≡ alike a b ⌝ }
-{
-    if a {
-        return b;
-    }
-    if b {
-        return false;
-    }
-    true
 }
 
 // The next part is wanted.

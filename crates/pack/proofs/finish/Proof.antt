@@ -2,7 +2,7 @@
 use borrow.Author.Needs.{needs}
 use native.Mathlib.Omega.{arith}
 use Rattle.size.proofs.Room.{part-long, blocks-most}
-use Rattle.coding.proofs.Scratch.{head-most, macroblocks-most, levels-most}
+use Rattle.coding.proofs.Scratch.{room-large}
 use Rattle.pack.proofs.finish.Statement.{statement}
 use Rattle.pack.proofs.finish.Tie as tie
 
@@ -10,7 +10,7 @@ array-borrow-prefix-head : tie.Need-array-borrow-prefix-head
 array-borrow-prefix-head c =
     let at-head-length = c .before .before .before .before in
     let start = at-head-length .before .before .before .before .before in
-    omega (arith, at-head-length .head-length .ensures, head-most (start .args .pack .sender .kind))
+    omega (arith, at-head-length .head-length .ensures, room-large (start .args .pack .sender .kind) .head-room)
 
 slice-aggregate-read : tie.Need-slice-aggregate-read
 slice-aggregate-read c = part-long _ (array-borrow-prefix-head (c .before))
@@ -19,7 +19,7 @@ array-borrow-prefix-macroblocks : tie.Need-array-borrow-prefix-macroblocks
 array-borrow-prefix-macroblocks c =
     let at-macroblocks-length = c .before .before .before .before in
     let start = at-macroblocks-length .before .before .before .before .before .before in
-    omega (arith, at-macroblocks-length .macroblocks-length .ensures, macroblocks-most (start .args .pack .sender .kind))
+    omega (arith, at-macroblocks-length .macroblocks-length .ensures, room-large (start .args .pack .sender .kind) .macroblocks-room)
 
 slice-aggregate-read-2 : tie.Need-slice-aggregate-read-2
 slice-aggregate-read-2 c = part-long _ (array-borrow-prefix-macroblocks (c .before))
@@ -28,7 +28,7 @@ array-borrow-prefix-levels : tie.Need-array-borrow-prefix-levels
 array-borrow-prefix-levels c =
     let at-levels-length = c .before .before .before .before in
     let start = at-levels-length .before .before .before .before .before .before .before in
-    omega (arith, at-levels-length .levels-length .ensures, levels-most (start .args .pack .sender .kind))
+    omega (arith, at-levels-length .levels-length .ensures, room-large (start .args .pack .sender .kind) .levels-room)
 
 slice-aggregate-read-3 : tie.Need-slice-aggregate-read-3
 slice-aggregate-read-3 c = part-long _ (array-borrow-prefix-levels (c .before))

@@ -1,16 +1,14 @@
 -- `sender::send` meets its contract: by the judgements in their order. Assumes nothing.
 use borrow.Author.Needs.{needs}
 use mathlib.Core.Path.{sym, ap, _∙_}
-use native.Mathlib.Omega.{arith}
 use borrow.Author.Tests.{not-true, not-false}
 use lib.Dec.{eqb}
-use lib.Seq.{length-take-le}
 use Rattle.laws.specs.Choice.{either, opposite}
 use Rattle.refusals.specs.Number.{number, readTable}
 use Rattle.size.specs.Size.{outputLength}
-use Rattle.size.proofs.Room.{output-most}
 use Rattle.layout.specs.Flat.{flat}
 use Rattle.coding.specs.Kind.{codingOf}
+use Rattle.sender.specs.Sending.{Passed}
 use Rattle.sender.specs.Send.{buffers}
 use Rattle.sender.proofs.Laws.{unnamed, all-sent, invalid, not-refresh, came-refused}
 use Rattle.sender.proofs.send.Statement.{statement}
@@ -76,35 +74,47 @@ returns-4 c =
     (not-refresh codingOf (start .args .sender) d lent (sym (at-named .named .ensures) ∙ not-false _ (at-if1 .if1 .left)) (at-if2 .if2 .left) (sym (at-valid .valid .ensures) ∙ not-false _ (at-if3 .if3 .left))
     (sym (at-begins .begins .ensures ∙ ap (either (opposite (eqb (start .args .sender .picture) 0))) (at-is-refresh .is-refresh .ensures)) ∙ not-true _ (at-if4 .if4 .taken)))
 
-array-borrow-prefix-scratch : tie.Need-array-borrow-prefix-scratch
-array-borrow-prefix-scratch c =
-    let at-size-of = c .before in
-    omega (arith, c .output-length .ensures, output-most (at-size-of .size-of .result))
+-- all is judged but the limit
+abbrev start-of : tie.Else4 → tie.Start
+start-of c = c .before .before .before .before .before .before .before .before .before .before .before .before .before .before .before .before .before .before
 
-slice-aggregate-send-in : tie.Need-slice-aggregate-send-in
-slice-aggregate-send-in c = sym (length-take-le _ _ (array-borrow-prefix-scratch (c .before)))
-
-send-in-requires : tie.Need-send-in-requires
-send-in-requires c κs =
-    let at-output-length = c .before .before .before .before in
-    let at-size-of = at-output-length .before in
-    let at-if4 = at-size-of .before in
-    let at-begins = at-if4 .before in
+passed : (c : tie.Else4)
+    → Passed codingOf (start-of c .args .sender) (c .before .before .is-refresh .result)
+    (flat (start-of c .args .head .now) (start-of c .args .macroblocks .now) (start-of c .args .levels .now))
+    (buffers (start-of c .args .out .now) (start-of c .args .first .now) (start-of c .args .second .now))
+passed c =
+    let at-begins = c .before in
     let at-is-refresh = at-begins .before in
     let at-if3 = at-is-refresh .before in
     let at-valid = at-if3 .before in
     let at-if2 = at-valid .before in
     let at-if1 = at-if2 .before .before in
-    let at-named = at-if1 .before in (
-      record {
-        named-is = (sym (at-named .named .ensures) ∙ not-false _ (at-if1 .if1 .left));
-        counted = at-if2 .if2 .left;
-        valid-is = (sym (at-valid .valid .ensures) ∙ not-false _ (at-if3 .if3 .left));
-        refresh-is = at-is-refresh .is-refresh .ensures;
-        begins = sym (at-begins .begins .ensures) ∙ not-false _ (at-if4 .if4 .left);
-      },
-      length-take-le _ _ (array-borrow-prefix-scratch (c .before .before .before .before)) ∙ at-output-length .output-length .ensures ∙ ap outputLength (at-size-of .size-of .ensures),
-    )
+    let at-named = at-if1 .before in
+    record {
+      named-is = (sym (at-named .named .ensures) ∙ not-false _ (at-if1 .if1 .left));
+      counted = at-if2 .if2 .left;
+      valid-is = (sym (at-valid .valid .ensures) ∙ not-false _ (at-if3 .if3 .left));
+      refresh-is = at-is-refresh .is-refresh .ensures;
+      begins = sym (at-begins .begins .ensures) ∙ not-false _ (c .if4 .left);
+    }
+
+send-small-requires : tie.Need-send-small-requires
+send-small-requires c κs =
+    let at-told = c .before .before .before in
+    let at-size-of = at-told .before .before in
+    (passed (at-size-of .before), ap outputLength (sym (at-size-of .size-of .ensures) ∙ at-told .enum-told .given .1))
+
+send-small-requires-2 : tie.Need-send-small-requires-2
+send-small-requires-2 c κs =
+    let at-told = c .before .before .before in
+    let at-size-of = at-told .before .before in
+    (passed (at-size-of .before), ap outputLength (sym (at-size-of .size-of .ensures) ∙ at-told .enum-told2 .given .1))
+
+send-large-requires : tie.Need-send-large-requires
+send-large-requires c κs =
+    let at-told = c .before .before .before in
+    let at-size-of = at-told .before .before in
+    (passed (at-size-of .before), ap outputLength (sym (at-size-of .size-of .ensures) ∙ at-told .enum-told3 .given .1))
 
 pub send-spec : {M : Type 1} → statement M
 send-spec =
@@ -112,6 +122,7 @@ send-spec =
     (tie.spec (λ c κs. search needs) (λ c κs. search needs) (λ c. search needs) (λ c. search needs) (λ c. search needs) returns
     (λ c κs. search needs) (λ c. search needs) (λ c. search needs) (λ c. search needs) returns-2 (λ c κs. search needs)
     (λ c κs. search needs) (λ c. search needs) (λ c. search needs) (λ c. search needs) returns-3 is-refresh-requires (λ c κs. search needs)
-    (λ c κs. search needs) (λ c. search needs) (λ c. search needs) (λ c. search needs) returns-4 (λ c κs. search needs)
-    (λ c κs. search needs) array-borrow-prefix-scratch slice-aggregate-send-in send-in-requires (λ c. search needs) (λ c. search needs)
-    (λ c. search needs) (λ c. search needs))
+    (λ c κs. search needs) (λ c. search needs) (λ c. search needs) (λ c. search needs) returns-4 (λ c κs. search needs) (λ c. search needs)
+    send-small-requires (λ c. search needs) send-small-requires-2 (λ c. search needs) send-large-requires (λ c. search needs)
+    (λ c. search needs) (λ c. search needs) (λ c. search needs) (λ c. search needs) (λ c. search needs) (λ c. search needs)
+    (λ c. search needs) (λ c. search needs) (λ c. search needs) (λ c. search needs) (λ c. search needs))

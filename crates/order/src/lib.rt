@@ -1,0 +1,1 @@
+// Theorems alone: the order of a picture's refusals. Assumes nothing.
