@@ -85,6 +85,15 @@ fn say_pictures(pictures: u32) {
     io::write_all(STDERR_FILENO, &text[..count]);
 }
 
+// A picture that isn't recorded is cut.
+fn refused(before: Pack, why: Refusal) -> Pack {
+    let stream = before.stream;
+    say_refused(before.terminal, stream.offset, why);
+    let mut pack = before;
+    pack.cut = true;
+    pack
+}
+
 // The first blocks of `out`. It has room for all that the sender writes, so the tests never fail.
 fn put_blocks(blocks: usize, out: &[u8]) -> bool {
     if blocks <= 66 {
@@ -121,44 +130,65 @@ fn send(
             }
             pack
         }
-        Answer::Refused(why) => {
-            say_refused(pack.terminal, stream.offset, why);
-            pack.cut = true;
-            pack
-        }
+        Answer::Refused(why) => refused(pack, why),
     }
 }
 
-// A picture of `count` bits, the last one of them before `ones`: read, and its description sent.
-fn read(
-    before: Pack,
+// A picture of `count` bits, the last one of them before `ones`: read, and its description sent. The buffers that last as long as it are the format's own.
+fn finish_qcif(
+    pack: Pack,
     count: usize,
     ones: usize,
     picture: &[u8],
-    head: &mut [u8],
-    macroblocks: &mut [u8],
-    levels: &mut [u8],
-    out: &mut [u8],
     first: &mut [u8],
     second: &mut [u8],
 ) -> Pack {
-    let stream = before.stream;
-    let sender = before.sender;
-    let kind = sender.kind;
-    let format = coding::format_of(kind);
-    let verdict = stream::read(format, picture, count, ones, head, macroblocks, levels);
+    let mut head = [0u8; 6];
+    let mut macroblocks = [0u8; 396];
+    let mut levels = [0u8; 38016];
+    let mut out = [0u8; 8704];
+    let verdict = stream::read(
+        Format::Qcif,
+        picture,
+        count,
+        ones,
+        &mut head,
+        &mut macroblocks,
+        &mut levels,
+    );
     match verdict {
-        Verdict::Accepted => send(before, head, macroblocks, levels, out, first, second),
-        Verdict::Refused(why) => {
-            say_refused(before.terminal, stream.offset, why);
-            let mut pack = before;
-            pack.cut = true;
-            pack
-        }
+        Verdict::Accepted => send(pack, &head, &macroblocks, &levels, &mut out, first, second),
+        Verdict::Refused(why) => refused(pack, why),
     }
 }
 
-// The picture that ends here, in buffers that last as long as it.
+fn finish_cif(
+    pack: Pack,
+    count: usize,
+    ones: usize,
+    picture: &[u8],
+    first: &mut [u8],
+    second: &mut [u8],
+) -> Pack {
+    let mut head = [0u8; 15];
+    let mut macroblocks = [0u8; 1584];
+    let mut levels = [0u8; 152064];
+    let mut out = [0u8; 33792];
+    let verdict = stream::read(
+        Format::Cif,
+        picture,
+        count,
+        ones,
+        &mut head,
+        &mut macroblocks,
+        &mut levels,
+    );
+    match verdict {
+        Verdict::Accepted => send(pack, &head, &macroblocks, &levels, &mut out, first, second),
+        Verdict::Refused(why) => refused(pack, why),
+    }
+}
+
 fn finish(
     pack: Pack,
     count: usize,
@@ -169,26 +199,10 @@ fn finish(
 ) -> Pack {
     let sender = pack.sender;
     let kind = sender.kind;
-    let heads = coding::head_length(kind);
-    let fields = coding::macroblocks_length(kind);
-    let coefficients = coding::levels_length(kind);
-    let blocks = size::blocks_length(coding::size_of(kind));
-    let mut head = [0u8; 15];
-    let mut macroblocks = [0u8; 1584];
-    let mut levels = [0u8; 152064];
-    let mut out = [0u8; 33792];
-    read(
-        pack,
-        count,
-        ones,
-        picture,
-        &mut head[..heads],
-        &mut macroblocks[..fields],
-        &mut levels[..coefficients],
-        &mut out[..blocks],
-        first,
-        second,
-    )
+    match coding::format_of(kind) {
+        Format::Qcif => finish_qcif(pack, count, ones, picture, first, second),
+        Format::Cif => finish_cif(pack, count, ones, picture, first, second),
+    }
 }
 
 // How many bits the picture has where the next start code, of 20 bits, ends with the next bit.
