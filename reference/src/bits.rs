@@ -1,13 +1,15 @@
-//! Bits, most significant first: reading with a place, writing, and codebooks.
+//! Bits, most significant first: reading with a place and a list of reads, writing, and codebooks.
 
+use crate::reads::Read;
 use crate::refusal::Refusal;
 
-/// The lent bytes with the count of bits that are the picture, and the place of the next one.
-#[derive(Clone, Copy)]
+/// The lent bytes with the count of bits that are the picture, the place of the next one, and what was read
+/// before it.
 pub struct BitReader<'a> {
     bytes: &'a [u8],
     count: usize,
     place: usize,
+    reads: Vec<Read>,
 }
 
 impl<'a> BitReader<'a> {
@@ -22,11 +24,16 @@ impl<'a> BitReader<'a> {
             bytes,
             count,
             place,
+            reads: Vec::new(),
         }
     }
 
     pub fn place(&self) -> usize {
         self.place
+    }
+
+    pub fn into_reads(self) -> Vec<Read> {
+        self.reads
     }
 
     pub fn at_end(&self) -> bool {
@@ -42,22 +49,16 @@ impl<'a> BitReader<'a> {
         Some(usize::from(bit))
     }
 
-    /// "A field with too few bits left is 3, whatever they hold."
-    pub fn field(&mut self, width: usize) -> Result<u32, Refusal> {
-        if self.count - self.place < width {
-            return Err(Refusal::at(3, self.place));
-        }
+    /// The next so many bits as a number, where they are there.
+    fn row(&mut self, width: usize) -> Option<u32> {
         let mut value = 0;
-        for place in self.place..self.place + width {
-            value = 2 * value + u32::from(bit_of(self.bytes, place));
+        for _ in 0..width {
+            value = 2 * value + self.next_bit()? as u32;
         }
-        self.place += width;
-        Ok(value)
+        Some(value)
     }
 
-    /// "If the bits left are a proper beginning of one (no bits included), the refusal is 3; if no
-    /// codeword fits, 8."
-    pub fn codeword<T: Copy>(&mut self, book: &Codebook<T>) -> Result<T, Refusal> {
+    fn walk<T: Copy>(&mut self, book: &Codebook<T>) -> Result<T, Refusal> {
         let start = self.place;
         let mut node = 0;
         loop {
@@ -68,6 +69,52 @@ impl<'a> BitReader<'a> {
                 Branch::Meaning(meaning) => return Ok(meaning),
             }
         }
+    }
+
+    /// Whatever came of it, from its start on it is one read; where it failed the place stays.
+    fn note<T>(
+        &mut self,
+        start: usize,
+        table: u8,
+        outcome: Result<T, Refusal>,
+    ) -> Result<T, Refusal> {
+        if outcome.is_err() {
+            self.place = start;
+        }
+        self.reads.push(Read {
+            place: start,
+            width: self.place - start,
+            table,
+        });
+        outcome
+    }
+
+    /// "A field with too few bits left is 3, whatever they hold."
+    pub fn field(&mut self, width: usize) -> Result<u32, Refusal> {
+        let start = self.place;
+        let outcome = self.row(width).ok_or(Refusal::at(3, start));
+        self.note(start, 0, outcome)
+    }
+
+    /// "If the bits left are a proper beginning of one (no bits included), the refusal is 3; if no
+    /// codeword fits, 8."
+    pub fn codeword<T: Copy>(&mut self, book: &Codebook<T>) -> Result<T, Refusal> {
+        let (meaning, _) = self.tailed_codeword(book, |_| 0)?;
+        Ok(meaning)
+    }
+
+    /// The same, where a codeword has a tail of fixed width that belongs to it, as the escape has.
+    pub fn tailed_codeword<T: Copy>(
+        &mut self,
+        book: &Codebook<T>,
+        tail: impl Fn(T) -> usize,
+    ) -> Result<(T, u32), Refusal> {
+        let start = self.place;
+        let outcome = self.walk(book).and_then(|meaning| {
+            let value = self.row(tail(meaning)).ok_or(Refusal::at(3, start))?;
+            Ok((meaning, value))
+        });
+        self.note(start, book.table, outcome)
     }
 }
 

@@ -1,7 +1,7 @@
 //! A block of 512 bytes: its fields, its making, and the judgement 1, 21, 22.
 
 use crate::bits::{bit_of, Bits};
-use crate::format::Format;
+use crate::kind::{Size, Standard};
 use crate::refusal::Refusal;
 
 pub const BLOCK_LENGTH: usize = 512;
@@ -19,6 +19,8 @@ const ZERO_AT: usize = 509;
 const CHECK_FROM: usize = 510;
 const LAST_MARK: u8 = 1;
 const REFRESH_MARK: u8 = 2;
+/// "Marks bit 2 says H.263."
+const H263_MARK: u8 = 4;
 
 /// A place in a clip; compares by picture, then part.
 #[derive(Clone, Copy, PartialEq, Eq, PartialOrd, Ord, Debug)]
@@ -30,6 +32,7 @@ pub struct Position {
 /// The fields of a block that keeps the rules.
 #[derive(Clone, Debug, PartialEq, Eq)]
 pub struct Block {
+    pub standard: Standard,
     pub clip: u16,
     pub position: Position,
     pub is_last: bool,
@@ -62,15 +65,17 @@ impl Block {
         bytes[2..4].copy_from_slice(&rest);
         bytes[HIGH_AT] = high;
         bytes[4] = self.position.part;
-        bytes[5] = u8::from(self.is_last) * LAST_MARK + u8::from(self.is_refresh) * REFRESH_MARK;
+        bytes[5] = u8::from(self.is_last) * LAST_MARK
+            + u8::from(self.is_refresh) * REFRESH_MARK
+            + u8::from(self.standard == Standard::H263) * H263_MARK;
         bytes[6..8].copy_from_slice(&(self.bits_used as u16).to_be_bytes());
         bytes[PAYLOAD_FROM..PAYLOAD_TO].copy_from_slice(&self.payload);
         seal(&mut bytes);
         bytes
     }
 
-    /// The fields, or 1, 21 or 22.
-    pub fn judge(bytes: &[u8], format: Format) -> Result<Block, Refusal> {
+    /// The fields, or 1, 21 or 22. How many parts a picture may have is by its size alone.
+    pub fn judge(bytes: &[u8], size: impl Into<Size>) -> Result<Block, Refusal> {
         if bytes.len() != BLOCK_LENGTH {
             return Err(Refusal::plain(1));
         }
@@ -82,6 +87,11 @@ impl Block {
         let mut payload = [0; PAYLOAD_LENGTH];
         payload.copy_from_slice(&bytes[PAYLOAD_FROM..PAYLOAD_TO]);
         let block = Block {
+            standard: if marks & H263_MARK == 0 {
+                Standard::H261
+            } else {
+                Standard::H263
+            },
             clip: pair(0),
             position: Position {
                 picture: 65_536 * u32::from(bytes[HIGH_AT]) + u32::from(pair(2)),
@@ -92,19 +102,19 @@ impl Block {
             bits_used: usize::from(pair(6)),
             payload,
         };
-        let keeps_rules = marks <= (LAST_MARK | REFRESH_MARK)
+        let keeps_rules = marks <= (LAST_MARK | REFRESH_MARK | H263_MARK)
             && bytes[HIGH_AT] <= MOST_HIGH
             && bytes[ZERO_AT] == 0
-            && block.keeps_rules(format);
+            && block.keeps_rules(size.into());
         if !keeps_rules {
             return Err(Refusal::plain(22));
         }
         Ok(block)
     }
 
-    fn keeps_rules(&self, format: Format) -> bool {
+    fn keeps_rules(&self, size: Size) -> bool {
         self.clip != 0
-            && self.position.part <= format.last_part()
+            && self.position.part <= size.last_part()
             && (!self.is_refresh || self.position.part == 0)
             && (1..=PAYLOAD_BITS).contains(&self.bits_used)
             && (self.is_last || self.bits_used == PAYLOAD_BITS)
@@ -113,7 +123,13 @@ impl Block {
 }
 
 /// The blocks of a picture.
-pub fn blocks_of(clip: u16, picture: u32, is_refresh: bool, bits: &Bits) -> Vec<Block> {
+pub fn blocks_of(
+    standard: Standard,
+    clip: u16,
+    picture: u32,
+    is_refresh: bool,
+    bits: &Bits,
+) -> Vec<Block> {
     let parts = bits.bytes.chunks(PAYLOAD_LENGTH);
     let last = parts.len() - 1;
     parts
@@ -122,6 +138,7 @@ pub fn blocks_of(clip: u16, picture: u32, is_refresh: bool, bits: &Bits) -> Vec<
             let mut payload = [0; PAYLOAD_LENGTH];
             payload[..bytes.len()].copy_from_slice(bytes);
             Block {
+                standard,
                 clip,
                 position: Position {
                     picture,

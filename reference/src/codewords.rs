@@ -95,11 +95,15 @@ pub fn read_coefficient(
         Position::First => &TCOEFF_FIRST,
         Position::Later => &TCOEFF_LATER,
     };
-    match reader.codeword(book)? {
+    let rest_of = |meaning| match meaning {
+        Tabled::Escape => 14,
+        _ => 0,
+    };
+    let (meaning, rest) = reader.tailed_codeword(book, rest_of)?;
+    match meaning {
         Tabled::EndOfBlock => Ok(Coefficient::EndOfBlock),
         Tabled::Coefficient { run, level } => Ok(Coefficient::Pair { run, level }),
         Tabled::Escape => {
-            let rest = reader.field(14).map_err(|_| Refusal::at(3, start))?;
             let run = (rest >> 8) as u8;
             let level = rest as u8 as i8;
             if level == 0 || level == -128 {

@@ -1,10 +1,12 @@
-//! The vault lister: a line for each QCIF block, and the end.
+//! The vault lister: a line for each block, and the end. How much reading a vault causes (T-13): a line
+//! for each picture that was read, and the lister's end.
 
 use std::fmt;
 
 use crate::block::{Block, Position, BLOCK_LENGTH};
-use crate::format::Format;
-use crate::receiver::{Answer, Lent, Receiver, Stand};
+use crate::kind::{Kind, Size};
+use crate::receiver::{Answer, Lent, PictureRead, Receiver, Stand};
+use crate::refusal::Refusal;
 use crate::stores::Which;
 
 impl fmt::Display for Position {
@@ -35,9 +37,10 @@ impl fmt::Display for Stand {
     }
 }
 
-/// A receiver with its own buffers, opened at the first block without 21 or 22.
+/// A receiver with its own buffers, opened at the first block without 21 or 22, which names clip and
+/// standard.
 pub struct Vault {
-    format: Format,
+    size: Size,
     clip: Option<(u16, Receiver)>,
     pub collection: Vec<u8>,
     pub first: Vec<u8>,
@@ -45,24 +48,37 @@ pub struct Vault {
 }
 
 impl Vault {
-    pub fn new(format: Format) -> Vault {
+    pub fn new(size: impl Into<Size>) -> Vault {
+        let size = size.into();
+        // The two standards' buffers have the same lengths, and H.263 has every size.
+        let kind = Kind::from(size.of_h263());
         Vault {
-            format,
+            size,
             clip: None,
-            collection: vec![0; format.collection_length()],
-            first: vec![0; format.store_length()],
-            second: vec![0; format.store_length()],
+            collection: vec![0; kind.collection_length()],
+            first: vec![0; kind.store_length()],
+            second: vec![0; kind.store_length()],
         }
     }
 
+    /// The receiver of a block's clip; 5 where its standard hasn't the size.
+    fn opened(&self, block: &Block) -> Result<Receiver, Refusal> {
+        let kind = Kind::of(block.standard, self.size).ok_or(Refusal::at(5, 0))?;
+        Receiver::open(kind, block.clip)
+    }
+
     pub fn receive(&mut self, bytes: &[u8]) -> Answer {
+        let (answer, _) = self.receive_counting(bytes);
+        answer
+    }
+
+    pub fn receive_counting(&mut self, bytes: &[u8]) -> (Answer, Option<PictureRead>) {
         if self.clip.is_none() {
-            match Block::judge(bytes, self.format) {
-                Err(refusal) => return Answer::Refused(refusal),
-                Ok(block) => {
-                    let receiver = Receiver::open(self.format, block.clip);
-                    self.clip = Some((block.clip, receiver.expect("a clip that isn't 0")));
-                }
+            let opened = Block::judge(bytes, self.size)
+                .and_then(|block| Ok((block.clip, self.opened(&block)?)));
+            match opened {
+                Err(refusal) => return (Answer::Refused(refusal), None),
+                Ok(clip) => self.clip = Some(clip),
             }
         }
         let (_, receiver) = self.clip.as_mut().expect("an opened clip");
@@ -71,7 +87,7 @@ impl Vault {
             first: &mut self.first,
             second: &mut self.second,
         };
-        receiver.receive(bytes, &mut lent)
+        receiver.receive_counting(bytes, &mut lent)
     }
 
     /// The picture to show after an answer.
@@ -91,16 +107,40 @@ impl Vault {
     }
 }
 
-pub fn list(input: &[u8]) -> String {
-    let mut vault = Vault::new(Format::Qcif);
+pub fn list(size: impl Into<Size>, input: &[u8]) -> String {
+    lines(size.into(), input, |answer, _| Some(answer.to_string()))
+}
+
+/// "A line exactly where a last part was taken and read."
+pub fn reads(size: impl Into<Size>, input: &[u8]) -> String {
+    lines(size.into(), input, |answer, read| {
+        let PictureRead { bits, reads } = read?;
+        let answer = match answer {
+            Answer::Finished(picture, _) => format!("picture {picture}"),
+            other => other.to_string(),
+        };
+        Some(format!("{answer} bits {bits} reads {reads}"))
+    })
+}
+
+/// The blocks' lines with their numbers, a short last block, and the end.
+fn lines(
+    size: Size,
+    input: &[u8],
+    line: impl Fn(Answer, Option<PictureRead>) -> Option<String>,
+) -> String {
+    let mut vault = Vault::new(size);
     let mut text = String::new();
     for (number, bytes) in input.chunks(BLOCK_LENGTH).enumerate() {
-        let line = if bytes.len() < BLOCK_LENGTH {
-            "short".to_string()
+        let said = if bytes.len() < BLOCK_LENGTH {
+            Some("short".to_string())
         } else {
-            vault.receive(bytes).to_string()
+            let (answer, read) = vault.receive_counting(bytes);
+            line(answer, read)
         };
-        text.push_str(&format!("{number} {line}\n"));
+        if let Some(said) = said {
+            text.push_str(&format!("{number} {said}\n"));
+        }
     }
     text.push_str(&vault.end_line());
     text.push('\n');

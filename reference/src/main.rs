@@ -3,28 +3,32 @@
 use std::io::{self, Read, Write};
 use std::process::ExitCode;
 
-use reference::format::Format;
-use reference::h263;
+use reference::kind::{Kind, Size};
 
 mod commands;
 
 use commands::streams::Frames;
 
 const USAGE: &str = "usage:
-  reference words|blocks|render|pictures|write|send|deliver|lists|packs|captures|replays SEED COUNT FOLDER
-  reference h263-words|h263-render|h263-pictures|h263-write|h263-streams SEED COUNT FOLDER
+  reference words|blocks|render|pictures|write|send|deliver|lists|packs|salvages|captures|replays SEED COUNT FOLDER
+  reference h263-words|h263-render|h263-pictures|h263-write|h263-send|h263-deliver SEED COUNT FOLDER
+  reference h263-lists|h263-packs|h263-salvages|h263-streams SEED COUNT FOLDER
   reference due
   reference ticks > RECORDS
   reference annex-a > COEFFICIENTS
   reference annex-a-figures < OUTPUTS
   reference delivered < SESSIONS
-  reference list < BLOCKS
-  reference frames qcif|cif [timed] < BLOCKS > YUV4MPEG2
+  reference before-h263 < BLOCKS > BLOCKS
+  reference list [sqcif|qcif|cif] < BLOCKS
+  reference reads sqcif|qcif|cif < BLOCKS
+  reference frames sqcif|qcif|cif [timed] < BLOCKS > YUV4MPEG2
+  reference salvage KIND OLD NEW LIST > BLOCKS
   reference record < STREAM > CAPTURE
   reference replay < CAPTURE > STREAM
-  reference pack qcif|cif CLIP < RAW > BLOCKS
-  reference decode qcif|cif|h263-sqcif|h263-qcif|h263-cif < RAW > SAMPLES
-  reference compare qcif|cif|h263-sqcif|h263-qcif|h263-cif RAW SAMPLES";
+  reference pack KIND CLIP < RAW > BLOCKS
+  reference decode KIND < RAW > SAMPLES
+  reference compare KIND RAW SAMPLES
+KIND is qcif or cif for H.261, h263-sqcif, h263-qcif or h263-cif for H.263";
 
 /// What went wrong, in words for standard error.
 type Outcome = Result<(), String>;
@@ -54,20 +58,33 @@ fn run(arguments: &[&str]) -> Outcome {
             let expected = commands::deliver::expected(&input()?);
             output(&expected.ok_or("sessions that end inside a call")?)
         }
-        ["list"] => output(reference::lister::list(&input()?).as_bytes()),
-        ["frames", format] => {
-            let frames = commands::streams::frames(named(format)?, &input()?, Frames::Each);
+        ["before-h263"] => output(&commands::before::h263(&input()?)),
+        ["list"] => output(reference::lister::list(Size::Qcif, &input()?).as_bytes()),
+        ["list", size] => output(reference::lister::list(sized(size)?, &input()?).as_bytes()),
+        ["reads", size] => {
+            let lines = reference::lister::reads(sized(size)?, &input()?);
+            output(lines.as_bytes())
+        }
+        ["frames", size] => {
+            let frames = commands::streams::frames(sized(size)?, &input()?, Frames::Each);
             output(&frames)
         }
-        ["frames", format, "timed"] => {
-            let frames = commands::streams::frames(named(format)?, &input()?, Frames::Timed);
+        ["frames", size, "timed"] => {
+            let frames = commands::streams::frames(sized(size)?, &input()?, Frames::Timed);
             output(&frames)
         }
-        ["pack", format, clip] => {
+        ["pack", kind, clip] => {
             let clip = clip.parse().map_err(|_| USAGE)?;
-            let packed = commands::streams::pack(named(format)?, clip, &input()?)?;
+            let packed = commands::streams::pack(named(kind)?, clip, &input()?)?;
             eprint!("{}", packed.errors);
             output(&packed.blocks)
+        }
+        ["salvage", kind, old, new, list] => {
+            let number = |word: &str| word.parse().map_err(|_| USAGE);
+            let (old, new) = (number(old)?, number(new)?);
+            let written = commands::salvages::written(named(kind)?, old, new, &file(list)?);
+            eprint!("{}", written.log);
+            output(&written.blocks)
         }
         ["record"] => output(&commands::captures::recorded(&input()?)),
         ["replay"] => {
@@ -75,15 +92,15 @@ fn run(arguments: &[&str]) -> Outcome {
             eprint!("{}", replayed.errors);
             output(&replayed.stream)
         }
-        ["decode", format] => output(&match of_h263(format) {
-            Some(format) => commands::h263::streams::decode(format, &input()?),
-            None => commands::streams::decode(named(format)?, &input()?),
+        ["decode", kind] => output(&match named(kind)? {
+            Kind::H261(format) => commands::streams::decode(format, &input()?),
+            Kind::H263(format) => commands::h263::streams::decode(format, &input()?),
         }),
-        ["compare", format, raw, samples] => {
+        ["compare", kind, raw, samples] => {
             let (raw, samples) = (file(raw)?, file(samples)?);
-            let text = match of_h263(format) {
-                Some(format) => commands::h263::streams::compare(format, &raw, &samples)?,
-                None => commands::streams::compare(named(format)?, &raw, &samples)?,
+            let text = match named(kind)? {
+                Kind::H261(format) => commands::streams::compare(format, &raw, &samples)?,
+                Kind::H263(format) => commands::h263::streams::compare(format, &raw, &samples)?,
             };
             output(text.as_bytes())
         }
@@ -102,12 +119,12 @@ fn run(arguments: &[&str]) -> Outcome {
     }
 }
 
-fn of_h263(format: &str) -> Option<h263::format::Format> {
-    h263::format::Format::from_name(format)
+fn named(kind: &str) -> Result<Kind, String> {
+    Kind::from_name(kind).ok_or_else(|| USAGE.to_string())
 }
 
-fn named(format: &str) -> Result<Format, String> {
-    Format::from_name(format).ok_or_else(|| USAGE.to_string())
+fn sized(size: &str) -> Result<Size, String> {
+    Size::from_name(size).ok_or_else(|| USAGE.to_string())
 }
 
 fn input() -> Result<Vec<u8>, String> {

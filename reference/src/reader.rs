@@ -1,27 +1,49 @@
-//! The reader: N bits to a description, or the first refusal that the rules meet.
+//! The reader: N bits to a description, or the first refusal that the rules meet, and the list of reads.
 
 use crate::bits::BitReader;
 use crate::codewords::{self, Coefficient, Position};
 use crate::description::{self, Description, Macroblock, Vector};
 use crate::format::{Format, MACROBLOCKS_PER_GROUP, MACROBLOCKS_PER_ROW};
+use crate::reads::Read;
 use crate::refusal::Refusal;
 use crate::tables::{START_CODE, STUFFING};
 
 const PICTURE_START_CODE: u32 = 0x00010;
 const GROUP_START_CODE: u32 = 0x0001;
 
+/// What comes of the bits, and the reads up to there.
+pub struct Reading {
+    pub answer: Result<Description, Refusal>,
+    pub reads: Vec<Read>,
+}
+
 /// Reads the picture that is exactly the first `count` bits.
-pub fn read(bytes: &[u8], count: usize, opened: Format) -> Result<Description, Refusal> {
+pub fn read_listed(bytes: &[u8], count: usize, opened: Format) -> Reading {
     if count > 8 * bytes.len() || count > opened.bit_limit() {
-        return Err(Refusal::plain(2));
+        return Reading {
+            answer: Err(Refusal::plain(2)),
+            reads: Vec::new(),
+        };
     }
     let mut reader = BitReader::new(bytes, count);
+    let answer = read_picture(&mut reader, opened);
+    Reading {
+        answer,
+        reads: reader.into_reads(),
+    }
+}
+
+pub fn read(bytes: &[u8], count: usize, opened: Format) -> Result<Description, Refusal> {
+    read_listed(bytes, count, opened).answer
+}
+
+fn read_picture(reader: &mut BitReader, opened: Format) -> Result<Description, Refusal> {
     let mut description = Description::empty(opened);
-    read_picture_header(&mut reader, opened, &mut description)?;
-    expect_start_code(&mut reader, 16, GROUP_START_CODE)?;
+    read_picture_header(reader, opened, &mut description)?;
+    expect_start_code(reader, 16, GROUP_START_CODE)?;
     let groups = opened.groups();
     for (index, &number) in groups.iter().enumerate() {
-        let quantiser = read_group_header(&mut reader, number)?;
+        let quantiser = read_group_header(reader, number)?;
         description.group_quantisers[index] = quantiser;
         let from = index * MACROBLOCKS_PER_GROUP;
         let group = GroupReader {
@@ -30,7 +52,7 @@ pub fn read(bytes: &[u8], count: usize, opened: Format) -> Result<Description, R
             is_last: index + 1 == groups.len(),
         };
         let macroblocks = &mut description.macroblocks[from..from + MACROBLOCKS_PER_GROUP];
-        group.read_macroblocks(&mut reader, macroblocks)?;
+        group.read_macroblocks(reader, macroblocks)?;
     }
     Ok(description)
 }

@@ -1,9 +1,8 @@
 //! The receiver: blocks in any order to pictures in step.
 
 use crate::block::{Block, Position, PAYLOAD_BITS, PAYLOAD_LENGTH};
-use crate::format::Format;
-use crate::reader::read;
-use crate::reconstruction::reconstruct;
+use crate::coding::{read_listed, Picture};
+use crate::kind::Kind;
 use crate::refusal::Refusal;
 use crate::stores::Which;
 use crate::ticks::{Finished, Tick};
@@ -17,7 +16,7 @@ pub enum Stand {
 
 #[derive(Clone, Copy, PartialEq, Eq, Debug)]
 pub struct Receiver {
-    format: Format,
+    kind: Kind,
     clip: u16,
     /// The part after the last and the picture after the last can be wanted, but never come.
     wanted: Position,
@@ -39,6 +38,13 @@ pub enum Answer {
     Refused(Refusal),
 }
 
+/// A picture whose last part was taken: its bits, and how many reads they took (T-13).
+#[derive(Clone, Copy, PartialEq, Eq, Debug)]
+pub struct PictureRead {
+    pub bits: usize,
+    pub reads: usize,
+}
+
 /// The three lent buffers.
 pub struct Lent<'a> {
     pub collection: &'a mut [u8],
@@ -48,12 +54,12 @@ pub struct Lent<'a> {
 
 impl Receiver {
     /// Clip 0 is refused by 22.
-    pub fn open(format: Format, clip: u16) -> Result<Receiver, Refusal> {
+    pub fn open(kind: impl Into<Kind>, clip: u16) -> Result<Receiver, Refusal> {
         if clip == 0 {
             return Err(Refusal::plain(22));
         }
         Ok(Receiver {
-            format,
+            kind: kind.into(),
             clip,
             wanted: Position {
                 picture: 0,
@@ -71,24 +77,28 @@ impl Receiver {
     }
 
     fn lengths_are_right(&self, lent: &Lent) -> bool {
-        lent.collection.len() == self.format.collection_length()
-            && lent.first.len() == self.format.store_length()
-            && lent.second.len() == self.format.store_length()
+        lent.collection.len() == self.kind.collection_length()
+            && lent.first.len() == self.kind.store_length()
+            && lent.second.len() == self.kind.store_length()
     }
 
     pub fn receive(&mut self, bytes: &[u8], lent: &mut Lent) -> Answer {
-        if !self.lengths_are_right(lent) {
-            return Answer::Refused(Refusal::plain(1));
-        }
-        let block = match Block::judge(bytes, self.format) {
+        let (answer, _) = self.receive_counting(bytes, lent);
+        answer
+    }
+
+    /// The answer, and what was read where a last part was taken.
+    pub fn receive_counting(
+        &mut self,
+        bytes: &[u8],
+        lent: &mut Lent,
+    ) -> (Answer, Option<PictureRead>) {
+        let block = match self.judge(bytes, lent) {
             Ok(block) => block,
-            Err(refusal) => return Answer::Refused(refusal),
+            Err(refusal) => return (Answer::Refused(refusal), None),
         };
-        if block.clip != self.clip {
-            return Answer::Refused(Refusal::plain(23));
-        }
         if block.position < self.wanted {
-            Answer::Old(block.position)
+            (Answer::Old(block.position), None)
         } else if block.position == self.wanted && self.stand != Stand::Lost {
             self.take(&block, lent)
         } else if block.position.part == 0 && block.is_refresh {
@@ -96,11 +106,26 @@ impl Receiver {
             self.take(&block, lent)
         } else {
             self.stand = Stand::Lost;
-            Answer::Lost
+            (Answer::Lost, None)
         }
     }
 
-    fn take(&mut self, block: &Block, lent: &mut Lent) -> Answer {
+    /// "Blocks: 1, 21, 22, 23", and then "5, place 0 and after 23, for a block of the other standard".
+    fn judge(&self, bytes: &[u8], lent: &Lent) -> Result<Block, Refusal> {
+        if !self.lengths_are_right(lent) {
+            return Err(Refusal::plain(1));
+        }
+        let block = Block::judge(bytes, self.kind)?;
+        if block.clip != self.clip {
+            return Err(Refusal::plain(23));
+        }
+        if block.standard != self.kind.standard() {
+            return Err(Refusal::at(5, 0));
+        }
+        Ok(block)
+    }
+
+    fn take(&mut self, block: &Block, lent: &mut Lent) -> (Answer, Option<PictureRead>) {
         let Position { picture, part } = block.position;
         let from = PAYLOAD_LENGTH * usize::from(part);
         lent.collection[from..from + PAYLOAD_LENGTH].copy_from_slice(&block.payload);
@@ -112,16 +137,19 @@ impl Receiver {
                 picture,
                 part: part + 1,
             };
-            return Answer::Taken(block.position);
+            return (Answer::Taken(block.position), None);
         }
         self.wanted = Position {
             picture: picture + 1,
             part: 0,
         };
-        let count = PAYLOAD_BITS * usize::from(part) + block.bits_used;
-        match self.finish(count, lent) {
+        let bits = PAYLOAD_BITS * usize::from(part) + block.bits_used;
+        let reading = read_listed(lent.collection, bits, self.kind);
+        let reads = reading.reads.len();
+        let answer = match self.finish(reading.answer, lent) {
             Ok(temporal_reference) => {
-                let finished = Finished::after(self.last, picture, temporal_reference);
+                let modulus = self.kind.tick_modulus();
+                let finished = Finished::after(self.last, picture, temporal_reference, modulus);
                 self.stand = Stand::InStep(picture);
                 self.last = Some(finished);
                 Answer::Finished(picture, finished.tick)
@@ -130,22 +158,23 @@ impl Receiver {
                 self.stand = Stand::Lost;
                 Answer::Refused(refusal)
             }
-        }
+        };
+        (answer, Some(PictureRead { bits, reads }))
     }
 
     /// The picture's TR. 24 is judged after acceptance and before any sample is written.
-    fn finish(&mut self, count: usize, lent: &mut Lent) -> Result<u8, Refusal> {
-        let description = read(lent.collection, count, self.format)?;
-        if description.is_refresh() != self.refresh_mark {
+    fn finish(&mut self, answer: Result<Picture, Refusal>, lent: &mut Lent) -> Result<u8, Refusal> {
+        let picture = answer?;
+        if picture.is_refresh() != self.refresh_mark {
             return Err(Refusal::plain(24));
         }
         let (store, reference) = match self.into {
             Which::First => (&mut *lent.first, &*lent.second),
             Which::Second => (&mut *lent.second, &*lent.first),
         };
-        store.copy_from_slice(&reconstruct(&description, reference));
+        store.copy_from_slice(&picture.reconstruct(reference));
         self.into = self.into.other();
-        Ok(description.temporal_reference)
+        Ok(picture.temporal_reference())
     }
 
     /// The store that holds the picture to show, after the given answer; none where an empty part is

@@ -1,16 +1,14 @@
 //! The sender: descriptions to blocks, keeping the store that a receiver in step has.
 
 use crate::block::{blocks_of, BLOCK_LENGTH, PICTURES};
-use crate::description::Description;
-use crate::format::Format;
-use crate::reconstruction::reconstruct;
+use crate::coding::Picture;
+use crate::kind::Kind;
 use crate::refusal::Refusal;
 use crate::stores::Which;
-use crate::writer::write_picture;
 
 #[derive(Clone, Copy, PartialEq, Eq, Debug)]
 pub struct Sender {
-    format: Format,
+    kind: Kind,
     clip: u16,
     /// The number of the next picture.
     next: u32,
@@ -27,12 +25,12 @@ pub struct Sent {
 
 impl Sender {
     /// Clip 0 is refused by 22.
-    pub fn open(format: Format, clip: u16) -> Result<Sender, Refusal> {
+    pub fn open(kind: impl Into<Kind>, clip: u16) -> Result<Sender, Refusal> {
         if clip == 0 {
             return Err(Refusal::plain(22));
         }
         Ok(Sender {
-            format,
+            kind: kind.into(),
             clip,
             next: 0,
             into: Which::First,
@@ -47,31 +45,32 @@ impl Sender {
     /// Refusals in the order 1, 34, 31, 33, 32; then nothing changes.
     pub fn send(
         &mut self,
-        (head, macroblocks, levels): (&[u8], &[u8], &[u8]),
+        slices: (&[u8], &[u8], &[u8]),
         first: &mut [u8],
         second: &mut [u8],
         out: &mut [u8],
     ) -> Result<Sent, Refusal> {
-        let description = Description::from_slices(head, macroblocks, levels)?;
-        let store_length = self.format.store_length();
+        let picture = Picture::from_slices(self.kind.standard(), slices)?;
+        let store_length = self.kind.store_length();
         if first.len() != store_length
             || second.len() != store_length
-            || out.len() != self.format.sent_length()
+            || out.len() != self.kind.sent_length()
         {
             return Err(Refusal::plain(1));
         }
         if self.next >= PICTURES {
             return Err(Refusal::plain(34));
         }
-        if !description.is_valid(self.format) {
+        if !picture.is_valid(self.kind) {
             return Err(Refusal::plain(31));
         }
-        let is_refresh = description.is_refresh();
+        let is_refresh = picture.is_refresh();
         if self.next == 0 && !is_refresh {
             return Err(Refusal::plain(33));
         }
-        let bits = write_picture(&description, self.format)?;
-        let blocks = blocks_of(self.clip, self.next, is_refresh, &bits);
+        let bits = picture.write(self.kind)?;
+        let standard = self.kind.standard();
+        let blocks = blocks_of(standard, self.clip, self.next, is_refresh, &bits);
         for (room, block) in out.chunks_mut(BLOCK_LENGTH).zip(&blocks) {
             room.copy_from_slice(&block.to_bytes());
         }
@@ -79,7 +78,7 @@ impl Sender {
             Which::First => (first, second),
             Which::Second => (second, first),
         };
-        store.copy_from_slice(&reconstruct(&description, reference));
+        store.copy_from_slice(&picture.reconstruct(reference));
         let sent = Sent {
             picture: self.next,
             blocks: blocks.len(),

@@ -2,9 +2,6 @@
 
 use std::fmt;
 
-/// TR counts modulo 32.
-const MODULUS: u32 = 32;
-
 /// What is exact, or estimated.
 #[derive(Clone, Copy, PartialEq, Eq, Debug)]
 pub enum Known<T> {
@@ -59,17 +56,19 @@ impl Finished {
     /// "Each next consecutive one adds the TR difference modulo 32, where 0 counts as 32. Where numbers
     /// were skipped the tick is the least one above the last finished picture's with the new TR (modulo
     /// 32), and it and all later ticks are estimated."
-    fn next(self, picture: u32, temporal_reference: u8) -> Finished {
+    ///
+    /// 32 is H.261's modulus, 256 is H.263's.
+    fn next(self, picture: u32, temporal_reference: u8, modulus: u32) -> Finished {
         let number = if picture == self.picture + 1 {
-            let ahead = u32::from(temporal_reference) + MODULUS;
-            match (ahead - u32::from(self.temporal_reference)) % MODULUS {
-                0 => self.tick.number() + MODULUS,
+            let ahead = u32::from(temporal_reference) + modulus;
+            match (ahead - u32::from(self.temporal_reference)) % modulus {
+                0 => self.tick.number() + modulus,
                 difference => self.tick.number() + difference,
             }
         } else {
             (self.tick.number() + 1..)
-                .find(|tick| tick % MODULUS == u32::from(temporal_reference))
-                .expect("one of the next 32 has this TR")
+                .find(|tick| tick % modulus == u32::from(temporal_reference))
+                .expect("one of the next ticks has this TR")
         };
         Finished {
             picture,
@@ -82,10 +81,15 @@ impl Finished {
     }
 
     /// A picture is finished after the last one, if there is one.
-    pub fn after(last: Option<Finished>, picture: u32, temporal_reference: u8) -> Finished {
+    pub fn after(
+        last: Option<Finished>,
+        picture: u32,
+        temporal_reference: u8,
+        modulus: u32,
+    ) -> Finished {
         match last {
             None => Finished::first(picture, temporal_reference),
-            Some(last) => last.next(picture, temporal_reference),
+            Some(last) => last.next(picture, temporal_reference, modulus),
         }
     }
 }

@@ -1,10 +1,12 @@
-//! Demand 3 on random deliveries, and the receiver's refusals.
+//! Demand 3 on random deliveries of both standards, and the receiver's refusals.
 
 use reference::bits::Bits;
 use reference::block::{blocks_of, seal, Block, Position, PICTURES};
+use reference::clips::{self, Honesty};
 use reference::description::Description;
 use reference::format::Format;
-use reference::maker::{self, Honesty, Style};
+use reference::kind::{Kind, Standard};
+use reference::maker::{self, Style};
 use reference::random::Random;
 use reference::receiver::{Answer, Lent, Receiver, Stand};
 use reference::refusal::Refusal;
@@ -19,14 +21,12 @@ struct Bench {
 }
 
 impl Bench {
-    fn new(format: Format, clip: u16) -> Bench {
+    fn new(kind: impl Into<Kind>, clip: u16) -> Bench {
+        let kind = kind.into();
         Bench {
-            receiver: Receiver::open(format, clip).unwrap(),
-            collection: vec![5; format.collection_length()],
-            stores: [
-                vec![6; format.store_length()],
-                vec![7; format.store_length()],
-            ],
+            receiver: Receiver::open(kind, clip).unwrap(),
+            collection: vec![5; kind.collection_length()],
+            stores: [vec![6; kind.store_length()], vec![7; kind.store_length()]],
         }
     }
 
@@ -54,17 +54,23 @@ fn in_step_shows_what_the_sender_has() {
     let mut random = Random::new(11);
     let mut finished = 0;
     let mut lost = 0;
-    for session in 0..60 {
-        let format = if session % 4 == 0 {
-            Format::Cif
-        } else {
-            Format::Qcif
-        };
-        let first = maker::first_number(&mut random, 12);
-        let sent = maker::clip(&mut random, format, 7, first, 12);
-        let blocks: Vec<_> = sent.iter().flat_map(|one| one.blocks.clone()).collect();
-        let mut bench = Bench::new(format, 7);
-        for block in maker::delivery(&mut random, format, &blocks, Honesty::Honest) {
+    let mut of_other_standard = 0;
+    for session in 0..90 {
+        // H.263's sub-QCIF and the two QCIFs more often than CIF.
+        let kind = Kind::ALL[[0, 2, 3, 0, 2, 3, 1, 0, 3, 4][session % 10]];
+        let first = clips::first_number(&mut random, 12);
+        let sent = clips::clip(&mut random, kind, 7, first, 12);
+        let mut blocks: Vec<_> = sent.iter().flat_map(|one| one.blocks.clone()).collect();
+        let mut bench = Bench::new(kind, 7);
+        if session % 3 == 0 {
+            // Each block of the other standard too, which changes nothing.
+            let other = |block: &[u8; 512]| clips::other_standards(block).try_into().unwrap();
+            blocks = blocks
+                .iter()
+                .flat_map(|block| [other(block), *block])
+                .collect();
+        }
+        for block in clips::delivery(&mut random, kind, &blocks, Honesty::Honest) {
             let answer = bench.receive(&block);
             match bench.receiver.stand() {
                 Stand::InStep(k) => {
@@ -75,9 +81,11 @@ fn in_step_shows_what_the_sender_has() {
             }
             finished += usize::from(matches!(answer, Answer::Finished(..)));
             lost += usize::from(answer == Answer::Lost);
+            of_other_standard += usize::from(answer == Answer::Refused(Refusal::at(5, 0)));
         }
     }
-    assert!(finished > 100 && lost > 20, "{finished} {lost}");
+    assert!(finished > 150 && lost > 30, "{finished} {lost}");
+    assert!(of_other_standard > 300, "{of_other_standard}");
 }
 
 /// All blocks in order, with older ones between: every picture is finished.
@@ -85,7 +93,7 @@ fn in_step_shows_what_the_sender_has() {
 fn older_blocks_between_do_no_harm() {
     let mut random = Random::new(12);
     let first = PICTURES - 10;
-    let sent = maker::clip(&mut random, Format::Qcif, 1, first, 10);
+    let sent = clips::clip(&mut random, Format::Qcif, 1, first, 10);
     let mut bench = Bench::new(Format::Qcif, 1);
     let mut earlier: Vec<Vec<u8>> = Vec::new();
     for (number, one) in (first..).zip(&sent) {
@@ -112,7 +120,7 @@ fn refresh_bits() -> Bits {
 }
 
 fn send(bench: &mut Bench, picture: u32, mark: bool, bits: &Bits) -> Vec<Answer> {
-    blocks_of(7, picture, mark, bits)
+    blocks_of(Standard::H261, 7, picture, mark, bits)
         .iter()
         .map(|block| bench.receive(&block.to_bytes()))
         .collect()
@@ -158,6 +166,7 @@ fn more_parts_than_the_limit() {
         let mut answer = Answer::Lost;
         for part in 0..=16 {
             let block = Block {
+                standard: Standard::H261,
                 clip: 7,
                 position: Position { picture: 0, part },
                 is_last: is_last && part == 16,
@@ -198,8 +207,8 @@ fn wrong_lengths_are_1_and_show_nothing() {
 #[test]
 fn each_rule_of_a_block() {
     let bits = refresh_bits();
-    let good = blocks_of(7, 0, true, &bits)[0].to_bytes();
-    let last = blocks_of(7, PICTURES - 1, false, &empty_bits())[0].to_bytes();
+    let good = blocks_of(Standard::H261, 7, 0, true, &bits)[0].to_bytes();
+    let last = blocks_of(Standard::H261, 7, PICTURES - 1, false, &empty_bits())[0].to_bytes();
     assert!(Block::judge(&good, Format::Qcif).is_ok());
     assert!(Block::judge(&last, Format::Qcif).is_ok());
     let changed = |block: &[u8; 512], at: usize, byte: u8| {
@@ -217,7 +226,9 @@ fn each_rule_of_a_block() {
     assert_eq!(changed(&good, 508, 255), against_rule);
     assert_eq!(changed(&last, 4, 16), None);
     assert_eq!(changed(&last, 4, 17), against_rule);
-    assert_eq!(changed(&good, 5, 6), against_rule);
+    assert_eq!(changed(&good, 5, 6), None); // H.263
+    assert_eq!(changed(&last, 5, 7), None);
+    assert_eq!(changed(&last, 5, 8), against_rule);
     assert_eq!(changed(&good, 5, 0x82), against_rule);
     assert_eq!(changed(&good, 4, 1), against_rule); // refresh at part 1
     assert_eq!(changed(&good, 7, 0), against_rule); // 3840 bits, not last
@@ -244,7 +255,7 @@ fn a_number_is_a_high_byte_and_two_others() {
         (1_048_575, [255, 255, 15]),
     ];
     for (number, [two, three, high]) in numbers {
-        let bytes = blocks_of(7, number, false, &empty_bits())[0].to_bytes();
+        let bytes = blocks_of(Standard::H261, 7, number, false, &empty_bits())[0].to_bytes();
         assert_eq!(
             [bytes[2], bytes[3], bytes[508], bytes[509]],
             [two, three, high, 0]

@@ -4,6 +4,7 @@ use reference::bits::Bits;
 use reference::block::blocks_of;
 use reference::description::{Description, Vector, INTRA};
 use reference::format::Format;
+use reference::kind::Standard;
 use reference::lister::list;
 use reference::random::Random;
 use reference::reader::{landing, read};
@@ -116,38 +117,38 @@ fn two_part_picture() -> Bits {
 
 #[test]
 fn the_lister_example() {
-    let blocks: Vec<_> = blocks_of(7, 0, true, &two_part_picture())
+    let blocks: Vec<_> = blocks_of(Standard::H261, 7, 0, true, &two_part_picture())
         .iter()
         .map(|block| block.to_bytes())
         .collect();
     let input = [blocks[0], blocks[1], blocks[0]].concat();
     let text = "0 taken 0.0\n1 picture 0 tick 0\n2 old 0.0\nend clip 7 in step at 0\n";
-    assert_eq!(list(&input), text);
+    assert_eq!(list(Format::Qcif, &input), text);
 }
 
 #[test]
 fn the_listers_other_lines() {
-    let blocks: Vec<_> = blocks_of(7, 0, true, &two_part_picture())
+    let blocks: Vec<_> = blocks_of(Standard::H261, 7, 0, true, &two_part_picture())
         .iter()
         .map(|block| block.to_bytes())
         .collect();
-    assert_eq!(list(&[]), "end none\n");
-    assert_eq!(list(&[1]), "0 short\nend none\n");
+    assert_eq!(list(Format::Qcif, &[]), "end none\n");
+    assert_eq!(list(Format::Qcif, &[1]), "0 short\nend none\n");
     // All zeros have the right sum, but clip 0.
-    assert_eq!(list(&[0; 512]), "0 refused 22\nend none\n");
+    assert_eq!(list(Format::Qcif, &[0; 512]), "0 refused 22\nend none\n");
     let mut bad = blocks[0];
     bad[300] ^= 1;
     let mut input = bad.to_vec();
     input.extend(blocks[0]);
     input.extend([0; 5]);
     let text = "0 refused 21\n1 taken 0.0\n2 short\nend clip 7 catching\n";
-    assert_eq!(list(&input), text);
-    assert_eq!(list(&blocks[1]), "0 lost\nend clip 7 lost\n");
+    assert_eq!(list(Format::Qcif, &input), text);
+    assert_eq!(list(Format::Qcif, &blocks[1]), "0 lost\nend clip 7 lost\n");
     let mut other = reference::block::Block::judge(&blocks[0], Format::Qcif).unwrap();
     other.clip = 8;
     let input = [blocks[0], other.to_bytes()].concat();
     assert_eq!(
-        list(&input),
+        list(Format::Qcif, &input),
         "0 taken 0.0\n1 refused 23\nend clip 7 catching\n"
     );
 }

@@ -4,6 +4,7 @@ use reference::bits::Bits;
 use reference::block::blocks_of;
 use reference::description::{Description, INTRA};
 use reference::format::Format;
+use reference::kind::Standard;
 use reference::lister::list;
 use reference::writer::write_picture;
 
@@ -34,7 +35,7 @@ fn part((picture, is_refresh, temporal_reference): (u32, bool, u8), part: usize)
     } else {
         empty(temporal_reference)
     };
-    blocks_of(7, picture, is_refresh, &bits)[part]
+    blocks_of(Standard::H261, 7, picture, is_refresh, &bits)[part]
         .to_bytes()
         .to_vec()
 }
@@ -48,7 +49,7 @@ fn of_the_clip(picture: u32, at: usize) -> Vec<u8> {
 
 /// The lines of finished pictures, from "picture" on.
 fn finished(blocks: &[Vec<u8>]) -> Vec<String> {
-    let text = list(&blocks.concat());
+    let text = list(Format::Qcif, &blocks.concat());
     text.lines()
         .filter_map(|line| line.find("picture").map(|at| line[at..].to_string()))
         .collect()
@@ -141,7 +142,9 @@ fn a_first_picture_that_is_not_picture_0_is_estimated() {
 /// Picture 1 is refused by 24: picture 2 is counted from picture 0's tick.
 #[test]
 fn a_refused_picture_counts_for_nothing() {
-    let untrue = blocks_of(7, 1, true, &empty(20))[0].to_bytes().to_vec();
+    let untrue = blocks_of(Standard::H261, 7, 1, true, &empty(20))[0]
+        .to_bytes()
+        .to_vec();
     let mut blocks = vec![of_the_clip(0, 0), of_the_clip(0, 1), untrue];
     blocks.extend([part((2, true, 31), 0), part((2, true, 31), 1)]);
     let ticks = finished(&blocks);

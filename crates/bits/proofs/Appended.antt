@@ -6,12 +6,12 @@ use Prim.Native.Nat.{ℕ, _+_, _-_, _*_, _/_, _%_, _^_, _≤_, _<_}
 use native.Mathlib.Nat.{add-zero, add-assoc, mod-lt, min-le-left}
 use native.Mathlib.Omega.{arith}
 use borrow.Author.Tests.{ltb-true, ltb-false}
-use lib.Dec.{ltb}
+use lib.Dec.{T, leb, ltb, leb→le, ltb→lt}
 use lib.Pow.{split, pow-pos, shr-lt}
 use lib.ListN.{length, take, length-append, length-take}
 use lib.Seq.{take-all, take-at, take-append-le, take-append-add}
 use Rattle.bits.specs.Bits.{Bit, bitsOf}
-use Rattle.bits.specs.Write.{bytesWith}
+use Rattle.bits.specs.Write.{bytesWith, bitsIf}
 use Rattle.bits.specs.Appended.{FieldFits, appendedBits, bitsWithRoom, WroteBits, CountablePlace}
 use Rattle.bits.proofs.Numbers.{bitsOf-append}
 use Rattle.bits.proofs.Fields.{length-bitsOf}
@@ -135,10 +135,31 @@ module _ {at : ℕ} {a b c d e f : List Bit} {rest : List (List Bit)} (n : Count
     pub sixth-part : CountablePlace p₅ f
     sixth-part = fifth-part (then-parts n h₁) h₂ h₃ h₄ h₅
 
+module _ {at : ℕ} {a b c d e f g : List Bit} {rest : List (List Bit)} (n : CountableParts at (a ∷ b ∷ c ∷ d ∷ e ∷ f ∷ g ∷ rest)) {s t₁ t₂ t₃ t₄ t₅ t₆ : List ℕ} {p₁ p₂ p₃ p₄ p₅ p₆ : ℕ}
+    (h₁ : WroteBits a s at t₁ p₁) (h₂ : WroteBits b t₁ p₁ t₂ p₂) (h₃ : WroteBits c t₂ p₂ t₃ p₃) (h₄ : WroteBits d t₃ p₃ t₄ p₄) (h₅ : WroteBits e t₄ p₄ t₅ p₅) (h₆ : WroteBits f t₅ p₅ t₆ p₆)
+  where
+    pub seventh-part : CountablePlace p₆ g
+    seventh-part = sixth-part (then-parts n h₁) h₂ h₃ h₄ h₅ h₆
+
 -- the bits that come next, where some are behind and more may follow
 pub next-countable : {done : List Bit} {s : List ℕ} {at : ℕ} {t : List ℕ} {p : ℕ} → WroteBits done s at t p → {whole : List Bit} (w rest : List Bit) → whole ≡ done ++ (w ++ rest)
     → CountablePlace at whole → CountablePlace p w
 next-countable h w rest e l = first-countable w rest (then-countable h (w ++ rest) (rw e at l))
+
+-- ---- bits that may be left out
+pub left-out : (bits : List Bit) {s : List ℕ} {at : ℕ} (b : Bool) → b ≡ false → WroteBits (bitsIf b bits) s at s at
+left-out bits {s} {at} b e = wrote-as (wrote-none s at) (sym (ap (λ (x : Bool). bitsIf x bits) e))
+
+module _ {bits : List Bit} {at : ℕ} (b : Bool) (e : b ≡ true) where
+  pub sent-counts : CountablePlace at (bitsIf b bits) → CountablePlace at bits
+  sent-counts n = subst (λ (x : Bool). CountablePlace at (bitsIf x bits)) e n
+
+  pub sent-wrote : {s t : List ℕ} {p : ℕ} → WroteBits bits s at t p → WroteBits (bitsIf b bits) s at t p
+  sent-wrote w = wrote-as w (sym (ap (λ (x : Bool). bitsIf x bits) e))
+
+-- ---- a field of a start code, or a bit that is 0
+pub fixed-fits : (width value : ℕ) → T (leb 1 width) → T (leb width 24) → T (ltb value (2 ^ width)) → FieldFits width value
+fixed-fits width value a b c = record { some = leb→le 1 width a; short = leb→le width 24 b; small = ltb→lt value (2 ^ width) c }
 
 -- ---- a field: all of it, its first bits, or none
 pub first-bits : (room rest value : ℕ) → take room (bitsOf (room + rest) value) ≡ bitsOf room (value / 2 ^ rest)

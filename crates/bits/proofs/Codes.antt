@@ -12,6 +12,7 @@ use Rattle.laws.specs.Choice.{pick, both, either}
 use Rattle.laws.proofs.Choice.{both-left, both-right}
 use Rattle.refusals.specs.declared.Refusal.{Refusal}
 use Rattle.bits.specs.Bits.{Bit, O, I, same}
+use Rattle.bits.specs.Places.{plain}
 use Rattle.bits.specs.Read.{Read, got, refused}
 use Rattle.bits.specs.Code.{Entry, entry, CodeTable, starts, lookup, word, wordIn, wordOf, hasIn, has}
 use Rattle.bits.proofs.Tree.{hit, miss}
@@ -23,7 +24,7 @@ each p [] = true
 each p (entry [] m ∷ tab) = false
 each p (entry (x ∷ w) m ∷ tab) = both (p m) (each p tab)
 
-starts-length : (w bs : List Bit) → T (starts w bs) → length w ≤ length bs
+pub starts-length : (w bs : List Bit) → T (starts w bs) → length w ≤ length bs
 starts-length [] bs h = omega arith
 starts-length (x ∷ w) [] h = absurd h
 starts-length (O ∷ w) (O ∷ bs) h = omega (arith, starts-length w bs h)
@@ -56,10 +57,10 @@ found-got p (entry (x ∷ w) m′ ∷ tab) bs at o m cs e t n g =
         record { meant = rw i at (both-left (p m′) (each p tab) t); after = omega arith; shrinks = omega arith; taken = omega arith }
     go false s k = k (sym (miss (x ∷ w) m′ tab bs at o s) ∙ g)
 
-never : (r : Refusal) (m : ℕ) (cs : List Bit) (e : ℕ) → refused r ≡ got m cs e → ⊥
+never : (r : Refusal) (m : ℕ) (cs : List Bit) (e : ℕ) → _≡_ {A = Read ℕ} (refused r) (got m cs e) → ⊥
 never r m cs e q = let z : _≡_ {A = ℕ} 0 1 = cc in omega arith
 
-pub word-got : (p : ℕ → Bool) (table : CodeTable) (bs : List Bit) (at m : ℕ) (cs : List Bit) (e : ℕ) → T (each p (table .entries)) → word table bs at ≡ got m cs e
+pub word-got : (p : ℕ → Bool) (table : CodeTable) (bs : List Bit) (at m : ℕ) (cs : List Bit) (e : ℕ) → T (each p (table .entries)) → word {P = plain} table bs at ≡ got m cs e
     → WordGot p bs at m cs e
 unfolding word
 word-got p table bs at m cs e t g = found-got p (table .entries) bs at _ m cs e t (never _ m cs e) g
@@ -121,6 +122,6 @@ found (entry w m′ ∷ tab) m r at o a h =
 
 -- the codeword of m is read as m, whatever follows
 pub word-back : (table : CodeTable) (m : ℕ) (rest : List Bit) (at : ℕ) → T (free (table .entries)) → T (has table m)
-    → word table (wordOf table m ++ rest) at ≡ got m rest (at + length (wordOf table m))
+    → word {P = plain} table (wordOf table m ++ rest) at ≡ got m rest (at + length (wordOf table m))
 unfolding word
 word-back table m rest at a h = found (table .entries) m rest at _ a h

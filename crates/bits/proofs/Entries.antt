@@ -15,6 +15,7 @@ use Rattle.laws.proofs.Choice.{both-left, both-right}
 use Rattle.laws.proofs.Lists.{alike-equal}
 use Rattle.refusals.specs.declared.Reason.the-variants.{NoCodeword}
 use Rattle.bits.specs.Bits.{Bit, bitsOf, value, bitsFrom, bitsLeft}
+use Rattle.bits.specs.Places.{plain}
 use Rattle.bits.specs.Read.{got, bad}
 use Rattle.bits.specs.Code.{Entry, entry, CodeTable, word}
 use Rattle.bits.specs.Tree.{step, noEmpty, some, right, walkOf}
@@ -77,7 +78,7 @@ shown table s at width = decide (table .entries) (bitsFrom s at width) 0
 -- an entry with a length
 pub record WithLength (table : CodeTable) (s : List ℕ) (n at e : ℕ) : Type 0 where
   pub room : at + e % 32 ≤ n
-  pub word-is : got (e / 32) (bitsLeft s n (at + e % 32)) (at + e % 32) ≡ word table (bitsLeft s n at) at
+  pub word-is : got (e / 32) (bitsLeft s n (at + e % 32)) (at + e % 32) ≡ word {P = plain} table (bitsLeft s n at) at
 
 -- what an entry makes of the codeword at its bits
 pub record EntryReads (t : List ℕ) (root : ℕ) (table : CodeTable) (s : List ℕ) (n at e : ℕ) : Type 0 where
@@ -108,7 +109,7 @@ module _ (t : List ℕ) (root from width : ℕ) (table : CodeTable) (tree : T (r
   word-dead : (k : ℕ) → shown table s at width ≡ dead k → at + k ≤ n → word table (bitsLeft s n at) at ≡ bad (NoCodeword (table .name)) at
   word-dead k f l = decided-word table width s n at full many (rw f tt) ∙ ap (said (table .name) s n at) f ∙ rw (le-leb (at + k) n l)
 
-  word-ended : (k m : ℕ) → shown table s at width ≡ ended k m → at + k ≤ n → word table (bitsLeft s n at) at ≡ got m (bitsLeft s n (at + k)) (at + k)
+  word-ended : (k m : ℕ) → shown table s at width ≡ ended k m → at + k ≤ n → word {P = plain} table (bitsLeft s n at) at ≡ got m (bitsLeft s n (at + k)) (at + k)
   word-ended k m f l = decided-word table width s n at full many (rw f tt) ∙ ap (said (table .name) s n at) f ∙ rw (le-leb (at + k) n l)
 
   walked : walkOf (table .name) 16 t root (bitsLeft s n at) at at ≡ word table (bitsLeft s n at) at

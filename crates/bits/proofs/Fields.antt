@@ -11,6 +11,7 @@ use lib.Pow.{mod-pow-add}
 use lib.ListN.{length}
 use Rattle.refusals.specs.declared.Reason.the-variants.{BitsEnd}
 use Rattle.bits.specs.Bits.{Bit, O, I, bitOf, num, bitsOf, bitAt, value, bitsFrom, bitsLeft}
+use Rattle.bits.specs.Places.{plain}
 use Rattle.bits.specs.Read.{got, bad, field, fieldFrom}
 use Rattle.bits.proofs.Value.{num-bitOf, num-bit, value-lt, value-add, value-one, length-bits}
 
@@ -24,7 +25,7 @@ twice : (b : Bit) (v k : ℕ) → (v * 2 + num b + 1) * 2 ^ k ≤ (v + 1) * 2 ^ 
 twice O v k = omega (arith, pow-suc 2 k, add-mul (v * 2) 1 (2 ^ k), add-mul v 1 (2 ^ suc k), ap (λ (x : ℕ). v * x) (pow-suc 2 k), mul-assoc v 2 (2 ^ k), ap (λ (x : ℕ). v * x) (mul-comm (2 ^ k) 2), add-zero (v * 2))
 twice I v k = omega (arith, pow-suc 2 k, add-mul (v * 2 + 1) 1 (2 ^ k), add-mul (v * 2) 1 (2 ^ k), add-mul v 1 (2 ^ suc k), ap (λ (x : ℕ). v * x) (pow-suc 2 k), mul-assoc v 2 (2 ^ k), ap (λ (x : ℕ). v * x) (mul-comm (2 ^ k) 2))
 
-takes : (k at v : ℕ) (bs : List Bit) (p w : ℕ) (cs : List Bit) (q : ℕ) → fieldFrom k at v bs p ≡ got w cs q
+takes : (k at v : ℕ) (bs : List Bit) (p w : ℕ) (cs : List Bit) (q : ℕ) → fieldFrom {P = plain} k at v bs p ≡ got w cs q
     → (k + length cs ≡ length bs) × (q ≡ p + k) × (w < (v + 1) * 2 ^ k)
 unfolding fieldFrom
 takes zero at v bs p w cs q e =
@@ -54,7 +55,7 @@ first-bit s a k =
     let e : suc k ≡ 1 + k = omega arith in
     ap (value s a) e ∙ value-add s a 1 k ∙ ap (λ (x : ℕ). x * 2 ^ k + value s (a + 1) k) (value-one s a ∙ sym (num-bit s a))
 
-field-value : (k at v : ℕ) (s : List ℕ) (p m : ℕ) → fieldFrom k at v (bitsFrom s p (k + m)) p ≡ got (v * 2 ^ k + value s p k) (bitsFrom s (p + k) m) (p + k)
+field-value : (k at v : ℕ) (s : List ℕ) (p m : ℕ) → fieldFrom {P = plain} k at v (bitsFrom s p (k + m)) p ≡ got (v * 2 ^ k + value s p k) (bitsFrom s (p + k) m) (p + k)
 unfolding fieldFrom bitsFrom value
 field-value zero at v s p m =
     let z : 0 + m ≡ m = omega arith in
@@ -68,7 +69,7 @@ field-value (suc k) at v s p m =
     let h = field-value k at (v * 2 + num (bitAt s p)) s (p + 1) m in
     rw (a, b) (h ∙ ap (λ (x : ℕ). got x (bitsFrom s (p + 1 + k) m) (p + 1 + k)) e)
 
-pub field-at : (s : List ℕ) (n at k : ℕ) → k ≤ n - at → field k (bitsLeft s n at) at ≡ got (value s at k) (bitsLeft s n (at + k)) (at + k)
+pub field-at : (s : List ℕ) (n at k : ℕ) → k ≤ n - at → field {P = plain} k (bitsLeft s n at) at ≡ got (value s at k) (bitsLeft s n (at + k)) (at + k)
 field-at s n at k h =
     let e : n - at ≡ k + (n - (at + k)) = omega arith in
     let z : 0 * 2 ^ k + value s at k ≡ value s at k = omega arith in
@@ -90,7 +91,7 @@ pub record FieldGot (s : List ℕ) (n at k v p : ℕ) : Type 0 where
   pub next : p ≡ at + k
   pub in-source : p ≤ n
 
-pub field-got : (s : List ℕ) (n at k v p : ℕ) (cs : List Bit) → at ≤ n → field k (bitsLeft s n at) at ≡ got v cs p → FieldGot s n at k v p
+pub field-got : (s : List ℕ) (n at k v p : ℕ) (cs : List Bit) → at ≤ n → field {P = plain} k (bitsLeft s n at) at ≡ got v cs p → FieldGot s n at k v p
 field-got s n at k v p cs h e = go (leb k (n - at)) refl
   where
     go : (t : Bool) → leb k (n - at) ≡ t → FieldGot s n at k v p
@@ -110,7 +111,7 @@ pub length-bitsOf : (k x : ℕ) → length (bitsOf k x) ≡ k
 length-bitsOf zero x = refl
 length-bitsOf (suc k) x = ap suc (length-bitsOf k x)
 
-back : (k at v x : ℕ) (rest : List Bit) (p : ℕ) → fieldFrom k at v (bitsOf k x ++ rest) p ≡ got (v * 2 ^ k + x % 2 ^ k) rest (p + k)
+back : (k at v x : ℕ) (rest : List Bit) (p : ℕ) → fieldFrom {P = plain} k at v (bitsOf k x ++ rest) p ≡ got (v * 2 ^ k + x % 2 ^ k) rest (p + k)
 unfolding fieldFrom
 back zero at v x rest p =
     let y : p + 0 ≡ p = omega arith in
@@ -126,7 +127,7 @@ back (suc k) at v x rest p =
     rw q (back k at (v * 2 + b) x rest (p + 1) ∙ ap (λ (i : ℕ). got i rest (p + 1 + k)) e)
 
 -- what was written in k bits is read, whatever follows
-pub field-back : (k v : ℕ) (rest : List Bit) (at : ℕ) → v < 2 ^ k → field k (bitsOf k v ++ rest) at ≡ got v rest (at + k)
+pub field-back : (k v : ℕ) (rest : List Bit) (at : ℕ) → v < 2 ^ k → field {P = plain} k (bitsOf k v ++ rest) at ≡ got v rest (at + k)
 field-back k v rest at h =
     let z : 0 * 2 ^ k + v % 2 ^ k ≡ v = omega (arith, mod-eq-of-lt h) in
     back k at 0 v rest at ∙ ap (λ (i : ℕ). got i rest (at + k)) z

@@ -10,6 +10,7 @@ use lib.Pow.{split, shr-lt, shl-exact, pow-pos, pow-mono, pow-add}
 use lib.ListN.{length, getD, take, drop, set}
 use lib.Seq.{sets, sets-eq, getD-drop, drop-nil}
 use Rattle.bits.specs.Bits.{Bit, O, num, bitsOf, bitsFrom}
+use Rattle.bits.specs.Places.{plain}
 use Rattle.bits.specs.Read.{got, fieldFrom}
 use Rattle.bits.proofs.Value.{byte-part}
 use Rattle.bits.proofs.Source.{bits-byte}
@@ -29,7 +30,7 @@ length-bytesIn zero x = refl
 length-bytesIn (suc n) x = ap suc (length-bytesIn n x)
 
 -- a byte is a field of eight bits
-byte-field : (k at v : ℕ) (bs : List Bit) (p w : ℕ) (cs : List Bit) (q : ℕ) → fieldFrom k at v bs p ≡ got w cs q → byteFrom k v bs ≡ w
+byte-field : (k at v : ℕ) (bs : List Bit) (p w : ℕ) (cs : List Bit) (q : ℕ) → fieldFrom {P = plain} k at v bs p ≡ got w cs q → byteFrom k v bs ≡ w
 unfolding fieldFrom byteFrom
 byte-field zero at v bs p w cs q e = cc
 byte-field (suc k) at v [] p w cs q e = let z : _≡_ {A = ℕ} 0 1 = cc in absurd (omega arith)

@@ -8,7 +8,8 @@ use Rattle.laws.specs.Choice.{pick, both, either}
 use Rattle.refusals.specs.declared.Reason.the-variants.{BitsEnd, NoCodeword}
 use Rattle.refusals.specs.declared.Table.{Table}
 use Rattle.bits.specs.Bits.{Bit, same}
-use Rattle.bits.specs.Read.{Read, got, bad, Reader}
+use Rattle.bits.specs.Places.{Places, PlaceIn, bitIn, pastIn}
+use Rattle.bits.specs.Read.{ReadIn, got, failed, ReaderIn}
 
 -- a codeword and its meaning
 pub data Entry : Type 0 where
@@ -31,17 +32,17 @@ longer [] bs = false
 longer (entry w m ∷ tab) bs = either (starts bs w) (longer tab bs)
 
 -- the first codeword of the table that bs begins with: its meaning, the bits and the place after it; else what `other` says
-unfoldable pub lookup : List Entry → List Bit → ℕ → Read ℕ → Read ℕ
+unfoldable pub lookup : {P : Places} → List Entry → List Bit → PlaceIn P → ReadIn P ℕ → ReadIn P ℕ
 lookup [] bs at other = other
-lookup (entry w m ∷ tab) bs at other =
-    let found = got m (drop (length w) bs) (at + length w) in
+lookup {P} (entry w m ∷ tab) bs at other =
+    let found = got m (drop (length w) bs) (pastIn P at (bitIn P at + length w)) in
     elim (starts w bs) [ true ↦ found | false ↦ lookup tab bs at other ]
 
 -- "if the bits left are a proper beginning of one (no bits included), the refusal is 3; if no codeword fits, 8."
 -- "Codeword reads must also say which table was being read"
-unfoldable pub word : CodeTable → Reader ℕ
+unfoldable pub word : {P : Places} → CodeTable → ReaderIn P ℕ
 word table = λ bs at.
-    let none = bad (pick (longer (table .entries) bs) BitsEnd (NoCodeword (table .name))) at in
+    let none = failed (pick (longer (table .entries) bs) BitsEnd (NoCodeword (table .name))) at in
     lookup (table .entries) bs at none
 
 -- the codeword of the meaning m, or nothing where it has none

@@ -13,6 +13,21 @@ ghost use Rattle.bits.specs.Entries.{EntryAsked, entryRead, withoutEntry
 ghost use Rattle.bits.specs.Write.{bytesWith};
 ghost use Rattle.bits.specs.Appended.{FieldFits, WroteBits, CountablePlace};
 
+pub mod codeword;
+pub mod settled;
+
+// A place that counts: the number of a bit, and how many fields and codewords were read before it.
+pub struct Place {
+    pub bit: usize,
+    pub reads: usize,
+}
+
+// A refusal, and how many fields and codewords were read up to it, the failed one with them.
+pub struct Stopped {
+    pub refusal: Refusal,
+    pub reads: usize,
+}
+
 // "each read gives either a meaning with the next place or a refusal": a field's number, or what a codeword means.
 pub enum FieldRead {
     Got(u32, usize),

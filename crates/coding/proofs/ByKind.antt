@@ -21,7 +21,8 @@ use Rattle.h261_writer.specs.Output.{pictureBits, filledWithin}
 use Rattle.h261_render.specs.Sample.{rendered}
 use Rattle.h261_render.specs.Turn.{PictureOf}
 use Rattle.coding.specs.declared.Kind.{Kind}
-use Rattle.coding.specs.Kind.{formatOf, kindSize, codingOf}
+use Rattle.h261_layers.specs.Grammar.{readWidths}
+use Rattle.coding.specs.Kind.{formatOf, kindSize, codingOf, readsOf}
 use Rattle.coding.specs.Described.{BlankFor, outputWith, Writable, Drawable}
 
 laid-or : (f : Format) (before : Flat) → before ≡ zeros f → (x : Read Flat) → laidOr f x ≡ foundOr before (found x)
@@ -44,6 +45,10 @@ module _ (k : Kind) {f : Format} (is : f ≡ formatOf k) where
     parsed-buffers e =
         e ∙ ap (λ (g : Format). laidOr g (described g bytes n)) is
         ∙ laid-or (formatOf k) (flat head macroblocks levels) (λ i. flat (b .head-blank i) (b .ms-blank i) (b .ls-blank i)) (described (formatOf k) bytes n)
+
+  pub parsed-reads : (bytes : List ℕ) (n : ℕ) {reads : ℕ} → reads ≡ length (readWidths f bytes n) → reads ≡ readsOf k bytes n
+  unfolding readsOf
+  parsed-reads bytes n e = e ∙ ap (λ (g : Format). length (readWidths g bytes n)) is
 
   -- ---- judging
   pub judged-valid : (d : Flat) {v : Bool} → v ≡ valid f d → v ≡ codingOf k .valid d

@@ -1,9 +1,12 @@
 -- What a clip is opened with: its standard and the size of its pictures. Assumes nothing.
 use Prim.Native.Nat.{ℕ}
+use mathlib.Core.List.{List}
+use lib.ListN.{length}
 use Rattle.size.specs.declared.Size.{Size}
 use Rattle.h261_groups.specs.declared.Format.{Format}
 use Rattle.h261_groups.specs.Format.{sizeOf, headLength, macroblocksLength, levelsLength}
 use Rattle.layout.specs.Flat.{Flat}
+use Rattle.h261_layers.specs.Grammar.{readWidths}
 use Rattle.coding.specs.declared.Kind.{Kind}
 use Rattle.coding.specs.Coding.{Coding}
 use Rattle.coding.specs.Lawful.{Lawful}
@@ -36,6 +39,10 @@ levelsLengthOf k = levelsLength (formatOf k)
 -- ---- what a kind's pictures are coded by
 unfoldable pub codingOf : Kind → Coding Flat
 codingOf k = h261 (formatOf k)
+
+-- how many fields and codewords reading the first N bits of lent bytes makes (document 02, T-13)
+unfoldable pub readsOf : Kind → List ℕ → ℕ → ℕ
+readsOf k bytes n = length (readWidths (formatOf k) bytes n)
 
 -- each kind's coding obeys the laws
 pub record AllLawful {D : Type 0} (coding : Kind → Coding D) : Type 0 where

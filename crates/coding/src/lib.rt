@@ -1,4 +1,5 @@
 // What a clip is opened with, and what is done by it: a picture read, judged, written and drawn.
+use fields::PictureRead;
 use h261_groups::Format;
 use refusals::Verdict;
 use size::Size;
@@ -7,7 +8,7 @@ ghost use mathlib.Core.Bool.{true};
 ghost use lib.ListN.{length};
 ghost use Rattle.refusals.specs.Told.{toldVerdict, verdictOn, foundOr};
 ghost use Rattle.layout.specs.Flat.{flat};
-ghost use Rattle.coding.specs.Kind.{formatOf, kindOf, kindSize, headLengthOf, macroblocksLengthOf, levelsLengthOf, codingOf};
+ghost use Rattle.coding.specs.Kind.{formatOf, kindOf, kindSize, headLengthOf, macroblocksLengthOf, levelsLengthOf, codingOf, readsOf};
 ghost use Rattle.coding.specs.Described.{BlankFor, outputWith, Writable, Drawable};
 
 // A standard, with the size of its pictures.
@@ -79,6 +80,24 @@ pub fn parse(
 {
     let format = format_of(kind);
     h261_reader::parse::parse(bytes, count, format, head, macroblocks, levels)
+}
+
+// The same, with how many fields and codewords were read.
+pub fn parse_counted(
+    kind: Kind,
+    bytes: &[u8],
+    count: usize,
+    head: &mut [u8],
+    macroblocks: &mut [u8],
+    levels: &mut [u8],
+) -> PictureRead
+    requires { ⌜ BlankFor kind (now head) (now macroblocks) (now levels) ⌝ }
+    ensures verdict { λ r. ⌜ toldVerdict (r .verdict) ≡ verdictOn (codingOf kind .read (now (bytes .entry)) count) ⌝ }
+    ensures buffers { λ _. ⌜ flat (now (head .exit)) (now (macroblocks .exit)) (now (levels .exit)) ≡ foundOr (flat (now (head .entry)) (now (macroblocks .entry)) (now (levels .entry))) (codingOf kind .read (now (bytes .entry)) count) ⌝ }
+    ensures reads { λ r. ⌜ r .reads ≡ readsOf kind (now (bytes .entry)) count ⌝ }
+{
+    let format = format_of(kind);
+    h261_reader::parse::parse_counted(bytes, count, format, head, macroblocks, levels)
 }
 
 // ---- a description judged

@@ -7,7 +7,8 @@ use lib.ListN.{length}
 use Rattle.refusals.specs.Told.{Numbers, Told, accepted, refusedBy, verdictOn, foundOr}
 use Rattle.refusals.proofs.Told.{told-apart}
 use Rattle.bits.specs.Bits.{Bit}
-use Rattle.h261_writer.specs.Output.{pictureBits, outputLeft, writeOf}
+use Rattle.bits.specs.Output.{outputLeft}
+use Rattle.h261_writer.specs.Output.{pictureBits, writeOf}
 use Rattle.h261_reader.specs.ReadOf.{readOf}
 use Rattle.vault.specs.Block.{headerOf}
 use Rattle.standing.specs.Receive.{Outcome, freshReceiver}

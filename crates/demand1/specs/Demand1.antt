@@ -11,8 +11,9 @@ use Rattle.size.specs.declared.Size.{Size}
 use Rattle.layout.specs.Flat.{Flat}
 use Rattle.h261_groups.specs.declared.Format.{Format}
 use Rattle.h261_reader.specs.ReadOf.{ReadSays, ReadLeaves}
-use Rattle.h261_writer.specs.declared.Written.{Written}
-use Rattle.h261_writer.specs.Output.{toldWritten, WriteSays, WriteLeaves}
+use Rattle.refusals.specs.declared.Written.{Written}
+use Rattle.refusals.specs.Writing.{toldWritten}
+use Rattle.h261_writer.specs.Output.{WriteSays, WriteLeaves}
 use Rattle.coding.specs.declared.Kind.{Kind}
 use Rattle.vault.specs.declared.Checked.{Checked}
 use Rattle.vault.specs.Block.{clipOf, partOf, headerOf, toldChecked, checkOf, judgeOf}

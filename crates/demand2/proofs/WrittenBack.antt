@@ -25,7 +25,8 @@ use Rattle.h261_layers.specs.Grammar.{reading}
 use Rattle.fields.specs.Answer.{mapRead}
 use Rattle.h261_reader.specs.Described.{described}
 use Rattle.h261_reader.specs.ReadOf.{readOf}
-use Rattle.h261_writer.specs.Output.{pictureBits, lentLengths, writeOf, outputLeft, outputOf}
+use Rattle.bits.specs.Output.{outputLeft}
+use Rattle.h261_writer.specs.Output.{pictureBits, lentLengths, writeOf, outputOf}
 use Rattle.bits.specs.Write.{Holds}
 use Rattle.h261_readback.specs.ReadBack.{ReadBack}
 use Rattle.h261_readback.proofs.ReadBack.{reads-back}

@@ -11,8 +11,9 @@ use Rattle.layout.specs.Flat.{Flat}
 use Rattle.coding.specs.declared.Kind.{Kind}
 use Rattle.coding.specs.Kind.{kindSize}
 use Rattle.decoder.specs.Decoded.{DecodeSays, DecodeLeaves}
-use Rattle.h261_writer.specs.declared.Written.{Written}
-use Rattle.h261_writer.specs.Output.{toldWritten, WriteSays, WriteLeaves}
+use Rattle.refusals.specs.declared.Written.{Written}
+use Rattle.refusals.specs.Writing.{toldWritten}
+use Rattle.h261_writer.specs.Output.{WriteSays, WriteLeaves}
 use Rattle.demand2.specs.Demand2.{Decoder, AcceptedExactly, EverySample, Writer, ReadsBack, RefusedExactly}
 
 -- ---- a program that decodes: what it answers, and what it leaves in the store that it was lent

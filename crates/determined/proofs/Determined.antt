@@ -13,17 +13,23 @@ use Rattle.laws.proofs.Rows.{rows-same, lt-or-ge}
 use Rattle.refusals.specs.declared.Reason.the-variants.{Length}
 use Rattle.refusals.specs.Number.{refusal}
 use Rattle.refusals.proofs.Told.{verdict-told-once}
-use Rattle.h261_writer.proofs.WriteSteps.{written-told-once}
+use Rattle.refusals.proofs.Writing.{written-told-once}
 use Rattle.standing.proofs.Told.{received-told-once}
 use Rattle.sender.proofs.Told.{sent-told-once}
 use Rattle.bits.specs.Bits.{Bit, bitsOf}
-use Rattle.bits.specs.Read.{Read, got, endless, refused, field}
+use Rattle.bits.specs.Places.{counted}
+use Rattle.bits.specs.Read.{ReadIn, Read, got, endless, refused, field}
 use Rattle.bits.proofs.Fields.{field-back, length-bitsOf}
 use Rattle.bits.specs.Answer.{asField}
 use Rattle.bits.specs.declared.FieldRead.{FieldRead}
+use Rattle.bits.specs.declared.Place.{Place}
+use Rattle.bits.specs.declared.Stopped.{Stopped}
 use Rattle.h261_words.specs.Words.{Event, sent, over}
 use Rattle.h261_words.specs.Answer.{asCoefficient}
 use Rattle.h261_words.specs.declared.CoefficientRead.{CoefficientRead}
+use Rattle.h263_words.specs.Words.{Event as Event263}
+use Rattle.h263_words.specs.Answer.{asEvent}
+use Rattle.h263_words.specs.declared.EventRead.{EventRead}
 use Rattle.size.specs.declared.Size.{Size}
 use Rattle.size.specs.Size.{storeLength}
 use Rattle.size.specs.Place.{own, index, cellOf, On}
@@ -33,7 +39,9 @@ use Rattle.h261_layers.specs.Grammar.{Mba, step, stuffed, ended, Header}
 use Rattle.layout.specs.Value.{Vector}
 use Rattle.h261_description.specs.Vector.{Before}
 use Rattle.h261_layers.specs.Answer.{asMba, asHeader, asVector, asMacroblock, componentOf, beforeOf, Sent}
-use Rattle.fields.specs.Answer.{leaving}
+use Rattle.fields.specs.Answer.{leaving, asNumber}
+use Rattle.fields.specs.declared.NumberRead.{NumberRead}
+use Rattle.fields.specs.declared.PictureRead.{PictureRead}
 use Rattle.h261_layers.specs.declared.MbaRead.{MbaRead}
 use Rattle.h261_layers.specs.declared.Behind.{Behind}
 use Rattle.h261_layers.specs.declared.MacroblockRead.{MacroblockRead}
@@ -42,10 +50,12 @@ use Rattle.fields.specs.declared.PairRead.{PairRead}
 use Rattle.fields.specs.declared.PlaceRead.{PlaceRead}
 use Rattle.bits.specs.declared.FieldRead.the-variants as F
 use Rattle.h261_words.specs.declared.CoefficientRead.the-variants as C
+use Rattle.h263_words.specs.declared.EventRead.the-variants as E
 use Rattle.h261_layers.specs.declared.MbaRead.the-variants as M
 use Rattle.h261_layers.specs.declared.MacroblockRead.the-variants as BR
 use Rattle.fields.specs.declared.PlaceRead.the-variants as P
-use Rattle.determined.specs.Determined.{EquationOnce, ReadSaysOnce, ReadLeavesOnce, DecodeSaysOnce, DecodeLeavesOnce, WriteSaysOnce, WriteLeavesOnce, ReceiveOnce, SendOnce, HandsBackOnce, FieldOnce, CoefficientOnce, HeaderOnce, MbaOnce, VectorOnce, MacroblockReadOnce, MacroblockLeftOnce, PlaceOnce, LeftOnce, BlockOnce, CodewordOnce, BitsWroteOnce, BlockWroteOnce, MacroblockOnce, RowsOnce, TextOnce}
+use Rattle.determined.specs.Determined.{EquationOnce, ReadSaysOnce, ReadLeavesOnce, DecodeSaysOnce, DecodeLeavesOnce, WriteSaysOnce, WriteLeavesOnce, ReceiveOnce, SendOnce, HandsBackOnce, FieldOnce, NumberReadOnce, CoefficientOnce, HeaderOnce, MbaOnce, VectorOnce, MacroblockReadOnce, MacroblockLeftOnce, PlaceOnce, LeftOnce, BlockOnce, CodewordOnce, BitsWroteOnce, BlockWroteOnce, MacroblockOnce, RowsOnce, TextOnce, EventOnce}
+use Rattle.fields.specs.declared.NumberRead.the-variants as N
 use Rattle.fields.specs.declared.PairRead.the-variants as PR
 use Rattle.standing.specs.Receive as R
 use Rattle.sender.specs.Send as S
@@ -59,7 +69,10 @@ once A a x y = same-as
 
 -- ---- the entry points: what each promises of its answer, of the buffers that it leaves, or of both at once
 pub read-says-once : ReadSaysOnce
-read-says-once f bytes n before x y e d = verdict-told-once x y (same-as e d)
+read-says-once f bytes n before x y e d =
+    let said = verdict-told-once (x .verdict) (y .verdict) (same-as (e .0) (d .0)) in
+    let counted = same-as (e .1) (d .1) in
+    λ i. record { verdict = said i; reads = counted i }
 
 pub read-leaves-once : ReadLeavesOnce
 read-leaves-once f bytes n before x y = same-as
@@ -94,6 +107,10 @@ through : {A B : Type 0} (says : A → B) (of : B → A) → ((x : A) → of (sa
 through says of back {b} {x} {y} e f = sym (back x) ∙ ap of (e ∙ sym f) ∙ back y
 
 module _ (s : List ℕ) (n : ℕ) where
+  -- no read is endless
+  none : Stopped
+  none = record { refusal = refusal Length 0; reads = 0 }
+
   fieldOf : Read ℕ → FieldRead
   fieldOf (got v left p) = F.Got v p
   fieldOf (refused why) = F.Refused why
@@ -103,6 +120,16 @@ module _ (s : List ℕ) (n : ℕ) where
   unfolding fieldOf
   field-of (F.Got v p) = refl
   field-of (F.Refused why) = refl
+
+  numberOf : ReadIn counted ℕ → NumberRead
+  numberOf (got v left p) = N.Got v p
+  numberOf (refused why) = N.Refused why
+  numberOf endless = N.Refused none
+
+  number-of : (x : NumberRead) → numberOf (asNumber s n x) ≡ x
+  unfolding numberOf
+  number-of (N.Got v p) = refl
+  number-of (N.Refused why) = refl
 
   coefficientOf : Read Event → CoefficientRead
   coefficientOf (got (sent c) left p) = C.Coefficient (c .run) (c .code) p
@@ -116,22 +143,32 @@ module _ (s : List ℕ) (n : ℕ) where
   coefficient-of (C.EndOfBlock p) = refl
   coefficient-of (C.Refused why) = refl
 
-  headerOf : Read Header → PairRead
+  eventRead : Read Event263 → EventRead
+  eventRead (got e left p) = E.Event (e .last) (e .sent .run) (e .sent .code) p
+  eventRead (refused why) = E.Refused why
+  eventRead endless = E.Refused (refusal Length 0)
+
+  event-of : (x : EventRead) → eventRead (asEvent s n x) ≡ x
+  unfolding eventRead
+  event-of (E.Event last run code p) = refl
+  event-of (E.Refused why) = refl
+
+  headerOf : ReadIn counted Header → PairRead
   headerOf (got h left p) = PR.Got (h .tr) (h .ptype) p
   headerOf (refused why) = PR.Refused why
-  headerOf endless = PR.Refused (refusal Length 0)
+  headerOf endless = PR.Refused none
 
   header-of : (x : PairRead) → headerOf (asHeader s n x) ≡ x
   unfolding headerOf
   header-of (PR.Got tr ptype p) = refl
   header-of (PR.Refused why) = refl
 
-  mbaOf : Read Mba → MbaRead
+  mbaOf : ReadIn counted Mba → MbaRead
   mbaOf (got (step k) left p) = M.Step k p
   mbaOf (got stuffed left p) = M.Stuffing p
   mbaOf (got ended left p) = M.Ended p
   mbaOf (refused why) = M.Refused why
-  mbaOf endless = M.Refused (refusal Length 0)
+  mbaOf endless = M.Refused none
 
   mba-of : (x : MbaRead) → mbaOf (asMba s n x) ≡ x
   unfolding mbaOf
@@ -148,10 +185,10 @@ module _ (s : List ℕ) (n : ℕ) where
   unfolding kept
   kept-back x = ap natAbs (-ℤ-+ℤ-cancel (pos x) (pos 16))
 
-  vectorRead : Read Vector → PairRead
+  vectorRead : ReadIn counted Vector → PairRead
   vectorRead (got v left p) = PR.Got (kept (v .horizontal)) (kept (v .vertical)) p
   vectorRead (refused why) = PR.Refused why
-  vectorRead endless = PR.Refused (refusal Length 0)
+  vectorRead endless = PR.Refused none
 
   vector-of : (x : PairRead) → vectorRead (asVector s n x) ≡ x
   unfolding vectorRead
@@ -165,10 +202,10 @@ module _ (s : List ℕ) (n : ℕ) where
   unfolding behindOf
   behind-back b = λ i. record { address = b .address; horizontal = kept-back (b .horizontal) i; vertical = kept-back (b .vertical) i }
 
-  macroblockRead : Read Sent → MacroblockRead
+  macroblockRead : ReadIn counted Sent → MacroblockRead
   macroblockRead (got x left p) = BR.Got (behindOf (x .before)) p
   macroblockRead (refused why) = BR.Refused why
-  macroblockRead endless = BR.Refused (refusal Length 0)
+  macroblockRead endless = BR.Refused none
 
   macroblock-of : (x : MacroblockRead) (macroblocks levels : List ℕ) → macroblockRead (asMacroblock s n x macroblocks levels) ≡ x
   unfolding macroblockRead
@@ -177,10 +214,10 @@ module _ (s : List ℕ) (n : ℕ) where
 
   -- a layer's answer, and where it is a place, what it left in the buffers
   module _ {A : Type 0} where
-    placeOf : Read A → PlaceRead
+    placeOf : ReadIn counted A → PlaceRead
     placeOf (got a left p) = P.At p
     placeOf (refused why) = P.Refused why
-    placeOf endless = P.Refused (refusal Length 0)
+    placeOf endless = P.Refused none
 
     place-of : (x : PlaceRead) (a : A) → placeOf (leaving s n x a) ≡ x
     unfolding placeOf
@@ -190,8 +227,14 @@ module _ (s : List ℕ) (n : ℕ) where
 pub field-once : FieldOnce
 field-once s n b x y = through (asField s n) (fieldOf s n) (field-of s n)
 
+pub number-read-once : NumberReadOnce
+number-read-once s n b x y = through (asNumber s n) (numberOf s n) (number-of s n)
+
 pub coefficient-once : CoefficientOnce
 coefficient-once s n b x y = through (asCoefficient s n) (coefficientOf s n) (coefficient-of s n)
+
+pub event-once : EventOnce
+event-once s n b x y = through (asEvent s n) (eventRead s n) (event-of s n)
 
 pub header-once : HeaderOnce
 header-once s n b x y = through (asHeader s n) (headerOf s n) (header-of s n)
@@ -208,7 +251,7 @@ macroblock-read-once s n b x y m l k j e f = sym (macroblock-of s n x m l) ∙ a
 pub macroblock-left-once : MacroblockLeftOnce
 macroblock-left-once s n b c d p q m l k j e f = same (e ∙ sym f)
   where
-    same : {x y : Sent} {l m : List Bit} {p q : ℕ} → got x l p ≡ got y m q → (x .macroblocks ≡ y .macroblocks) × (x .levels ≡ y .levels)
+    same : {x y : Sent} {l m : List Bit} {p q : Place} → _≡_ {A = ReadIn counted Sent} (got x l p) (got y m q) → (x .macroblocks ≡ y .macroblocks) × (x .levels ≡ y .levels)
     same g = (cc, cc)
 
 pub place-once : PlaceOnce
@@ -217,7 +260,7 @@ place-once A s n b x y t u e f = sym (place-of s n x t) ∙ ap (placeOf s n) (e 
 pub left-once : LeftOnce
 left-once A s n b p q t u e f = same (e ∙ sym f)
   where
-    same : {l m : List Bit} {p q : ℕ} {t u : A} → got t l p ≡ got u m q → t ≡ u
+    same : {l m : List Bit} {p q : Place} {t u : A} → _≡_ {A = ReadIn counted A} (got t l p) (got u m q) → t ≡ u
     same g = cc
 
 -- ---- a block whose 64 numbers are said
@@ -234,7 +277,7 @@ block-once A d g t u h k = ext-getD [] t u (h .shape .rows ∙ sym (k .shape .ro
 bits-once : (k a b : ℕ) → a < 2 ^ k → b < 2 ^ k → bitsOf k a ≡ bitsOf k b → a ≡ b
 bits-once k a b l m e = inside (sym (field-back k a [] 0 l) ∙ ap (λ (w : List Bit). field k (w ++ []) 0) e ∙ field-back k b [] 0 m)
   where
-    inside : {p q : ℕ} → got a [] p ≡ got b [] q → a ≡ b
+    inside : {p q : ℕ} → _≡_ {A = Read ℕ} (got a [] p) (got b [] q) → a ≡ b
     inside g = cc
 
 pub codeword-once : CodewordOnce

@@ -8,14 +8,19 @@ use denote.Ref.{RefT, ptr, now}
 use Rattle.laws.specs.Block.{Is}
 use Rattle.laws.specs.Rows.{Put}
 use Rattle.bits.specs.Bits.{Bit}
-use Rattle.bits.specs.Read.{Read}
+use Rattle.bits.specs.Places.{counted}
+use Rattle.bits.specs.Read.{ReadIn, Read}
 use Rattle.bits.specs.Answer.{asField}
 use Rattle.bits.specs.declared.FieldRead.{FieldRead}
+use Rattle.bits.specs.declared.Place.{Place}
 use Rattle.bits.specs.Appended.{WroteBits}
 use Rattle.h261_words.specs.Words.{Event}
 use Rattle.h261_words.specs.Answer.{asCoefficient}
-use Rattle.h261_words.specs.Written.{Writes}
+use Rattle.bits.specs.Codewords.{Writes}
 use Rattle.h261_words.specs.declared.CoefficientRead.{CoefficientRead}
+use Rattle.h263_words.specs.Words.{Event as Event263}
+use Rattle.h263_words.specs.Answer.{asEvent}
+use Rattle.h263_words.specs.declared.EventRead.{EventRead}
 use Rattle.h261_groups.specs.declared.Format.{Format}
 use Rattle.size.specs.declared.Size.{Size}
 use Rattle.size.specs.Size.{storeLength}
@@ -23,7 +28,9 @@ use Rattle.h261_layers.specs.Grammar.{Mba, Header}
 use Rattle.layout.specs.Value.{Vector}
 use Rattle.layout.specs.Flat.{Flat}
 use Rattle.h261_layers.specs.Answer.{asMba, asHeader, asVector, asMacroblock, Sent}
-use Rattle.fields.specs.Answer.{leaving}
+use Rattle.fields.specs.Answer.{leaving, asNumber}
+use Rattle.fields.specs.declared.NumberRead.{NumberRead}
+use Rattle.fields.specs.declared.PictureRead.{PictureRead}
 use Rattle.h261_layers.specs.declared.MbaRead.{MbaRead}
 use Rattle.fields.specs.declared.PairRead.{PairRead}
 use Rattle.h261_layers.specs.declared.Behind.{Behind}
@@ -31,7 +38,7 @@ use Rattle.h261_layers.specs.declared.MacroblockRead.{MacroblockRead}
 use Rattle.h261_layers.specs.declared.MacroblockRead.the-variants.{Got}
 use Rattle.fields.specs.declared.PlaceRead.{PlaceRead}
 use Rattle.fields.specs.declared.PlaceRead.the-variants.{At}
-use Rattle.h261_reader.specs.ReadOf.{ReadSays, ReadLeaves}
+use Rattle.h261_reader.specs.ReadOf.{ReadSays, ReadLeaves, ReadCounts}
 use Rattle.h261_writer.specs.Output.{WriteSays, WriteLeaves}
 use Rattle.samples.specs.Content.{Values}
 use Rattle.samples.specs.Wrote.{Wrote, Macroblock}
@@ -58,8 +65,9 @@ abbrev pub EquationOnce : Type 1
 EquationOnce = (A : Type 0) (a : A) → Once (λ (x : A). x ≡ a)
 
 -- ---- the entry points: what each promises of its answer, of the buffers that it leaves, or of both at once
+-- the verdict and the number of reads together
 abbrev pub ReadSaysOnce : Type 0
-ReadSaysOnce = (f : Format) (bytes : List ℕ) (n : ℕ) (before : Flat) → Once (ReadSays f bytes n before)
+ReadSaysOnce = (f : Format) (bytes : List ℕ) (n : ℕ) (before : Flat) → Once (λ (r : PictureRead). ReadSays f bytes n before (r .verdict) × ReadCounts f bytes n before (r .reads))
 
 abbrev pub ReadLeavesOnce : Type 0
 ReadLeavesOnce = (f : Format) (bytes : List ℕ) (n : ℕ) (before : Flat) → Once (ReadLeaves f bytes n before)
@@ -93,31 +101,37 @@ HandsBackOnce = (size : Size) (holder : Holder) (first second x y : RefT (List �
 abbrev pub FieldOnce : Type 0
 FieldOnce = (s : List ℕ) (n : ℕ) (b : Read ℕ) → Once (λ (x : FieldRead). asField s n x ≡ b)
 
+abbrev pub NumberReadOnce : Type 0
+NumberReadOnce = (s : List ℕ) (n : ℕ) (b : ReadIn counted ℕ) → Once (λ (x : NumberRead). asNumber s n x ≡ b)
+
 abbrev pub CoefficientOnce : Type 0
 CoefficientOnce = (s : List ℕ) (n : ℕ) (b : Read Event) → Once (λ (x : CoefficientRead). asCoefficient s n x ≡ b)
 
+abbrev pub EventOnce : Type 0
+EventOnce = (s : List ℕ) (n : ℕ) (b : Read Event263) → Once (λ (x : EventRead). asEvent s n x ≡ b)
+
 abbrev pub HeaderOnce : Type 0
-HeaderOnce = (s : List ℕ) (n : ℕ) (b : Read Header) → Once (λ (x : PairRead). asHeader s n x ≡ b)
+HeaderOnce = (s : List ℕ) (n : ℕ) (b : ReadIn counted Header) → Once (λ (x : PairRead). asHeader s n x ≡ b)
 
 abbrev pub MbaOnce : Type 0
-MbaOnce = (s : List ℕ) (n : ℕ) (b : Read Mba) → Once (λ (x : MbaRead). asMba s n x ≡ b)
+MbaOnce = (s : List ℕ) (n : ℕ) (b : ReadIn counted Mba) → Once (λ (x : MbaRead). asMba s n x ≡ b)
 
 abbrev pub VectorOnce : Type 0
-VectorOnce = (s : List ℕ) (n : ℕ) (b : Read Vector) → Once (λ (x : PairRead). asVector s n x ≡ b)
+VectorOnce = (s : List ℕ) (n : ℕ) (b : ReadIn counted Vector) → Once (λ (x : PairRead). asVector s n x ≡ b)
 
 -- a layer's answer, and where it is a place, what it left in the buffers
 abbrev pub MacroblockReadOnce : Type 0
-MacroblockReadOnce = (s : List ℕ) (n : ℕ) (b : Read Sent) (x y : MacroblockRead) (m l k j : List ℕ) → asMacroblock s n x m l ≡ b → asMacroblock s n y k j ≡ b → x ≡ y
+MacroblockReadOnce = (s : List ℕ) (n : ℕ) (b : ReadIn counted Sent) (x y : MacroblockRead) (m l k j : List ℕ) → asMacroblock s n x m l ≡ b → asMacroblock s n y k j ≡ b → x ≡ y
 
 abbrev pub MacroblockLeftOnce : Type 0
-MacroblockLeftOnce = (s : List ℕ) (n : ℕ) (b : Read Sent) (c d : Behind) (p q : ℕ) (m l k j : List ℕ) → asMacroblock s n (Got c p) m l ≡ b → asMacroblock s n (Got d q) k j ≡ b
+MacroblockLeftOnce = (s : List ℕ) (n : ℕ) (b : ReadIn counted Sent) (c d : Behind) (p q : Place) (m l k j : List ℕ) → asMacroblock s n (Got c p) m l ≡ b → asMacroblock s n (Got d q) k j ≡ b
     → (m ≡ k) × (l ≡ j)
 
 abbrev pub PlaceOnce : Type 1
-PlaceOnce = (A : Type 0) (s : List ℕ) (n : ℕ) (b : Read A) (x y : PlaceRead) (t u : A) → leaving s n x t ≡ b → leaving s n y u ≡ b → x ≡ y
+PlaceOnce = (A : Type 0) (s : List ℕ) (n : ℕ) (b : ReadIn counted A) (x y : PlaceRead) (t u : A) → leaving s n x t ≡ b → leaving s n y u ≡ b → x ≡ y
 
 abbrev pub LeftOnce : Type 1
-LeftOnce = (A : Type 0) (s : List ℕ) (n : ℕ) (b : Read A) (p q : ℕ) (t u : A) → leaving s n (At p) t ≡ b → leaving s n (At q) u ≡ b → t ≡ u
+LeftOnce = (A : Type 0) (s : List ℕ) (n : ℕ) (b : ReadIn counted A) (p q : Place) (t u : A) → leaving s n (At p) t ≡ b → leaving s n (At q) u ≡ b → t ≡ u
 
 -- ---- a block whose 64 numbers are said
 abbrev pub BlockOnce : Type 1

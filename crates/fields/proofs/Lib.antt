@@ -3,3 +3,4 @@ pub mod Told
 pub mod Row
 pub mod RuleTurn
 pub mod RuleReads
+pub mod Uncounted

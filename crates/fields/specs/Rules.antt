@@ -6,29 +6,30 @@ use lib.Dec.{eqb}
 use Rattle.laws.specs.Choice.{pick}
 use Rattle.refusals.specs.declared.Reason.{Reason}
 use Rattle.refusals.specs.declared.Reason.the-variants.{QuantiserZero}
-use Rattle.bits.specs.Read.{Reader, _>>=_, done, field, fine, against, judgedRead, loop, never}
+use Rattle.bits.specs.Places.{Places}
+use Rattle.bits.specs.Read.{ReaderIn, _>>=_, done, field, fine, against, judgedRead, loop, never}
 
 -- a field of k bits that must hold v, else a refusal for this reason
-abbrev pub expect : ℕ → ℕ → Reason → Reader ℕ
+abbrev pub expect : {P : Places} → ℕ → ℕ → Reason → ReaderIn P ℕ
 expect k v reason = judgedRead (field k) (λ x. pick (eqb x v) (fine x) (against reason))
 
 -- refusal 7: "quantiser 0"
-abbrev pub quantiser : Reader ℕ
+abbrev pub quantiser : {P : Places} → ReaderIn P ℕ
 quantiser = judgedRead (field 5) (λ q. pick (eqb q 0) (against QuantiserZero) (fine q))
 
 -- "PEI, then 8 dropped bits and another PEI while PEI is 1"; so too GEI
-abbrev pub sparesAfter : Reader ℕ → ℕ → Reader ℕ
+abbrev pub sparesAfter : {P : Places} → ReaderIn P ℕ → ℕ → ReaderIn P ℕ
 sparesAfter more zero = done 0
 sparesAfter more (suc n) = field 8 >>= λ spare. more
 
-unfoldable pub sparesFrom : ℕ → Reader ℕ
+unfoldable pub sparesFrom : {P : Places} → ℕ → ReaderIn P ℕ
 sparesFrom zero = never
 sparesFrom (suc turns) = field 1 >>= sparesAfter (sparesFrom turns)
 
-unfoldable pub spares : Reader ℕ
+unfoldable pub spares : {P : Places} → ReaderIn P ℕ
 spares = loop sparesFrom
 
 -- a read that the type may leave out
-abbrev pub optional : {A : Type 0} → Bool → A → Reader A → Reader A
+abbrev pub optional : {P : Places} {A : Type 0} → Bool → A → ReaderIn P A → ReaderIn P A
 optional true a r = r
 optional false a r = done a

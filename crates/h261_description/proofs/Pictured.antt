@@ -7,7 +7,7 @@ use native.Mathlib.Omega.{arith}
 use lib.Dec.{T, eqb, leb, eqb→eq, leb→le, le→leb}
 use lib.ListN.{length, getD, drop, length-drop}
 use Rattle.laws.specs.Choice.{pick, both, opposite}
-use Rattle.laws.proofs.Choice.{both-left, both-right, both-make}
+use Rattle.laws.proofs.Choice.{both-left, both-right, both-make, both-three}
 use Rattle.layout.specs.Value.{zeroVector}
 use Rattle.layout.specs.Flat.{Flat, byteVector, gathers, macroblockIn}
 use Rattle.layout.specs.Numbers.{all, isZero, isQuantiser, isLevel, codesFirst}
@@ -27,9 +27,6 @@ use Rattle.h261_description.specs.Pictured.{PictureProper}
 use Rattle.h261_description.proofs.Levels.{all-levels}
 
 -- ---- a macroblock
-three : (a b c : Bool) → T (both a (both b c)) → T a × T b × T c
-three a b c t = (both-left a (both b c) t, both-left b c (both-right a (both b c) t), both-right b c (both-right a (both b c) t))
-
 proper-blocks : (type : ℕ) (ls : List ℕ) → length ls ≤ 384 → T (validLevels type ls) → ProperBlocks type (gathers 6 ls)
 proper-blocks type ls l t = record {
   six = length-gathers 6 ls;
@@ -55,7 +52,7 @@ pointed : (mc : Bool) (f : Format) (number address a b c d : ℕ)
     → If mc (ProperVector f number address (byteVector c d)) (byteVector c d ≡ zeroVector)
 pointed true f number address a b c d t =
     let v = byteVector c d in
-    let p = three (both (leb c 255) (leb d 255)) (both (inRange (v .horizontal)) (inRange (v .vertical))) (inPicture f number address v) t in
+    let p = both-three (both (leb c 255) (leb d 255)) (both (inRange (v .horizontal)) (inRange (v .vertical))) (inPicture f number address v) t in
     record {
       horizontally = both-left (inRange (v .horizontal)) (inRange (v .vertical)) (p .1);
       vertically = both-right (inRange (v .horizontal)) (inRange (v .vertical)) (p .1);
@@ -77,7 +74,7 @@ valid-parts f number address fields levels t =
     let type = getD fields 0 0 in
     let mq = pick (hasMQUANT type) (isQuantiser (getD fields 1 0)) (isZero (getD fields 1 0)) in
     let mv = pick (isMC type) (validVector f number address fields) (both (isZero (getD fields 2 0)) (isZero (getD fields 3 0))) in
-    let p = three (leb type 10) mq (both mv (validLevels type levels)) t in
+    let p = both-three (leb type 10) mq (both mv (validLevels type levels)) t in
     record { type = p .0; quant = p .1; vector = both-left mv (validLevels type levels) (p .2); blocks = both-right mv (validLevels type levels) (p .2) }
 
 proper-macroblock : (f : Format) (number address t b c d : ℕ) (ls : List ℕ) → length ls ≤ 384
@@ -112,9 +109,9 @@ valid-lists f d t =
     let q = leb (getD (d .head) 1 0) 7 in
     let r = eqb (getD (d .head) 2 0) (formatBit f) in
     let s = all isQuantiser (drop 3 (d .head)) in
-    let parts = three (lengthsOf f d) (validHead f (d .head)) groups t in
+    let parts = both-three (lengthsOf f d) (validHead f (d .head)) groups t in
     let lengths = has-lengths (shape f) d (parts .0) in
-    let heads = three p q (both r s) (parts .1) in
+    let heads = both-three p q (both r s) (parts .1) in
     record {
       lengths = parts .0;
       head-length = lengths .head-length;

@@ -7,7 +7,7 @@ use lib.Dec.{T, leb, leb→le, eqb→eq}
 use lib.ListN.{getD, length, drop, length-drop}
 use lib.Seq.{getD-take, getD-drop}
 use Rattle.laws.specs.Choice.{pick, both}
-use Rattle.laws.proofs.Choice.{both-left, both-right}
+use Rattle.laws.proofs.Choice.{both-left, both-right, pick-yes, pick-no}
 use Rattle.layout.proofs.EveryAt.{fieldsAt, levelsAt, every-at}
 use Rattle.h261_words.specs.Words.{isMC, hasMQUANT}
 use Rattle.h261_groups.specs.declared.Format.{Format}
@@ -53,16 +53,6 @@ module _ (f : Format) (d : Flat) (t : T (valid f d)) where
       number = omega arith
 
 -- ---- of a macroblock
--- a test that holds, by the case of what it depends on
-pub pick-true : {b : Bool} (x y : Bool) → b ≡ true → T (pick b x y) → T x
-pick-true x y e t = subst (λ (b : Bool). T (pick b x y)) e t
-
-pub pick-false : {b : Bool} (x y : Bool) → b ≡ false → T (pick b x y) → T y
-pick-false x y e t = subst (λ (b : Bool). T (pick b x y)) e t
-
-pub is-quantiser : (q : ℕ) → T (isQuantiser q) → (1 ≤ q) × (q ≤ 31)
-is-quantiser q t = (leb→le 1 q (both-left (leb 1 q) (leb q 31) t), leb→le q 31 (both-right (leb 1 q) (leb q 31) t))
-
 -- what validity says of macroblock n
 pub record Fine (f : Format) (d : Flat) (n : ℕ) : Type 0 where
   pub kind : typeOf d n ≤ 10
@@ -109,11 +99,11 @@ module _ (f : Format) (d : Flat) (t : T (valid f d)) (n : ℕ) (l : n < macroblo
   pub fine-at : Fine f d n
   fine-at = record {
     kind = leb→le (typeOf d n) 10 (subst (λ (k : ℕ). T (leb k 10)) first (at .type));
-    mquant = λ e. pick-true (isQuantiser (quantOf d n)) (isZero (quantOf d n)) e mquant-is;
-    unused = λ e. eqb→eq (quantOf d n) 0 (pick-false (isQuantiser (quantOf d n)) (isZero (quantOf d n)) e mquant-is);
-    moving = λ e. both-right whole ranged (pick-true (both whole ranged) none e vector-is);
-    bytes = λ e. of-bytes (both-left whole ranged (pick-true (both whole ranged) none e vector-is));
-    still = λ e. of-still (pick-false (both whole ranged) none e vector-is);
+    mquant = λ e. pick-yes (isQuantiser (quantOf d n)) (isZero (quantOf d n)) e mquant-is;
+    unused = λ e. eqb→eq (quantOf d n) 0 (pick-no (isQuantiser (quantOf d n)) (isZero (quantOf d n)) e mquant-is);
+    moving = λ e. both-right whole ranged (pick-yes (both whole ranged) none e vector-is);
+    bytes = λ e. of-bytes (both-left whole ranged (pick-yes (both whole ranged) none e vector-is));
+    still = λ e. of-still (pick-no (both whole ranged) none e vector-is);
     blocks = subst (λ (k : ℕ). T (validLevels k (levelsAt d n))) first (at .blocks);
   }
     where

@@ -8,28 +8,31 @@ use native.Mathlib.Nat.{add-zero}
 use lib.ListN.{set}
 use Rattle.laws.specs.Choice.{pick}
 use Rattle.refusals.specs.declared.Reason.the-variants.{Forbidden}
-use Rattle.refusals.specs.declared.Refusal.{Refusal}
+use Rattle.refusals.specs.Number.{refusal}
 use Rattle.bits.specs.Bits.{Bit}
-use Rattle.bits.specs.Read.{Read, got, refused, bad, field, loop}
+use Rattle.bits.specs.Places.{counted, stopIn}
+use Rattle.bits.specs.Read.{ReadIn, got, refused, field, loop}
+use Rattle.bits.specs.declared.Place.{Place}
+use Rattle.bits.specs.declared.Stopped.{Stopped}
 use Rattle.h261_words.specs.Tables.{firstTable5, laterTable5}
 use Rattle.layout.specs.Value.{coefficient}
-use Rattle.h261_words.proofs.Coefficients.{forbidden-yes, forbidden-no}
+use Rattle.layout.proofs.Codes.{forbidden-yes, forbidden-no}
 use Rattle.layout.specs.Flat.{putBlock}
 use Rattle.fields.specs.Answer.{mapRead}
 use Rattle.h261_layers.specs.Grammar.{coefficients, intraBlock, interBlock}
 use Rattle.fields.proofs.Meaning.{map-done}
 
-module _ (l : List ℕ) (base : ℕ) (bs : List Bit) (at : ℕ) where
-  pub intra-refused : (r : Refusal) → field 8 bs at ≡ refused r → refused r ≡ mapRead (putBlock l base) (intraBlock bs at)
+module _ (l : List ℕ) (base : ℕ) (bs : List Bit) (at : Place) where
+  pub intra-refused : (r : Stopped) → field {P = counted} 8 bs at ≡ refused r → refused r ≡ mapRead {P = counted} (putBlock l base) (intraBlock bs at)
   unfolding intraBlock
   intra-refused r e = rw e
 
-  module _ (code : ℕ) (cs : List Bit) (q : ℕ) (e : field 8 bs at ≡ got code cs q) where
-    pub intra-forbidden : code < 256 → code % 128 ≡ 0 → bad Forbidden at ≡ mapRead (putBlock l base) (intraBlock bs at)
+  module _ (code : ℕ) (cs : List Bit) (q : Place) (e : field {P = counted} 8 bs at ≡ got code cs q) where
+    pub intra-forbidden : code < 256 → code % 128 ≡ 0 → refused (stopIn counted (refusal Forbidden (at .bit)) q) ≡ mapRead {P = counted} (putBlock l base) (intraBlock bs at)
     unfolding intraBlock
     intra-forbidden s h = rw (e, forbidden-yes code s h)
 
-    pub intra-more : (x : Read (List ℕ)) → (code % 128 ≡ 0 → ⊥)
+    pub intra-more : (x : ReadIn counted (List ℕ)) → (code % 128 ≡ 0 → ⊥)
         → x ≡ mapRead (putBlock (set l base code) (base + 1)) (loop (λ turns. coefficients turns (base + 64 - (base + 1)) laterTable5) cs q)
         → x ≡ mapRead (putBlock l base) (intraBlock bs at)
     unfolding intraBlock putBlock
@@ -40,7 +43,7 @@ module _ (l : List ℕ) (base : ℕ) (bs : List Bit) (at : ℕ) where
         ∙ sym (rw (e, forbidden-no code h) (map-done (putBlock l base) (λ rest. coefficient 0 code ∷ rest) (loop (λ turns. coefficients turns 63 laterTable5) cs q)))
 
 -- ---- a block by its kind
-module _ (l : List ℕ) (base : ℕ) (bs : List Bit) (at : ℕ) (intra : Bool) (x : Read (List ℕ)) where
+module _ (l : List ℕ) (base : ℕ) (bs : List Bit) (at : Place) (intra : Bool) (x : ReadIn counted (List ℕ)) where
   pub one-intra : intra ≡ true → x ≡ mapRead (putBlock l base) (intraBlock bs at) → x ≡ mapRead (putBlock l base) (pick intra intraBlock interBlock bs at)
   one-intra e h = rw e h
 

@@ -11,10 +11,12 @@ use lib.Seq.{sets}
 use Rattle.laws.proofs.Choice.{both-right}
 use Rattle.laws.specs.Table.{allB}
 use Rattle.laws.proofs.Table.{all-at}
-use Rattle.refusals.specs.declared.Refusal.{Refusal}
 use Rattle.bits.specs.Bits.{Bit, bitsOf, bitsLeft}
-use Rattle.bits.specs.Read.{Read, got, refused, Reader, next, _>>=_, done}
-use Rattle.bits.specs.Answer.{Within}
+use Rattle.bits.specs.Places.{Places, counted}
+use Rattle.bits.specs.Read.{ReadIn, got, refused, ReaderIn, next, _>>=_, done}
+use Rattle.bits.specs.Answer.{Placed}
+use Rattle.bits.specs.declared.Place.{Place}
+use Rattle.bits.specs.declared.Stopped.{Stopped}
 use Rattle.bits.specs.Code.{word}
 use Rattle.h261_words.specs.Tables.{table2}
 use Rattle.h261_words.specs.Words.{isIntra, isMC, hasMQUANT}
@@ -48,58 +50,58 @@ pub byte-is : (h : ℕ) → Kept h → (h + 240) % 256 ≡ byteOf (componentOf h
 byte-is h k = eqb→eq ((h + 240) % 256) (byteOf (componentOf h)) (all-at 32 byted all-byted h (omega (arith, k .high)))
 
 -- a type of the table
-pub type-reads : {bound : ℕ} → Reads bound 1 (λ t left. T (typed t)) (word table2)
+pub type-reads : {bound : ℕ} → Reads bound 1 (λ t left. T (typed t)) (λ P. word table2)
 type-reads = reads-word typed table2 table2-meanings
 
 -- ---- a macroblock as a row of reads, a step k after what is before it: what is left of it after each
 module _ (f : Format) (number : ℕ) (before : Before) (k : ℕ) where
-  abbrev pub built : ℕ → ℕ → Vector → List Block → Reader Macroblock
+  abbrev pub built : ℕ → ℕ → Vector → List Block → ReaderIn counted Macroblock
   built t q v blocks = done (record { address = before .address + k; type = t; quant = q; vector = v; blocks = blocks })
 
-  abbrev pub afterPattern : ℕ → ℕ → Vector → ℕ → Reader Macroblock
+  abbrev pub afterPattern : ℕ → ℕ → Vector → ℕ → ReaderIn counted Macroblock
   afterPattern t q v c = blocksRead (isIntra t) (bitsOf 6 c) >>= built t q v
 
-  abbrev pub afterVector : ℕ → ℕ → Vector → Reader Macroblock
+  abbrev pub afterVector : ℕ → ℕ → Vector → ReaderIn counted Macroblock
   afterVector t q v = patternRead t >>= afterPattern t q v
 
-  abbrev pub vectorAfter : ℕ → Reader Vector
+  abbrev pub vectorAfter : {P : Places} → ℕ → ReaderIn P Vector
   vectorAfter t = optional (isMC t) zeroVector (vectorRead f number (before .address + k) (preceding before k))
 
-  abbrev pub afterQuantiser : ℕ → ℕ → Reader Macroblock
+  abbrev pub afterQuantiser : ℕ → ℕ → ReaderIn counted Macroblock
   afterQuantiser t q = vectorAfter t >>= afterVector t q
 
-  abbrev pub afterType : ℕ → Reader Macroblock
+  abbrev pub afterType : ℕ → ReaderIn counted Macroblock
   afterType t = optional (hasMQUANT t) 0 quantiser >>= afterQuantiser t
 
   -- what each read gives
-  pub mquant-reads : {bound : ℕ} (t : ℕ) → Reads bound 0 (λ q left. If (hasMQUANT t) (T (isQuantiser q)) (q ≡ 0)) (optional (hasMQUANT t) 0 quantiser)
+  pub mquant-reads : {bound : ℕ} (t : ℕ) → Reads bound 0 (λ q left. If (hasMQUANT t) (T (isQuantiser q)) (q ≡ 0)) (λ P. optional (hasMQUANT t) 0 quantiser)
   mquant-reads t = optional-reads (hasMQUANT t) 0 (λ y. quantiser-reads)
 
-  pub moved-reads : {bound : ℕ} (t : ℕ) → Reads bound 0 (λ v left. If (isMC t) (ProperVector f number (before .address + k) v) (v ≡ zeroVector)) (vectorAfter t)
+  pub moved-reads : {bound : ℕ} (t : ℕ) → Reads bound 0 (λ v left. If (isMC t) (ProperVector f number (before .address + k) v) (v ≡ zeroVector)) (λ P. vectorAfter t)
   moved-reads t = optional-reads (isMC t) zeroVector (λ y. vector-reads f number (before .address + k) (preceding before k))
 
-  pub macroblock-begun : (s : List ℕ) (n p : ℕ) → Within s n p → Row (macroblock f number before k (bitsLeft s n p) p) s n (word table2 >>= afterType) p
+  pub macroblock-begun : (s : List ℕ) (n : ℕ) (p : Place) → Placed s n p → Row (macroblock f number before k (bitsLeft s n (p .bit)) p) s n (word table2 >>= afterType) p
   unfolding macroblock
-  macroblock-begun s n p w = record { within = w; same = refl }
+  macroblock-begun s n p w = record { placed = w; same = refl }
 
   -- its blocks are read into the levels, and its fields are put last: group g counts from 0, x is the macroblock's place
-  module _ {whole : Read Macroblock} {s : List ℕ} {n p : ℕ} (t q : ℕ) (v : Vector) (c : ℕ) (h : Row whole s n (afterPattern t q v c) p) (g : ℕ) (ms ls : List ℕ)
+  module _ {whole : ReadIn counted Macroblock} {s : List ℕ} {n : ℕ} {p : Place} (t q : ℕ) (v : Vector) (c : ℕ) (h : Row whole s n (afterPattern t q v c) p) (g : ℕ) (ms ls : List ℕ)
       (i : Bool) (w : i ≡ isIntra t) (x : ℕ) (y : x ≡ index 33 g (before .address + k)) where
-    pub no-blocks : (r : Refusal) → mapRead (putBlocks ls (x * 384)) (blocksRead i (bitsOf 6 c) (bitsLeft s n p) p) ≡ refused r → refused r ≡ mapRead (putSent g ms ls) whole
+    pub no-blocks : (r : Stopped) → mapRead {P = counted} (putBlocks ls (x * 384)) (blocksRead i (bitsOf 6 c) (bitsLeft s n (p .bit)) p) ≡ refused r → refused r ≡ mapRead (putSent g ms ls) whole
     no-blocks r e =
-        let z : blocksRead (isIntra t) (bitsOf 6 c) (bitsLeft s n p) p ≡ refused r = ap (λ (j : Bool). blocksRead j (bitsOf 6 c) (bitsLeft s n p) p) (sym w) ∙ was-refused (putBlocks ls (x * 384)) (blocksRead i (bitsOf 6 c) (bitsLeft s n p) p) r e in
-        ap (mapRead (putSent g ms ls)) (row-refused (blocksRead (isIntra t) (bitsOf 6 c)) (built t q v) h r z)
+        let z : blocksRead {P = counted} (isIntra t) (bitsOf 6 c) (bitsLeft s n (p .bit)) p ≡ refused r = ap (λ (j : Bool). blocksRead j (bitsOf 6 c) (bitsLeft s n (p .bit)) p) (sym w) ∙ was-refused (putBlocks ls (x * 384)) (blocksRead i (bitsOf 6 c) (bitsLeft s n (p .bit)) p) r e in
+        ap (mapRead (putSent g ms ls)) (row-refused (λ P. blocksRead (isIntra t) (bitsOf 6 c)) (built t q v) h r z)
 
-    pub whole-macroblock : (m l : List ℕ) (b : List Bit) (z : ℕ) → mapRead (putBlocks ls (x * 384)) (blocksRead i (bitsOf 6 c) (bitsLeft s n p) p) ≡ got l b z
+    pub whole-macroblock : (m l : List ℕ) (b : List Bit) (z : Place) → mapRead {P = counted} (putBlocks ls (x * 384)) (blocksRead i (bitsOf 6 c) (bitsLeft s n (p .bit)) p) ≡ got l b z
         → m ≡ sets ms (x * 4) (t ∷ q ∷ byteOf (v .horizontal) ∷ byteOf (v .vertical) ∷ [])
         → got (record { macroblocks = m; levels = l; before = record { address = before .address + k; vector = v } }) b z ≡ mapRead (putSent g ms ls) whole
     whole-macroblock m l b z e d =
-        let had = was-got (putBlocks ls (x * 384)) (blocksRead i (bitsOf 6 c) (bitsLeft s n p) p) l b z e in
-        let u : blocksRead (isIntra t) (bitsOf 6 c) (bitsLeft s n p) p ≡ got (had .0) b z = ap (λ (j : Bool). blocksRead j (bitsOf 6 c) (bitsLeft s n p) p) (sym w) ∙ had .1 in
+        let had = was-got (putBlocks ls (x * 384)) (blocksRead i (bitsOf 6 c) (bitsLeft s n (p .bit)) p) l b z e in
+        let u : blocksRead {P = counted} (isIntra t) (bitsOf 6 c) (bitsLeft s n (p .bit)) p ≡ got (had .0) b z = ap (λ (j : Bool). blocksRead j (bitsOf 6 c) (bitsLeft s n (p .bit)) p) (sym w) ∙ had .1 in
         let lv : l ≡ putBlocks ls (index 33 g (before .address + k) * 384) (had .0) = sym (had .2) ∙ ap (λ (j : ℕ). putBlocks ls (j * 384) (had .0)) y in
         let mv : m ≡ sets ms (index 33 g (before .address + k) * 4) (t ∷ q ∷ byteOf (v .horizontal) ∷ byteOf (v .vertical) ∷ []) = d ∙ ap (λ (j : ℕ). sets ms (j * 4) (t ∷ q ∷ byteOf (v .horizontal) ∷ byteOf (v .vertical) ∷ [])) y in
         (λ n. got (record { macroblocks = mv n; levels = lv n; before = record { address = before .address + k; vector = v } }) b z)
-        ∙ sym (ap (mapRead (putSent g ms ls)) (h .same ∙ ap (λ (r : Read (List Block)). next r (built t q v)) u))
+        ∙ sym (ap (mapRead (putSent g ms ls)) (h .same ∙ ap (λ (r : ReadIn counted (List Block)). next r (built t q v)) u))
 
 -- ---- what the reads give
 pub vector-kept : (t : Bool) (f : Format) (number address h v : ℕ) → If t (ProperVector f number address (vectorOf h v)) (vectorOf h v ≡ zeroVector) → Kept h × Kept v

@@ -12,10 +12,13 @@ use Rattle.laws.proofs.Choice.{both-left, both-right, second-no}
 use Rattle.laws.specs.Table.{allB, eqZ}
 use Rattle.laws.proofs.Table.{all-at, eqZ-yes}
 use Rattle.refusals.specs.declared.Reason.the-variants.{VectorOut}
-use Rattle.refusals.specs.declared.Refusal.{Refusal}
+use Rattle.refusals.specs.Number.{refusal}
 use Rattle.bits.specs.Bits.{Bit, bitsLeft}
-use Rattle.bits.specs.Read.{got, refused, bad, fine, against, Reader, _>>=_, done}
-use Rattle.bits.specs.Answer.{Within}
+use Rattle.bits.specs.Places.{counted, stopIn}
+use Rattle.bits.specs.Read.{got, refused, fine, against, ReaderIn, _>>=_, done}
+use Rattle.bits.specs.Answer.{Placed}
+use Rattle.bits.specs.declared.Place.{Place}
+use Rattle.bits.specs.declared.Stopped.{Stopped}
 use Rattle.bits.specs.Code.{word}
 use Rattle.bits.proofs.Codes.{each}
 use Rattle.bits.proofs.Logic.{Reads, reads-word}
@@ -63,20 +66,20 @@ table3-below : T (each (λ m. ltb m 32) (table3 .entries))
 unfolding table3
 table3-below = tt
 
-pub pair-reads : {bound : ℕ} → Reads bound 1 (λ m left. T (ltb m 32)) (word table3)
+pub pair-reads : {bound : ℕ} → Reads bound 1 (λ m left. T (ltb m 32)) (λ P. word table3)
 pair-reads = reads-word (λ m. ltb m 32) table3 table3-below
 
-module _ (p : ℕ) (h : Kept p) (bs : List Bit) (at : ℕ) where
-  pub component-refused : (r : Refusal) → word table3 bs at ≡ refused r → refused r ≡ componentRead (componentOf p) bs at
+module _ (p : ℕ) (h : Kept p) (bs : List Bit) (at : Place) where
+  pub component-refused : (r : Stopped) → word {P = counted} table3 bs at ≡ refused r → refused r ≡ componentRead {P = counted} (componentOf p) bs at
   unfolding componentRead
   component-refused r e = sym (judged-refused (word table3) (λ n. component (componentOf p) (pairOf n)) bs at r e)
 
-  module _ (n : ℕ) (cs : List Bit) (q : ℕ) (e : word table3 bs at ≡ got n cs q) (l : n < 32) where
-    pub component-out : (p + n + 16) % 32 ≡ 0 → bad VectorOut at ≡ componentRead (componentOf p) bs at
+  module _ (n : ℕ) (cs : List Bit) (q : Place) (e : word {P = counted} table3 bs at ≡ got n cs q) (l : n < 32) where
+    pub component-out : (p + n + 16) % 32 ≡ 0 → refused (stopIn counted (refusal VectorOut (at .bit)) q) ≡ componentRead {P = counted} (componentOf p) bs at
     unfolding componentRead
     component-out z = sym (judged-against (word table3) (λ n. component (componentOf p) (pairOf n)) bs at n cs q e VectorOut (landed p n h l ∙ rw (eq-eqb ((p + n + 16) % 32) 0 z)))
 
-    pub component-in : ((p + n + 16) % 32 ≡ 0 → ⊥) → got (componentOf ((p + n + 16) % 32)) cs q ≡ componentRead (componentOf p) bs at
+    pub component-in : ((p + n + 16) % 32 ≡ 0 → ⊥) → got (componentOf ((p + n + 16) % 32)) cs q ≡ componentRead {P = counted} (componentOf p) bs at
     unfolding componentRead
     component-in z = sym (judged-fine (word table3) (λ n. component (componentOf p) (pairOf n)) bs at n cs q e (componentOf ((p + n + 16) % 32)) (landed p n h l ∙ rw (ne-eqb ((p + n + 16) % 32) 0 z)))
 
@@ -88,10 +91,10 @@ kept-of x t = go (ltb x 16) refl t
     go true e h = let l = ltb-true x 16 e in let m = leb→le (suc (16 - suc x)) 15 h in record { low = omega arith; high = omega arith }
     go false e h = let l = ltb-false x 16 e in let m = leb→le (x - 16) 15 h in record { low = omega arith; high = omega arith }
 
-pub component-kept : (s : List ℕ) (n p : ℕ) (before : ℤ) (x q : ℕ) → p ≤ n → componentRead before (bitsLeft s n p) p ≡ got (componentOf x) (bitsLeft s n q) q → Kept x
+pub component-kept : (s : List ℕ) (n : ℕ) (p : Place) (before : ℤ) (x : ℕ) (q : Place) → p .bit ≤ n → componentRead {P = counted} before (bitsLeft s n (p .bit)) p ≡ got (componentOf x) (bitsLeft s n (q .bit)) q → Kept x
 component-kept s n p before x q l e = kept-of x (onward s n p (componentOf x) q (component-reads before) l e .good)
 
-pub pair-below : (s : List ℕ) (n p m q : ℕ) → p ≤ n → word table3 (bitsLeft s n p) p ≡ got m (bitsLeft s n q) q → m < 32
+pub pair-below : (s : List ℕ) (n : ℕ) (p : Place) (m : ℕ) (q : Place) → p .bit ≤ n → word {P = counted} table3 (bitsLeft s n (p .bit)) p ≡ got m (bitsLeft s n (q .bit)) q → m < 32
 pair-below s n p m q l e = ltb→lt m 32 (onward s n p m q pair-reads l e .good)
 
 -- ---- the picture's edges, for components that are kept
@@ -118,44 +121,44 @@ module _ (end from h : ℕ) (k : Kept h) where
   between l m = rw (ahead-is h k, back-is h k, le-leb (16 - h) from (omega arith), le-leb (from + (h - 16) + 16) (end + (16 - h)) (omega arith))
 
 -- ---- both components
-abbrev pub afterFirst : Vector → ℤ → Reader Vector
+abbrev pub afterFirst : Vector → ℤ → ReaderIn counted Vector
 afterFirst before h = componentRead (before .vertical) >>= λ v. done (record { horizontal = h; vertical = v })
 
-pub components-begun : (before : Vector) (s : List ℕ) (n p : ℕ) → Within s n p
-    → Row (componentsRead before (bitsLeft s n p) p) s n (componentRead (before .horizontal) >>= afterFirst before) p
+pub components-begun : (before : Vector) (s : List ℕ) (n : ℕ) (p : Place) → Placed s n p
+    → Row (componentsRead before (bitsLeft s n (p .bit)) p) s n (componentRead (before .horizontal) >>= afterFirst before) p
 unfolding componentsRead
-components-begun before s n p w = record { within = w; same = refl }
+components-begun before s n p w = record { placed = w; same = refl }
 
-module _ (f : Format) (number address : ℕ) (before : Vector) (bs : List Bit) (at : ℕ) where
-  pub vector-refused : (r : Refusal) → refused r ≡ componentsRead before bs at → refused r ≡ vectorRead f number address before bs at
+module _ (f : Format) (number address : ℕ) (before : Vector) (bs : List Bit) (at : Place) where
+  pub vector-refused : (r : Stopped) → refused r ≡ componentsRead {P = counted} before bs at → refused r ≡ vectorRead {P = counted} f number address before bs at
   unfolding vectorRead
   vector-refused r e = sym (judged-refused (componentsRead before) (pointing f number address) bs at r (sym e))
 
 -- both were got
-pub record BothRead (before : Vector) (s : List ℕ) (n at h v q : ℕ) : Type 0 where
-  pub both : got (vectorOf h v) (bitsLeft s n q) q ≡ componentsRead before (bitsLeft s n at) at
+pub record BothRead (before : Vector) (s : List ℕ) (n : ℕ) (at : Place) (h v : ℕ) (q : Place) : Type 0 where
+  pub both : got (vectorOf h v) (bitsLeft s n (q .bit)) q ≡ componentsRead {P = counted} before (bitsLeft s n (at .bit)) at
   pub kept : KeptVector h v
 
-module _ (f : Format) (number address : ℕ) {before : Vector} {s : List ℕ} {n at h v q : ℕ} (b : BothRead before s n at h v q) where
+module _ (f : Format) (number address : ℕ) {before : Vector} {s : List ℕ} {n : ℕ} {at : Place} {h v : ℕ} {q : Place} (b : BothRead before s n at h v q) where
   judged-so : (yes : Bool) → inPicture f number address (vectorOf h v) ≡ yes
-      → vectorRead f number address before (bitsLeft s n at) at ≡ pick yes (got (vectorOf h v) (bitsLeft s n q) q) (bad VectorOut at)
+      → vectorRead {P = counted} f number address before (bitsLeft s n (at .bit)) at ≡ pick yes (got (vectorOf h v) (bitsLeft s n (q .bit)) q) (refused (stopIn counted (refusal VectorOut (at .bit)) q))
   unfolding vectorRead
-  judged-so true i = judged-fine (componentsRead before) (pointing f number address) (bitsLeft s n at) at (vectorOf h v) (bitsLeft s n q) q (sym (b .both)) (vectorOf h v) (rw i)
-  judged-so false i = judged-against (componentsRead before) (pointing f number address) (bitsLeft s n at) at (vectorOf h v) (bitsLeft s n q) q (sym (b .both)) VectorOut (rw i)
+  judged-so true i = judged-fine (componentsRead before) (pointing f number address) (bitsLeft s n (at .bit)) at (vectorOf h v) (bitsLeft s n (q .bit)) q (sym (b .both)) (vectorOf h v) (rw i)
+  judged-so false i = judged-against (componentsRead before) (pointing f number address) (bitsLeft s n (at .bit)) at (vectorOf h v) (bitsLeft s n (q .bit)) q (sym (b .both)) VectorOut (rw i)
 
-  pub vector-left : column number address + h < 16 → bad VectorOut at ≡ vectorRead f number address before (bitsLeft s n at) at
+  pub vector-left : column number address + h < 16 → refused (stopIn counted (refusal VectorOut (at .bit)) q) ≡ vectorRead {P = counted} f number address before (bitsLeft s n (at .bit)) at
   vector-left l = sym (judged-so false (rw (before-edge (width (sizeOf f)) (column number address) h (b .kept .horizontally) l)))
 
-  pub vector-right : width (sizeOf f) < column number address + h → bad VectorOut at ≡ vectorRead f number address before (bitsLeft s n at) at
+  pub vector-right : width (sizeOf f) < column number address + h → refused (stopIn counted (refusal VectorOut (at .bit)) q) ≡ vectorRead {P = counted} f number address before (bitsLeft s n (at .bit)) at
   vector-right l = sym (judged-so false (rw (past-edge (width (sizeOf f)) (column number address) h (b .kept .horizontally) l)))
 
-  pub vector-above : row number address + v < 16 → bad VectorOut at ≡ vectorRead f number address before (bitsLeft s n at) at
+  pub vector-above : row number address + v < 16 → refused (stopIn counted (refusal VectorOut (at .bit)) q) ≡ vectorRead {P = counted} f number address before (bitsLeft s n (at .bit)) at
   vector-above l = sym (judged-so false (rw (before-edge (height (sizeOf f)) (row number address) v (b .kept .vertically) l) (second-no (inside (width (sizeOf f)) (column number address) (componentOf h)) false refl)))
 
-  pub vector-below : height (sizeOf f) < row number address + v → bad VectorOut at ≡ vectorRead f number address before (bitsLeft s n at) at
+  pub vector-below : height (sizeOf f) < row number address + v → refused (stopIn counted (refusal VectorOut (at .bit)) q) ≡ vectorRead {P = counted} f number address before (bitsLeft s n (at .bit)) at
   vector-below l = sym (judged-so false (rw (past-edge (height (sizeOf f)) (row number address) v (b .kept .vertically) l) (second-no (inside (width (sizeOf f)) (column number address) (componentOf h)) false refl)))
 
   pub vector-inside : 16 ≤ column number address + h → column number address + h ≤ width (sizeOf f) → 16 ≤ row number address + v → row number address + v ≤ height (sizeOf f)
-      → got (vectorOf h v) (bitsLeft s n q) q ≡ vectorRead f number address before (bitsLeft s n at) at
+      → got (vectorOf h v) (bitsLeft s n (q .bit)) q ≡ vectorRead {P = counted} f number address before (bitsLeft s n (at .bit)) at
   vector-inside l m c w =
       sym (judged-so true (rw (between (width (sizeOf f)) (column number address) h (b .kept .horizontally) l m, between (height (sizeOf f)) (row number address) v (b .kept .vertically) c w)))

@@ -1,15 +1,18 @@
--- The code's answers as reads. A layer writes the description as it reads: its answer is the place where it ended, or the refusal. Assumes nothing.
-use Prim.Native.Nat.{ℕ, _*_, _≤_, _<_}
+-- The code's answers as reads that count. A layer writes the description as it reads: its answer is the place where it ended, or the refusal. Assumes nothing.
+use Prim.Native.Nat.{ℕ, _+_, _*_, _≤_, _<_}
 use mathlib.Core.List.{List}
 use lib.IntN.{ℤ, pos, _-ℤ_}
 use lib.Dec.{eqb}
 use lib.Seq.{sets}
 use Rattle.laws.specs.Choice.{pick}
-use Rattle.refusals.specs.declared.Reason.the-variants.{BitsEnd, NoStartCode}
-use Rattle.refusals.specs.declared.Refusal.{Refusal}
+use Rattle.refusals.specs.declared.Reason.the-variants.{NoStartCode}
 use Rattle.refusals.specs.Number.{refusal}
 use Rattle.bits.specs.Bits.{bitsLeft}
-use Rattle.bits.specs.Read.{Read, got, refused, Judged, fine, against}
+use Rattle.bits.specs.Places.{counted, stopIn}
+use Rattle.bits.specs.Read.{ReadIn, got, refused, Judged, fine, against}
+use Rattle.bits.specs.Answer.{fieldRefusal}
+use Rattle.bits.specs.declared.Place.{Place}
+use Rattle.bits.specs.declared.Stopped.{Stopped}
 use Rattle.bits.specs.declared.FieldRead.{FieldRead}
 use Rattle.bits.specs.declared.FieldRead.the-variants.{Got as GotField, Refused as NoField}
 use Rattle.h261_groups.specs.declared.Format.{Format}
@@ -19,24 +22,25 @@ use Rattle.layout.specs.Value.{Vector, Macroblock}
 use Rattle.h261_description.specs.Vector.{Before}
 use Rattle.h261_description.specs.Value.{beforeNext}
 use Rattle.layout.specs.Flat.{index, fieldsOf, putBlocks}
-use Rattle.h261_layers.specs.Grammar.{Mba, step, stuffed, ended, ptypeOf, Header}
-use Rattle.bits.specs.declared.FieldRead.{FieldRead}
-use Rattle.bits.specs.declared.FieldRead.the-variants.{Got as GotField, Refused as NoField}
+use Rattle.fields.specs.Answer.{placeOf, bitsEndAt}
+use Rattle.fields.specs.declared.NumberRead.{NumberRead}
+use Rattle.fields.specs.declared.NumberRead.the-variants.{Got as GotNumber, Refused as NoNumber}
 use Rattle.fields.specs.declared.PairRead.{PairRead}
 use Rattle.fields.specs.declared.PairRead.the-variants.{Got as GotPair, Refused as NoPair}
 use Rattle.fields.specs.declared.PlaceRead.{PlaceRead}
 use Rattle.fields.specs.declared.PlaceRead.the-variants.{At, Refused}
+use Rattle.h261_layers.specs.Grammar.{Mba, step, stuffed, ended, ptypeOf, Header}
 use Rattle.h261_layers.specs.declared.MbaRead.{MbaRead}
 use Rattle.h261_layers.specs.declared.MbaRead.the-variants.{Step, Stuffing, Ended, Refused as NoMba}
 use Rattle.h261_layers.specs.declared.MacroblockRead.{MacroblockRead}
 use Rattle.h261_layers.specs.declared.MacroblockRead.the-variants.{Got as GotMacroblock, Refused as NoMacroblock}
 use Rattle.h261_layers.specs.declared.Behind.{Behind}
 
--- where a block ended: at EOB, or by the refusal; of a coefficient it is never asked
-abbrev pub blockEnd : CoefficientRead → PlaceRead
-blockEnd (Coefficient run code p) = At p
-blockEnd (EndOfBlock p) = At p
-blockEnd (NoCoefficient r) = Refused r
+-- where a block ended, after so many reads: at EOB, or by the refusal; of a coefficient it is never asked
+abbrev pub blockEnd : ℕ → CoefficientRead → PlaceRead
+blockEnd reads (Coefficient run code p) = At (placeOf p reads)
+blockEnd reads (EndOfBlock p) = At (placeOf p reads)
+blockEnd reads (NoCoefficient r) = Refused (record { refusal = r; reads = reads })
 
 -- ---- vectors: the code keeps a component as 16 more than it is
 abbrev pub componentOf : ℕ → ℤ
@@ -55,12 +59,12 @@ pub record KeptVector (horizontal vertical : ℕ) : Type 0 where
 abbrev pub vectorOf : ℕ → ℕ → Vector
 vectorOf h v = record { horizontal = componentOf h; vertical = componentOf v }
 
-abbrev pub asComponent : List ℕ → ℕ → FieldRead → Read ℤ
-asComponent s n (GotField x p) = got (componentOf x) (bitsLeft s n p) p
-asComponent s n (NoField r) = refused r
+abbrev pub asComponent : List ℕ → ℕ → NumberRead → ReadIn counted ℤ
+asComponent s n (GotNumber x p) = got (componentOf x) (bitsLeft s n (p .bit)) p
+asComponent s n (NoNumber r) = refused r
 
-abbrev pub asVector : List ℕ → ℕ → PairRead → Read Vector
-asVector s n (GotPair h v p) = got (vectorOf h v) (bitsLeft s n p) p
+abbrev pub asVector : List ℕ → ℕ → PairRead → ReadIn counted Vector
+asVector s n (GotPair h v p) = got (vectorOf h v) (bitsLeft s n (p .bit)) p
 asVector s n (NoPair r) = refused r
 
 -- ---- macroblocks
@@ -70,10 +74,10 @@ beforeOf b = record { address = b .address; vector = vectorOf (b .horizontal) (b
 abbrev pub KeptBehind : Behind → Type 0
 KeptBehind b = KeptVector (b .horizontal) (b .vertical)
 
-abbrev pub asMba : List ℕ → ℕ → MbaRead → Read Mba
-asMba s n (Step k p) = got (step k) (bitsLeft s n p) p
-asMba s n (Stuffing p) = got stuffed (bitsLeft s n p) p
-asMba s n (Ended p) = got ended (bitsLeft s n p) p
+abbrev pub asMba : List ℕ → ℕ → MbaRead → ReadIn counted Mba
+asMba s n (Step k p) = got (step k) (bitsLeft s n (p .bit)) p
+asMba s n (Stuffing p) = got stuffed (bitsLeft s n (p .bit)) p
+asMba s n (Ended p) = got ended (bitsLeft s n (p .bit)) p
 asMba s n (NoMba r) = refused r
 
 -- the two buffers with a macroblock of group g laid out in them, and what it leaves behind
@@ -89,17 +93,17 @@ putSent g macroblocks levels m = record {
   before = beforeNext m;
 }
 
-abbrev pub asMacroblock : List ℕ → ℕ → MacroblockRead → List ℕ → List ℕ → Read Sent
-asMacroblock s n (GotMacroblock b p) macroblocks levels = got (record { macroblocks = macroblocks; levels = levels; before = beforeOf b }) (bitsLeft s n p) p
+abbrev pub asMacroblock : List ℕ → ℕ → MacroblockRead → List ℕ → List ℕ → ReadIn counted Sent
+asMacroblock s n (GotMacroblock b p) macroblocks levels = got (record { macroblocks = macroblocks; levels = levels; before = beforeOf b }) (bitsLeft s n (p .bit)) p
 asMacroblock s n (NoMacroblock r) macroblocks levels = refused r
 
-abbrev pub macroblockRefusal : MacroblockRead → Refusal
-macroblockRefusal (GotMacroblock b p) = refusal BitsEnd p
-macroblockRefusal (NoMacroblock r) = r
+abbrev pub macroblockStopped : MacroblockRead → Stopped
+macroblockStopped (GotMacroblock b p) = bitsEndAt p
+macroblockStopped (NoMacroblock r) = r
 
 -- ---- the picture
-abbrev pub asHeader : List ℕ → ℕ → PairRead → Read Header
-asHeader s n (GotPair tr ptype p) = got (record { tr = tr; ptype = ptype }) (bitsLeft s n p) p
+abbrev pub asHeader : List ℕ → ℕ → PairRead → ReadIn counted Header
+asHeader s n (GotPair tr ptype p) = got (record { tr = tr; ptype = ptype }) (bitsLeft s n (p .bit)) p
 asHeader s n (NoPair r) = refused r
 
 -- a field that was got is below m
@@ -107,26 +111,40 @@ abbrev pub Below : ℕ → FieldRead → Type 0
 Below m (GotField x p) = x < m
 Below m (NoField r) = Unit {0}
 
--- the refusal of a read that was refused, else what comes of its meaning and its next place
-abbrev pub andThen : FieldRead → (ℕ → ℕ → PairRead) → PairRead
-andThen (GotField x p) rest = rest x p
-andThen (NoField r) rest = NoPair r
+-- spares that were got have a low number of reads
+abbrev pub Counted : PlaceRead → Type 0
+Counted (At p) = p .reads < 4294967296
+Counted (Refused r) = Unit {0}
+
+-- the refusal of a field that was refused, with so many reads; of another it is never asked
+abbrev pub refusedAfter : ℕ → FieldRead → Stopped
+refusedAfter reads read = record { refusal = fieldRefusal read; reads = reads }
+
+-- a field after so many reads: its refusal, one read more; else what comes of its meaning and its next place
+abbrev pub andThen : ℕ → FieldRead → (ℕ → Place → PairRead) → PairRead
+andThen reads (GotField x p) rest = rest x (placeOf p (reads + 1))
+andThen reads (NoField r) rest = NoPair (record { refusal = r; reads = reads + 1 })
 
 -- the refusal of a field against its rule, placed where it began, else what comes of its meaning
-abbrev pub ruled : Judged ℕ → ℕ → (ℕ → PairRead) → PairRead
-ruled (fine x) at rest = rest x
-ruled (against reason) at rest = NoPair (refusal reason at)
+abbrev pub ruled : Judged ℕ → ℕ → Place → (ℕ → PairRead) → PairRead
+ruled (fine x) at next rest = rest x
+ruled (against reason) at next rest = NoPair (stopIn counted (refusal reason at) next)
+
+-- what comes of the spares
+abbrev pub afterSpare : PlaceRead → (Place → PairRead) → PairRead
+afterSpare (At p) rest = rest p
+afterSpare (Refused r) rest = NoPair r
 
 -- refusal 4: "PSC or GBSC expected and not there"
 abbrev pub codeIs : ℕ → ℕ → Judged ℕ
 codeIs code x = pick (eqb x code) (fine x) (against NoStartCode)
 
 -- what the five reads of a header come to
-unfoldable pub headerOf : Format → ℕ → FieldRead → FieldRead → FieldRead → FieldRead → FieldRead → PairRead
+unfoldable pub headerOf : Format → ℕ → FieldRead → FieldRead → FieldRead → PlaceRead → FieldRead → PairRead
 headerOf f at psc tr ptype spare gbsc =
-    andThen psc (λ x p. ruled (codeIs 16 x) at (λ start.
-    andThen tr (λ reference at-ptype.
-    andThen ptype (λ y q. ruled (ptypeOf f y) at-ptype (λ information.
-    andThen spare (λ dropped at-gbsc.
-    andThen gbsc (λ z next. ruled (codeIs 1 z) at-gbsc (λ group.
+    andThen 0 psc (λ x p. ruled (codeIs 16 x) at p (λ start.
+    andThen 1 tr (λ reference at-ptype.
+    andThen 2 ptype (λ y q. ruled (ptypeOf f y) (at-ptype .bit) q (λ information.
+    afterSpare spare (λ at-gbsc.
+    andThen (at-gbsc .reads) gbsc (λ z next. ruled (codeIs 1 z) (at-gbsc .bit) next (λ group.
     GotPair reference information next))))))))

@@ -6,9 +6,11 @@ use mathlib.Core.List.{List, [], _∷_}
 use lib.Dec.{leb, ltb, eqb}
 use lib.ListN.{length}
 use Rattle.laws.specs.Choice.{pick, both, either}
-use Rattle.refusals.specs.declared.Reason.the-variants.{Count, NoStartCode, OtherFormat, OtherGroup, AddressPast, Forbidden, CoefficientPast, StartCodeLast}
+use Rattle.refusals.specs.declared.Reason.the-variants.{Count, NoStartCode, OtherFormat, OtherGroup, AddressPast, Forbidden, CoefficientPast, AfterLast}
+use Rattle.refusals.specs.Number.{refusal}
 use Rattle.bits.specs.Bits.{Bit, O, I, bitsOf, source}
-use Rattle.bits.specs.Read.{Read, bad, Reader, _>>=_, done, field, Judged, fine, against, judgedRead, orEnd, loop, never}
+use Rattle.bits.specs.Places.{Places, plain, listed, PlaceIn, stopIn, unreadPlace}
+use Rattle.bits.specs.Read.{ReadIn, Read, refused, ReaderIn, widthsIn, _>>=_, done, field, Judged, fine, against, judgedRead, orEnd, loop, never}
 use Rattle.bits.specs.Code.{CodeTable, word}
 use Rattle.fields.specs.Rules.{expect, quantiser, spares, optional}
 use Rattle.h261_words.specs.Tables.{table1, table2, table4, stuffing, startCode, firstTable5, laterTable5}
@@ -29,31 +31,31 @@ fits room (sent c) = pick (leb room (c .run)) (against CoefficientPast) (fine (s
 fits room over = fine over
 
 -- EOB ends a block; after a coefficient come the others
-abbrev pub coefficientsAfter : (ℕ → Reader Block) → ℕ → Event → Reader Block
+abbrev pub coefficientsAfter : {P : Places} → (ℕ → ReaderIn P Block) → ℕ → Event → ReaderIn P Block
 coefficientsAfter more room over = done []
 coefficientsAfter more room (sent c) = more (room - suc (c .run)) >>= λ rest. done (c ∷ rest)
 
-unfoldable pub coefficients : ℕ → ℕ → CodeTable → Reader Block
+unfoldable pub coefficients : {P : Places} → ℕ → ℕ → CodeTable → ReaderIn P Block
 coefficients zero room table = never
 coefficients (suc turns) room table =
     judgedRead (coefficientRead table) (fits room) >>= coefficientsAfter (λ left. coefficients turns left laterTable5) room
 
 -- "each with an 8-bit DC code first"; refusal 10: "DC codes 0 and 128 are forbidden"
-abbrev pub dcRead : Reader ℕ
+abbrev pub dcRead : {P : Places} → ReaderIn P ℕ
 dcRead = judgedRead (field 8) (λ code. pick (forbidden code) (against Forbidden) (fine code))
 
-unfoldable pub intraBlock : Reader Block
+unfoldable pub intraBlock : {P : Places} → ReaderIn P Block
 intraBlock = do
   dc ← dcRead
   rest ← loop (λ turns. coefficients turns 63 laterTable5)
   done (coefficient 0 dc ∷ rest)
 
 -- "In a non-INTRA block the first coefficient uses "1s" for run 0, level 1, and EOB can't come first."
-unfoldable pub interBlock : Reader Block
+unfoldable pub interBlock : {P : Places} → ReaderIn P Block
 interBlock = loop (λ turns. coefficients turns 64 firstTable5)
 
 -- the blocks that a pattern names, most significant bit first; the others are empty
-unfoldable pub blocksRead : Bool → List Bit → Reader (List Block)
+unfoldable pub blocksRead : {P : Places} → Bool → List Bit → ReaderIn P (List Block)
 blocksRead intra [] = done []
 blocksRead intra (O ∷ pattern) = do
   rest ← blocksRead intra pattern
@@ -64,12 +66,12 @@ blocksRead intra (I ∷ pattern) = do
   done (block ∷ rest)
 
 -- "INTRA sends all six ..; other types those in CBP."
-abbrev pub patternRead : ℕ → Reader ℕ
+abbrev pub patternRead : {P : Places} → ℕ → ReaderIn P ℕ
 patternRead type = optional (hasCBP type) (pick (isIntra type) 63 0) (word table4)
 
 -- ---- macroblocks
 -- "Macroblock: MBA (Table 1; stuffing is dropped), MTYPE, MQUANT 5, MVD, CBP as the type says." MBA is read: a step from the last address
-unfoldable pub macroblock : Format → ℕ → Before → ℕ → Reader Macroblock
+unfoldable pub macroblock : {P : Places} → Format → ℕ → Before → ℕ → ReaderIn P Macroblock
 macroblock f group before step = do
   type ← word table2
   mquant ← optional (hasMQUANT type) 0 quantiser
@@ -88,16 +90,16 @@ pub data Mba : Type 0 where
 abbrev pub mbaOf : Bool → ℕ → ℕ → Judged Mba
 mbaOf last address m =
     pick (eqb m stuffing) (fine stuffed)
-    (pick (eqb m startCode) (pick last (against StartCodeLast) (fine ended))
+    (pick (eqb m startCode) (pick last (against AfterLast) (fine ended))
     (pick (ltb 33 (address + m)) (against AddressPast) (fine (step m))))
 
 -- "At an MBA place the start code is a codeword too; in the last group, no bits left there ends the picture."
-unfoldable pub mba : Bool → ℕ → Reader Mba
+unfoldable pub mba : {P : Places} → Bool → ℕ → ReaderIn P Mba
 mba true address = orEnd ended (judgedRead (word table1) (mbaOf true address))
 mba false address = judgedRead (word table1) (mbaOf false address)
 
 -- the macroblocks from what stands at an MBA place on
-abbrev pub macroblocksAfter : (Before → Reader (List Macroblock)) → Format → ℕ → Before → Mba → Reader (List Macroblock)
+abbrev pub macroblocksAfter : {P : Places} → (Before → ReaderIn P (List Macroblock)) → Format → ℕ → Before → Mba → ReaderIn P (List Macroblock)
 macroblocksAfter more f group before (step s) = do
   x ← macroblock f group before s
   xs ← more (beforeNext x)
@@ -106,21 +108,21 @@ macroblocksAfter more f group before stuffed = more before
 macroblocksAfter more f group before ended = done []
 
 -- "A group ends at the next GBSC, the last one at bit N."
-unfoldable pub macroblocksFrom : ℕ → Format → Bool → ℕ → Before → Reader (List Macroblock)
+unfoldable pub macroblocksFrom : {P : Places} → ℕ → Format → Bool → ℕ → Before → ReaderIn P (List Macroblock)
 macroblocksFrom zero f last group before = never
 macroblocksFrom (suc turns) f last group before =
     mba last (before .address) >>= macroblocksAfter (macroblocksFrom turns f last group) f group before
 
 -- ---- groups
 -- "Group: GBSC (16 bits), GN 4, GQUANT 5, GEI and spares as above, macroblocks." The first GBSC is read by `picture`, each later one at an MBA place. Refusal 6: "GN not the next one"
-unfoldable pub groupHead : ℕ → Reader ℕ
+unfoldable pub groupHead : {P : Places} → ℕ → ReaderIn P ℕ
 groupHead number = do
   gn ← expect 4 number OtherGroup
   gquant ← quantiser
   dropped ← spares
   done gquant
 
-unfoldable pub group : Format → Bool → ℕ → Reader Group
+unfoldable pub group : {P : Places} → Format → Bool → ℕ → ReaderIn P Group
 group f last number = do
   gquant ← groupHead number
   macroblocks ← loop (λ turns. macroblocksFrom turns f last number atStart)
@@ -131,7 +133,7 @@ none [] = true
 none (x ∷ xs) = false
 
 -- "Groups follow, all of them, in order"
-unfoldable pub groupsRead : Format → List ℕ → Reader (List Group)
+unfoldable pub groupsRead : {P : Places} → Format → List ℕ → ReaderIn P (List Group)
 groupsRead f [] = done []
 groupsRead f (number ∷ numbers) = do
   x ← group f (none numbers) number
@@ -149,7 +151,7 @@ pub record Header : Type 0 where
   pub ptype : ℕ
 
 -- "Picture: PSC (20 bits, 0000 0000 0000 0001 0000), TR 5, PTYPE 6, PEI .." and the first GBSC. Refusal 4: "PSC or GBSC expected and not there"
-unfoldable pub header : Format → Reader Header
+unfoldable pub header : {P : Places} → Format → ReaderIn P Header
 header f = do
   psc ← expect 20 0b00000000000000010000 NoStartCode
   tr ← field 5
@@ -158,13 +160,23 @@ header f = do
   gbsc ← expect 16 0b0000000000000001 NoStartCode
   done (record { tr = tr; ptype = ptype })
 
-unfoldable pub picture : Format → Reader Picture
+unfoldable pub picture : {P : Places} → Format → ReaderIn P Picture
 picture f = do
   head ← header f
   groups ← groupsRead f (groupNumbers f)
   done (record { tr = head .tr; ptype = head .ptype; groups = groups })
 
--- "A picture is a lent slice and a count of N bits ..; the picture is exactly those bits." Refusal 2: "N above 8 times the slice, or above the format's limit"
+-- "A picture is a lent slice and a count of N bits ..; the picture is exactly those bits." Refusal 2: "N above 8 times the slice, or above the format's limit". From a place before all bits
+abbrev pub readingFrom : {P : Places} → PlaceIn P → Format → List ℕ → ℕ → ReadIn P Picture
+readingFrom {P} start f bytes n =
+    pick (either (ltb (8 * length bytes) n) (ltb (limit (sizeOf f)) n)) (refused (stopIn P (refusal Count 0) start)) (picture f (source bytes n) start)
+
 unfoldable pub reading : Format → List ℕ → ℕ → Read Picture
-reading f bytes n =
-    pick (either (ltb (8 * length bytes) n) (ltb (limit (sizeOf f)) n)) (bad Count 0) (picture f (source bytes n) 0)
+reading f bytes n = readingFrom {P = plain} 0 f bytes n
+
+-- ---- document 02, T-13: "the list of reads that the rules give for those bits, also up to a refusal"
+unfoldable pub readingListed : Format → List ℕ → ℕ → ReadIn listed Picture
+readingListed f bytes n = readingFrom unreadPlace f bytes n
+
+abbrev pub readWidths : Format → List ℕ → ℕ → List ℕ
+readWidths f bytes n = widthsIn (readingListed f bytes n)

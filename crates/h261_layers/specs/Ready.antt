@@ -2,16 +2,17 @@
 use Prim.Native.Nat.{ℕ, _+_, _*_, _≤_}
 use mathlib.Core.List.{List}
 use lib.ListN.{length}
-use Rattle.bits.specs.Answer.{Within}
+use Rattle.bits.specs.Answer.{Placed}
+use Rattle.bits.specs.declared.Place.{Place}
 use Rattle.h261_words.specs.Lookup.{Tables}
 use Rattle.h261_groups.specs.Format.{Addressed}
 use Rattle.h261_layers.specs.Answer.{Kept, KeptBehind}
 use Rattle.h261_layers.specs.declared.Behind.{Behind}
 
 -- the tables of codewords, and a place within the bits
-pub record Reading (tables bytes : List ℕ) (count at : ℕ) : Type 0 where
+pub record Reading (tables bytes : List ℕ) (count : ℕ) (at : Place) : Type 0 where
   pub tabled : Tables tables
-  pub within : Within bytes count at
+  pub placed : Placed bytes count at
 
 -- levels from a place to an end, which the slice has
 pub record Span (from end : ℕ) (levels : List ℕ) : Type 0 where

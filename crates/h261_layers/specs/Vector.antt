@@ -4,7 +4,8 @@ use lib.Dec.{ltb}
 use lib.IntN.{ℤ, pos, _+ℤ_, _-ℤ_}
 use Rattle.laws.specs.Choice.{pick}
 use Rattle.refusals.specs.declared.Reason.the-variants.{VectorOut}
-use Rattle.bits.specs.Read.{Reader, done, Judged, fine, against, judgedRead, _>>=_}
+use Rattle.bits.specs.Places.{Places}
+use Rattle.bits.specs.Read.{ReaderIn, done, Judged, fine, against, judgedRead, _>>=_}
 use Rattle.bits.specs.Code.{word}
 use Rattle.h261_words.specs.Tables.{table3}
 use Rattle.h261_groups.specs.declared.Format.{Format}
@@ -29,11 +30,11 @@ landing a b = pick (inRange a) (fine a) (pick (inRange b) (fine b) (against Vect
 abbrev pub component : ℤ → Pair → Judged ℤ
 component preceding pair = landing (preceding +ℤ pair .printed) (preceding +ℤ pair .other)
 
-unfoldable pub componentRead : ℤ → Reader ℤ
+unfoldable pub componentRead : {P : Places} → ℤ → ReaderIn P ℤ
 componentRead preceding = judgedRead (word table3) (λ n. component preceding (pairOf n))
 
 -- ---- both: horizontal, then vertical
-unfoldable pub componentsRead : Vector → Reader Vector
+unfoldable pub componentsRead : {P : Places} → Vector → ReaderIn P Vector
 componentsRead preceding = do
   h ← componentRead (preceding .horizontal)
   v ← componentRead (preceding .vertical)
@@ -43,5 +44,5 @@ componentsRead preceding = do
 abbrev pub pointing : Format → ℕ → ℕ → Vector → Judged Vector
 pointing f group address v = pick (inPicture f group address v) (fine v) (against VectorOut)
 
-unfoldable pub vectorRead : Format → ℕ → ℕ → Vector → Reader Vector
+unfoldable pub vectorRead : {P : Places} → Format → ℕ → ℕ → Vector → ReaderIn P Vector
 vectorRead f group address preceding = judgedRead (componentsRead preceding) (pointing f group address)

@@ -1,8 +1,11 @@
 // The blocks of a macroblock: their coefficients, laid out in the levels as they are read.
-use bits::FieldRead;
-use bits::field_refusal;
+use bits::Place;
+use bits::Stopped;
+use fields::NumberRead;
 use fields::PlaceRead;
-use fields::place_refusal;
+use fields::number_stopped;
+use fields::once;
+use fields::place_stopped;
 use h261_words::CoefficientRead;
 use h261_words::WordTables;
 use refusals::Reason;
@@ -20,14 +23,14 @@ ghost use Rattle.h261_layers.specs.Answer.{blockEnd};
 ghost use Rattle.h261_layers.specs.Ready.{Reading, Span};
 ghost use Rattle.h261_layers.specs.Grammar.{coefficients as coefficientsRead, intraBlock, interBlock, blocksRead};
 
-// Where a block ended: at EOB, or by the refusal.
-fn block_end(read: CoefficientRead) -> PlaceRead
-    ensures { λ r. ⌜ r ≡ blockEnd read ⌝ }
+// Where a block ended, after so many reads: at EOB, or by the refusal.
+fn block_end(reads: usize, read: CoefficientRead) -> PlaceRead
+    ensures { λ r. ⌜ r ≡ blockEnd reads read ⌝ }
 {
     match read {
-        CoefficientRead::Coefficient(_, _, at) => PlaceRead::At(at),
-        CoefficientRead::EndOfBlock(at) => PlaceRead::At(at),
-        CoefficientRead::Refused(refusal) => PlaceRead::Refused(refusal),
+        CoefficientRead::Coefficient(_, _, bit) => PlaceRead::At(Place { bit, reads }),
+        CoefficientRead::EndOfBlock(bit) => PlaceRead::At(Place { bit, reads }),
+        CoefficientRead::Refused(refusal) => PlaceRead::Refused(Stopped { refusal, reads }),
     }
 }
 
@@ -36,33 +39,37 @@ fn coefficients(
     tables: &WordTables,
     bytes: &[u8],
     count: usize,
-    at: usize,
+    at: Place,
     opening: bool,
     levels: &mut [u8],
     from: usize,
     end: usize,
 ) -> PlaceRead
     requires { ⌜ (Reading (now tables) (now bytes) count at) × (Span from end (now levels)) ⌝ }
-    ensures { λ r. ⌜ leaving (now (bytes .entry)) count r (now (levels .exit)) ≡ mapRead (putBlock (now (levels .entry)) from) (loop (λ turns. coefficientsRead turns (end - from) (tableOf opening)) (bitsLeft (now (bytes .entry)) count at) at) ⌝ }
+    ensures { λ r. ⌜ leaving (now (bytes .entry)) count r (now (levels .exit)) ≡ mapRead (putBlock (now (levels .entry)) from) (loop (λ turns. coefficientsRead turns (end - from) (tableOf opening)) (bitsLeft (now (bytes .entry)) count (at .bit)) at) ⌝ }
 {
     let mut place = at;
     let mut first = opening;
     let mut k = from;
     loop {
-        let read = h261_words::coefficient(tables, bytes, count, place, first);
+        let read = h261_words::coefficient(tables, bytes, count, place.bit, first);
+        let reads = place.reads + 1;
         let CoefficientRead::Coefficient(run, code, next) = read else {
-            return block_end(read);
+            return block_end(reads, read);
         };
         let to = k + (run as usize);
         if end <= to {
-            return PlaceRead::Refused(Refusal {
-                reason: Reason::CoefficientPast,
-                place,
+            return PlaceRead::Refused(Stopped {
+                refusal: Refusal {
+                    reason: Reason::CoefficientPast,
+                    place: place.bit,
+                },
+                reads,
             });
         }
         levels[to] = code;
         k = to + 1;
-        place = next;
+        place = Place { bit: next, reads };
         first = false;
     }
 }
@@ -72,21 +79,24 @@ fn intra_block(
     tables: &WordTables,
     bytes: &[u8],
     count: usize,
-    at: usize,
+    at: Place,
     levels: &mut [u8],
     base: usize,
 ) -> PlaceRead
     requires { ⌜ (Reading (now tables) (now bytes) count at) × (base + 64 ≤ length (now levels)) ⌝ }
-    ensures { λ r. ⌜ leaving (now (bytes .entry)) count r (now (levels .exit)) ≡ mapRead (putBlock (now (levels .entry)) base) (intraBlock (bitsLeft (now (bytes .entry)) count at) at) ⌝ }
+    ensures { λ r. ⌜ leaving (now (bytes .entry)) count r (now (levels .exit)) ≡ mapRead (putBlock (now (levels .entry)) base) (intraBlock (bitsLeft (now (bytes .entry)) count (at .bit)) at) ⌝ }
 {
-    let read = bits::field(bytes, count, at, 8);
-    let FieldRead::Got(code, next) = read else {
-        return PlaceRead::Refused(field_refusal(read));
+    let read = once(at, bits::field(bytes, count, at.bit, 8));
+    let NumberRead::Got(code, next) = read else {
+        return PlaceRead::Refused(number_stopped(read));
     };
     if code % 128 == 0 {
-        return PlaceRead::Refused(Refusal {
-            reason: Reason::Forbidden,
-            place: at,
+        return PlaceRead::Refused(Stopped {
+            refusal: Refusal {
+                reason: Reason::Forbidden,
+                place: at.bit,
+            },
+            reads: next.reads,
         });
     }
     levels[base] = code as u8;
@@ -106,13 +116,13 @@ fn one_block(
     tables: &WordTables,
     bytes: &[u8],
     count: usize,
-    at: usize,
+    at: Place,
     intra: bool,
     levels: &mut [u8],
     base: usize,
 ) -> PlaceRead
     requires { ⌜ (Reading (now tables) (now bytes) count at) × (base + 64 ≤ length (now levels)) ⌝ }
-    ensures { λ r. ⌜ leaving (now (bytes .entry)) count r (now (levels .exit)) ≡ mapRead (putBlock (now (levels .entry)) base) (pick intra intraBlock interBlock (bitsLeft (now (bytes .entry)) count at) at) ⌝ }
+    ensures { λ r. ⌜ leaving (now (bytes .entry)) count r (now (levels .exit)) ≡ mapRead (putBlock (now (levels .entry)) base) (pick intra intraBlock interBlock (bitsLeft (now (bytes .entry)) count (at .bit)) at) ⌝ }
 {
     if intra {
         return intra_block(tables, bytes, count, at, levels, base);
@@ -125,14 +135,14 @@ pub fn blocks(
     tables: &WordTables,
     bytes: &[u8],
     count: usize,
-    at: usize,
+    at: Place,
     intra: bool,
     pattern: u32,
     levels: &mut [u8],
     base: usize,
 ) -> PlaceRead
     requires { ⌜ (Reading (now tables) (now bytes) count at) × (base + 384 ≤ length (now levels)) ⌝ }
-    ensures { λ r. ⌜ leaving (now (bytes .entry)) count r (now (levels .exit)) ≡ mapRead (putBlocks (now (levels .entry)) base) (blocksRead intra (bitsOf 6 pattern) (bitsLeft (now (bytes .entry)) count at) at) ⌝ }
+    ensures { λ r. ⌜ leaving (now (bytes .entry)) count r (now (levels .exit)) ≡ mapRead (putBlocks (now (levels .entry)) base) (blocksRead intra (bitsOf 6 pattern) (bitsLeft (now (bytes .entry)) count (at .bit)) at) ⌝ }
 {
     let mut place = at;
     for b in 0..6 {
@@ -140,7 +150,7 @@ pub fn blocks(
         if (pattern >> after) % 2 == 1 {
             let read = one_block(tables, bytes, count, place, intra, levels, base + b * 64);
             let PlaceRead::At(next) = read else {
-                return PlaceRead::Refused(place_refusal(read));
+                return PlaceRead::Refused(place_stopped(read));
             };
             place = next;
         }

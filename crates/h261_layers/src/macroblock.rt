@@ -4,12 +4,15 @@ use crate::MacroblockRead;
 use crate::MbaRead;
 use crate::block::blocks;
 use crate::vector::vector;
-use bits::FieldRead;
-use bits::field_refusal;
+use bits::Place;
+use bits::Stopped;
+use fields::NumberRead;
 use fields::PairRead;
 use fields::PlaceRead;
-use fields::pair_refusal;
-use fields::place_refusal;
+use fields::number_stopped;
+use fields::once;
+use fields::pair_stopped;
+use fields::place_stopped;
 use fields::quantiser;
 use h261_description::restarts;
 use h261_groups::Format;
@@ -29,7 +32,7 @@ ghost use lib.Seq.{sets};
 ghost use Rattle.bits.specs.Bits.{bitsLeft};
 ghost use Rattle.bits.specs.Read.{judgedRead};
 ghost use Rattle.bits.specs.Code.{word};
-ghost use Rattle.bits.specs.Answer.{Within, asField};
+ghost use Rattle.bits.specs.Answer.{Placed};
 ghost use Rattle.h261_words.specs.Tables.{table1};
 ghost use Rattle.h261_words.specs.Words.{isMC, hasMQUANT};
 ghost use Rattle.layout.specs.Flat.{byteOf};
@@ -37,7 +40,7 @@ ghost use Rattle.layout.specs.Value.{zeroVector};
 ghost use Rattle.h261_description.specs.Vector.{preceding as precedingOf};
 ghost use Rattle.h261_layers.specs.Answer.{Kept, KeptVector, componentOf, beforeOf, asMba, asVector, asMacroblock, putSent};
 ghost use Rattle.h261_layers.specs.Ready.{Reading, Stepped, MacroblockReady};
-ghost use Rattle.fields.specs.Answer.{mapRead};
+ghost use Rattle.fields.specs.Answer.{mapRead, asNumber};
 ghost use Rattle.h261_layers.specs.Vector.{vectorRead};
 ghost use Rattle.h261_layers.specs.Grammar.{mba as mbaRead, mbaOf, patternRead, macroblock as macroblockRead};
 ghost use Rattle.fields.specs.Rules.{optional, quantiser as quantiserRead};
@@ -47,45 +50,51 @@ fn mba_word(
     tables: &WordTables,
     bytes: &[u8],
     count: usize,
-    at: usize,
+    at: Place,
     last: bool,
     address: usize,
 ) -> MbaRead
     requires { ⌜ (Reading (now tables) (now bytes) count at) × (address ≤ 33) ⌝ }
-    ensures { λ r. ⌜ asMba (now (bytes .entry)) count r ≡ judgedRead (word table1) (mbaOf last address) (bitsLeft (now (bytes .entry)) count at) at ⌝ }
+    ensures { λ r. ⌜ asMba (now (bytes .entry)) count r ≡ judgedRead (word table1) (mbaOf last address) (bitsLeft (now (bytes .entry)) count (at .bit)) at ⌝ }
 {
-    let read = h261_words::mba(tables, bytes, count, at);
-    let FieldRead::Got(meaning, next) = read else {
-        return MbaRead::Refused(field_refusal(read));
+    let read = once(at, h261_words::mba(tables, bytes, count, at.bit));
+    let NumberRead::Got(meaning, next) = read else {
+        return MbaRead::Refused(number_stopped(read));
     };
     if meaning == 34 {
         return MbaRead::Stuffing(next);
     }
     if meaning == 35 {
         if last {
-            return MbaRead::Refused(Refusal {
-                reason: Reason::StartCodeLast,
-                place: at,
+            return MbaRead::Refused(Stopped {
+                refusal: Refusal {
+                    reason: Reason::AfterLast,
+                    place: at.bit,
+                },
+                reads: next.reads,
             });
         }
         return MbaRead::Ended(next);
     }
     let step = meaning as usize;
     if 33 < address + step {
-        return MbaRead::Refused(Refusal {
-            reason: Reason::AddressPast,
-            place: at,
+        return MbaRead::Refused(Stopped {
+            refusal: Refusal {
+                reason: Reason::AddressPast,
+                place: at.bit,
+            },
+            reads: next.reads,
         });
     }
     MbaRead::Step(step, next)
 }
 
 // In the last group, no bits left at an MBA place end the picture.
-fn last_mba(tables: &WordTables, bytes: &[u8], count: usize, at: usize, address: usize) -> MbaRead
+fn last_mba(tables: &WordTables, bytes: &[u8], count: usize, at: Place, address: usize) -> MbaRead
     requires { ⌜ (Reading (now tables) (now bytes) count at) × (address ≤ 33) ⌝ }
-    ensures { λ r. ⌜ asMba (now (bytes .entry)) count r ≡ mbaRead true address (bitsLeft (now (bytes .entry)) count at) at ⌝ }
+    ensures { λ r. ⌜ asMba (now (bytes .entry)) count r ≡ mbaRead true address (bitsLeft (now (bytes .entry)) count (at .bit)) at ⌝ }
 {
-    if count <= at {
+    if count <= at.bit {
         return MbaRead::Ended(at);
     }
     mba_word(tables, bytes, count, at, true, address)
@@ -95,12 +104,12 @@ pub fn mba(
     tables: &WordTables,
     bytes: &[u8],
     count: usize,
-    at: usize,
+    at: Place,
     last: bool,
     address: usize,
 ) -> MbaRead
     requires { ⌜ (Reading (now tables) (now bytes) count at) × (address ≤ 33) ⌝ }
-    ensures { λ r. ⌜ asMba (now (bytes .entry)) count r ≡ mbaRead last address (bitsLeft (now (bytes .entry)) count at) at ⌝ }
+    ensures { λ r. ⌜ asMba (now (bytes .entry)) count r ≡ mbaRead last address (bitsLeft (now (bytes .entry)) count (at .bit)) at ⌝ }
 {
     if last {
         return last_mba(tables, bytes, count, at, address);
@@ -109,28 +118,28 @@ pub fn mba(
 }
 
 // MQUANT, where the type has it; else 0.
-fn mquant(bytes: &[u8], count: usize, at: usize, mtype: u16) -> FieldRead
-    requires { ⌜ Within (now bytes) count at ⌝ }
-    ensures { λ r. ⌜ asField (now (bytes .entry)) count r ≡ optional (hasMQUANT mtype) 0 quantiserRead (bitsLeft (now (bytes .entry)) count at) at ⌝ }
+fn mquant(bytes: &[u8], count: usize, at: Place, mtype: u16) -> NumberRead
+    requires { ⌜ Placed (now bytes) count at ⌝ }
+    ensures { λ r. ⌜ asNumber (now (bytes .entry)) count r ≡ optional (hasMQUANT mtype) 0 quantiserRead (bitsLeft (now (bytes .entry)) count (at .bit)) at ⌝ }
 {
     if has_mquant(mtype) {
         return quantiser(bytes, count, at);
     }
-    FieldRead::Got(0, at)
+    NumberRead::Got(0, at)
 }
 
 // CBP, where the type has it; else all blocks of INTRA, and none.
-fn pattern(tables: &WordTables, bytes: &[u8], count: usize, at: usize, mtype: u16) -> FieldRead
+fn pattern(tables: &WordTables, bytes: &[u8], count: usize, at: Place, mtype: u16) -> NumberRead
     requires { ⌜ Reading (now tables) (now bytes) count at ⌝ }
-    ensures { λ r. ⌜ asField (now (bytes .entry)) count r ≡ patternRead mtype (bitsLeft (now (bytes .entry)) count at) at ⌝ }
+    ensures { λ r. ⌜ asNumber (now (bytes .entry)) count r ≡ patternRead mtype (bitsLeft (now (bytes .entry)) count (at .bit)) at ⌝ }
 {
     if has_cbp(mtype) {
-        return h261_words::cbp(tables, bytes, count, at);
+        return once(at, h261_words::cbp(tables, bytes, count, at.bit));
     }
     if is_intra(mtype) {
-        return FieldRead::Got(63, at);
+        return NumberRead::Got(63, at);
     }
-    FieldRead::Got(0, at)
+    NumberRead::Got(0, at)
 }
 
 // The vector, where the type is MC; else zero.
@@ -138,7 +147,7 @@ fn moved(
     tables: &WordTables,
     bytes: &[u8],
     count: usize,
-    at: usize,
+    at: Place,
     format: Format,
     number: usize,
     behind: Behind,
@@ -146,7 +155,7 @@ fn moved(
     mtype: u16,
 ) -> PairRead
     requires { ⌜ (Reading (now tables) (now bytes) count at) × (Stepped number behind step) ⌝ }
-    ensures { λ r. ⌜ asVector (now (bytes .entry)) count r ≡ optional (isMC mtype) zeroVector (vectorRead format number (behind .address + step) (precedingOf (beforeOf behind) step)) (bitsLeft (now (bytes .entry)) count at) at ⌝ }
+    ensures { λ r. ⌜ asVector (now (bytes .entry)) count r ≡ optional (isMC mtype) zeroVector (vectorRead format number (behind .address + step) (precedingOf (beforeOf behind) step)) (bitsLeft (now (bytes .entry)) count (at .bit)) at ⌝ }
 {
     if is_mc(mtype) {
         let before = behind.address;
@@ -200,7 +209,7 @@ pub fn macroblock(
     tables: &WordTables,
     bytes: &[u8],
     count: usize,
-    at: usize,
+    at: Place,
     format: Format,
     number: usize,
     group: usize,
@@ -210,16 +219,16 @@ pub fn macroblock(
     levels: &mut [u8],
 ) -> MacroblockRead
     requires { ⌜ (Reading (now tables) (now bytes) count at) × (MacroblockReady number group behind step (now macroblocks) (now levels)) ⌝ }
-    ensures { λ r. ⌜ asMacroblock (now (bytes .entry)) count r (now (macroblocks .exit)) (now (levels .exit)) ≡ mapRead (putSent group (now (macroblocks .entry)) (now (levels .entry))) (macroblockRead format number (beforeOf behind) step (bitsLeft (now (bytes .entry)) count at) at) ⌝ }
+    ensures { λ r. ⌜ asMacroblock (now (bytes .entry)) count r (now (macroblocks .exit)) (now (levels .exit)) ≡ mapRead (putSent group (now (macroblocks .entry)) (now (levels .entry))) (macroblockRead format number (beforeOf behind) step (bitsLeft (now (bytes .entry)) count (at .bit)) at) ⌝ }
 {
-    let kind = h261_words::mtype(tables, bytes, count, at);
-    let FieldRead::Got(found, after_type) = kind else {
-        return MacroblockRead::Refused(field_refusal(kind));
+    let kind = once(at, h261_words::mtype(tables, bytes, count, at.bit));
+    let NumberRead::Got(found, after_type) = kind else {
+        return MacroblockRead::Refused(number_stopped(kind));
     };
     let mtype = found as u16;
     let quantised = mquant(bytes, count, after_type, mtype);
-    let FieldRead::Got(quantiser, after_quantiser) = quantised else {
-        return MacroblockRead::Refused(field_refusal(quantised));
+    let NumberRead::Got(quantiser, after_quantiser) = quantised else {
+        return MacroblockRead::Refused(number_stopped(quantised));
     };
     let pointed = moved(
         tables,
@@ -233,11 +242,11 @@ pub fn macroblock(
         mtype,
     );
     let PairRead::Got(horizontal, vertical, after_vector) = pointed else {
-        return MacroblockRead::Refused(pair_refusal(pointed));
+        return MacroblockRead::Refused(pair_stopped(pointed));
     };
     let coded = pattern(tables, bytes, count, after_vector, mtype);
-    let FieldRead::Got(cbp, after_pattern) = coded else {
-        return MacroblockRead::Refused(field_refusal(coded));
+    let NumberRead::Got(cbp, after_pattern) = coded else {
+        return MacroblockRead::Refused(number_stopped(coded));
     };
     let address = behind.address + step;
     let index = group * 33 + (address - 1);
@@ -253,7 +262,7 @@ pub fn macroblock(
         index * 384,
     );
     let PlaceRead::At(next) = sent else {
-        return MacroblockRead::Refused(place_refusal(sent));
+        return MacroblockRead::Refused(place_stopped(sent));
     };
     put_fields(
         macroblocks,

@@ -1,7 +1,10 @@
 // MVD: a macroblock's vector from the preceding one. A component is kept as 16 more than it is, so that nothing is negative.
-use bits::FieldRead;
-use bits::field_refusal;
+use bits::Place;
+use bits::Stopped;
+use fields::NumberRead;
 use fields::PairRead;
+use fields::number_stopped;
+use fields::once;
 use h261_groups::Format;
 use h261_words::WordTables;
 use refusals::Reason;
@@ -14,22 +17,31 @@ ghost use Rattle.h261_layers.specs.Ready.{Reading, VectorReady};
 ghost use Rattle.h261_layers.specs.Vector.{componentRead, vectorRead};
 
 // One component: of a pair's two differences the one that lands in -15..15. Both are the same modulo 32.
-fn component(tables: &WordTables, bytes: &[u8], count: usize, at: usize, preceding: u8) -> FieldRead
+fn component(
+    tables: &WordTables,
+    bytes: &[u8],
+    count: usize,
+    at: Place,
+    preceding: u8,
+) -> NumberRead
     requires { ⌜ (Reading (now tables) (now bytes) count at) × (Kept preceding) ⌝ }
-    ensures { λ r. ⌜ asComponent (now (bytes .entry)) count r ≡ componentRead (componentOf preceding) (bitsLeft (now (bytes .entry)) count at) at ⌝ }
+    ensures { λ r. ⌜ asComponent (now (bytes .entry)) count r ≡ componentRead (componentOf preceding) (bitsLeft (now (bytes .entry)) count (at .bit)) at ⌝ }
 {
-    let read = h261_words::mvd(tables, bytes, count, at);
-    let FieldRead::Got(difference, next) = read else {
-        return FieldRead::Refused(field_refusal(read));
+    let read = once(at, h261_words::mvd(tables, bytes, count, at.bit));
+    let NumberRead::Got(difference, next) = read else {
+        return NumberRead::Refused(number_stopped(read));
     };
     let landed = ((preceding as u32) + difference + 16) % 32;
     if landed == 0 {
-        return FieldRead::Refused(Refusal {
-            reason: Reason::VectorOut,
-            place: at,
+        return NumberRead::Refused(Stopped {
+            refusal: Refusal {
+                reason: Reason::VectorOut,
+                place: at.bit,
+            },
+            reads: next.reads,
         });
     }
-    FieldRead::Got(landed, next)
+    NumberRead::Got(landed, next)
 }
 
 // The first column and row of the macroblock at an address of a group.
@@ -52,7 +64,7 @@ pub fn vector(
     tables: &WordTables,
     bytes: &[u8],
     count: usize,
-    at: usize,
+    at: Place,
     format: Format,
     number: usize,
     address: usize,
@@ -60,21 +72,24 @@ pub fn vector(
     vertical: u8,
 ) -> PairRead
     requires { ⌜ (Reading (now tables) (now bytes) count at) × (VectorReady number address horizontal vertical) ⌝ }
-    ensures { λ r. ⌜ asVector (now (bytes .entry)) count r ≡ vectorRead format number address (vectorOf horizontal vertical) (bitsLeft (now (bytes .entry)) count at) at ⌝ }
+    ensures { λ r. ⌜ asVector (now (bytes .entry)) count r ≡ vectorRead format number address (vectorOf horizontal vertical) (bitsLeft (now (bytes .entry)) count (at .bit)) at ⌝ }
 {
     let first = component(tables, bytes, count, at, horizontal);
-    let FieldRead::Got(across, after) = first else {
-        return PairRead::Refused(field_refusal(first));
+    let NumberRead::Got(across, after) = first else {
+        return PairRead::Refused(number_stopped(first));
     };
     let second = component(tables, bytes, count, after, vertical);
-    let FieldRead::Got(down, next) = second else {
-        return PairRead::Refused(field_refusal(second));
+    let NumberRead::Got(down, next) = second else {
+        return PairRead::Refused(number_stopped(second));
     };
     let x = column(number, address) + (across as usize);
     let y = row(number, address) + (down as usize);
-    let out = Refusal {
-        reason: Reason::VectorOut,
-        place: at,
+    let out = Stopped {
+        refusal: Refusal {
+            reason: Reason::VectorOut,
+            place: at.bit,
+        },
+        reads: next.reads,
     };
     if x < 16 {
         return PairRead::Refused(out);

@@ -19,12 +19,14 @@ use Rattle.h261_words.specs.Tables.{table4, pairs, firstTable5, laterTable5}
 use Rattle.h261_words.specs.Words.{isIntra, hasCBP, sent, over, coefficientRead, tcoeffOf}
 use Rattle.layout.specs.Value.{Coefficient, coefficient, Block}
 use Rattle.layout.specs.Numbers.{forbidden, isCode}
-use Rattle.h261_words.specs.Back.{Sendable}
+use Rattle.layout.specs.Sendable.{Sendable}
 use Rattle.layout.specs.Proper.{If, Each, Fits, Begins, allEmpty}
 use Rattle.h261_description.specs.Proper.{ProperBlocks}
 use Rattle.fields.specs.Rules.{optional}
 use Rattle.h261_layers.specs.Grammar.{fits, coefficientsAfter, coefficients, dcRead, intraBlock, interBlock, blocksRead, patternRead}
-use Rattle.h261_writer.specs.Write.{bitsIf, coefficientsOf, blockOf, blocksOf, presenceOf, patternOf}
+use Rattle.bits.specs.Write.{bitsIf}
+use Rattle.layout.specs.Pattern.{presenceOf, patternOf}
+use Rattle.h261_writer.specs.Write.{coefficientsOf, blockOf, blocksOf}
 use Rattle.h261_readback.proofs.Words.{back-cbp, back-first, back-later, back-over, length-coefficient}
 
 -- ---- one block

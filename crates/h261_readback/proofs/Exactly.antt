@@ -12,6 +12,7 @@ use lib.Seq.{take-append-le, take-append-add, length-take-le}
 use Rattle.laws.proofs.Choice.{both-left, both-right}
 use Rattle.laws.proofs.Rows.{lt-or-ge}
 use Rattle.bits.specs.Bits.{Bit}
+use Rattle.bits.specs.Places.{plain}
 use Rattle.bits.specs.Read.{Read, got, refused, endless, Reader, next, _>>=_, done, settle, judgedRead, orEnd, loop}
 use Rattle.bits.specs.Code.{word, wordOf}
 use Rattle.bits.proofs.ReadBack.{Back}
@@ -35,10 +36,10 @@ use Rattle.h261_readback.proofs.Groups.{headOf, back-head, back-group, 
 use Rattle.h261_readback.proofs.Pictures.{back-header, numbers-small, unstarted-picture}
 
 -- ---- of reads
-got-left : {A : Type 0} {a b : A} {l m : List Bit} {p q : ℕ} → got a l p ≡ got b m q → l ≡ m
+got-left : {A : Type 0} {a b : A} {l m : List Bit} {p q : ℕ} → _≡_ {A = Read A} (got a l p) (got b m q) → l ≡ m
 got-left e = cc
 
-got-same : {A : Type 0} {a b : A} {l m : List Bit} {p q : ℕ} → got a l p ≡ got b m q → a ≡ b
+got-same : {A : Type 0} {a b : A} {l m : List Bit} {p q : ℕ} → _≡_ {A = Read A} (got a l p) (got b m q) → a ≡ b
 got-same e = cc
 
 -- ---- fewer bits
@@ -206,7 +207,7 @@ cut-groups f (number ∷ (second ∷ numbers)) (g ∷ gs) l p =
     (cut-map (λ xs. g ∷ xs) (λ xs e. let y : xs ≡ gs = cc in y) (cut-groups f (second ∷ numbers) gs (both-right (ltb number 16) _ l) (p .1)))
 
 -- THE LAW: of fewer bits than were written the picture isn't read
-pub fewer-bits : (f : Format) (p : Picture) → Proper f p → (k : ℕ) (left : List Bit) (q : ℕ) → k < length (pictureOf f p) → picture f (take k (pictureOf f p)) 0 ≡ got p left q → ⊥
+pub fewer-bits : (f : Format) (p : Picture) → Proper f p → (k : ℕ) (left : List Bit) (q : ℕ) → k < length (pictureOf f p) → picture {P = plain} f (take k (pictureOf f p)) 0 ≡ got p left q → ⊥
 unfolding picture
 fewer-bits f p h k left q l e =
     cut-as (unstarted-picture f p h)
@@ -217,7 +218,7 @@ fewer-bits f p h k left q l e =
 -- bits that no codeword of Table 1 begins
 pub record Unread (rest : List Bit) : Type 0 where
   pub some : 1 ≤ length rest
-  pub none : (at m : ℕ) (left : List Bit) (p : ℕ) → word table1 rest at ≡ got m left p → ⊥
+  pub none : (at m : ℕ) (left : List Bit) (p : ℕ) → word {P = plain} table1 rest at ≡ got m left p → ⊥
 
 module _ (rest : List Bit) (u : Unread rest) where
   past-macroblocks : (ms : List Macroblock) (turns : ℕ) (f : Format) (number : ℕ) (before : Before) → Rising f number (before .address) ms → Ranged (before .vector)
@@ -263,7 +264,7 @@ module _ (rest : List Bit) (u : Unread rest) where
   past-all Cif p h = past-groups Cif 1 (2 ∷ 3 ∷ 4 ∷ 5 ∷ 6 ∷ 7 ∷ 8 ∷ 9 ∷ 10 ∷ 11 ∷ 12 ∷ []) (p .groups) (numbers-small Cif) (h .grouped)
 
   -- THE LAW: of more bits than were written, if they don't go on with a codeword, nothing is read
-  pub more-bits : (f : Format) (p : Picture) → Proper f p → (b : Picture) (left : List Bit) (q : ℕ) → picture f (pictureOf f p ++ rest) 0 ≡ got b left q → ⊥
+  pub more-bits : (f : Format) (p : Picture) → Proper f p → (b : Picture) (left : List Bit) (q : ℕ) → picture {P = plain} f (pictureOf f p ++ rest) 0 ≡ got b left q → ⊥
   unfolding picture
   more-bits f p h b left q e =
       past-as (unstarted-picture f p h)

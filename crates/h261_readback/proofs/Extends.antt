@@ -20,11 +20,11 @@ use Rattle.bits.specs.Code.{Entry, entry, CodeTable, starts, lookup, word}
 use Rattle.bits.proofs.Tree.{hit, miss}
 use Rattle.fields.specs.Rules.{expect, quantiser, sparesFrom, spares, sparesAfter, optional}
 use Rattle.h261_words.specs.Tables.{table1, table2, table3, table4, pairs, firstTable5, laterTable5, endOfBlock, escape}
-use Rattle.h261_words.specs.Words.{isIntra, isMC, hasMQUANT, hasCBP, signed, allowed, Event, sent, over, tcoeff, coefficientRead}
+use Rattle.h261_words.specs.Words.{isIntra, isMC, hasMQUANT, hasCBP, allowed, Event, sent, over, tcoeff, coefficientRead}
 use Rattle.h261_groups.specs.declared.Format.{Format}
 use Rattle.h261_description.specs.Vector.{Before, atStart, preceding}
 use Rattle.layout.specs.Value.{coefficient, Vector, zeroVector}
-use Rattle.layout.specs.Numbers.{forbidden}
+use Rattle.layout.specs.Numbers.{forbidden, signedCode}
 use Rattle.h261_layers.specs.Vector.{pairOf, component, pointing, componentRead, componentsRead, vectorRead}
 use Rattle.h261_layers.specs.Grammar.{fits, coefficientsAfter, coefficients, intraBlock, interBlock, blocksRead, macroblock, Mba, step, stuffed, ended, mbaOf, mba, macroblocksAfter, macroblocksFrom, groupHead, group, ptypeOf, header}
 
@@ -198,7 +198,7 @@ ext-coefficient table h =
     (ext-whole
     (ext-then h
     (λ m. ext-pick (eqb m endOfBlock) (ext-done over)
-    (ext-pick (eqb m escape) (ext-then (ext-field 6) (λ run. ext-then (ext-field 8) (λ code. ext-done (sent (coefficient run code))))) (ext-then (ext-field 1) (λ s. ext-done (sent (coefficient (m / 16) (signed s (m % 16))))))))))
+    (ext-pick (eqb m escape) (ext-then (ext-field 6) (λ run. ext-then (ext-field 8) (λ code. ext-done (sent (coefficient run code))))) (ext-then (ext-field 1) (λ s. ext-done (sent (coefficient (m / 16) (signedCode s (m % 16))))))))))
 
 ext-coefficients : (n m : ℕ) → n ≤ m → (room : ℕ) (table : CodeTable) → Extends (word table) (word table) → Extends (coefficients n room table) (coefficients m room table)
 unfolding coefficients

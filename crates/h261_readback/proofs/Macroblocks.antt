@@ -26,7 +26,9 @@ use Rattle.h261_description.specs.Proper.{ProperMacroblock}
 use Rattle.fields.specs.Rules.{quantiser, optional}
 use Rattle.h261_layers.specs.Grammar.{macroblock, step, ended, mbaOf, mba, macroblocksAfter, macroblocksFrom}
 use Rattle.h261_layers.proofs.Layers.{Ended, Rising}
-use Rattle.h261_writer.specs.Write.{bitsIf, vectorBits, patternOf, blocksOf, macroblockOf, macroblocksOf}
+use Rattle.bits.specs.Write.{bitsIf}
+use Rattle.layout.specs.Pattern.{patternOf}
+use Rattle.h261_writer.specs.Write.{vectorBits, blocksOf, macroblockOf, macroblocksOf}
 use Rattle.h261_readback.proofs.Words.{back-mba, length-mba, back-mtype}
 use Rattle.h261_readback.proofs.Blocks.{back-blocks, back-pattern}
 use Rattle.h261_readback.proofs.Vectors.{Pointed, Ranged, ranged-vector, back-vector}

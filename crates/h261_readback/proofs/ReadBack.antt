@@ -6,6 +6,7 @@ use native.Mathlib.Omega.{arith}
 use borrow.Author.Tests.{le-ltb}
 use lib.ListN.{length}
 use Rattle.bits.specs.Bits.{Bit}
+use Rattle.bits.specs.Places.{plain}
 use Rattle.bits.specs.Read.{got}
 use Rattle.h261_groups.specs.Format.{sizeOf}
 use Rattle.size.specs.Size.{limit}
@@ -22,7 +23,7 @@ pub read-back : PictureReadBack
 unfolding reading
 read-back f p s h l held =
     let w = pictureOf f p in
-    let r : picture f (w ++ []) 0 ≡ got p [] (0 + length w) = back-picture f p h .reads 0 in
+    let r : picture {P = plain} f (w ++ []) 0 ≡ got p [] (0 + length w) = back-picture f p h .reads 0 in
     let z : 0 + length w ≡ length w = omega arith in
     rw (le-ltb (8 * length s) (length w) (held .room), le-ltb (limit (sizeOf f)) (length w) l, held .bits) (rw (append-nil w, z) at r)
 
@@ -35,6 +36,6 @@ unfolding pictureBits
 written-once f d e t u h =
     let r = back-picture f (pictureIn d) (picture-proper f d t) .reads 0 in
     let q = back-picture f (pictureIn e) (picture-proper f e u) .reads 0 in
-    let both : picture f (pictureBits f d ++ []) 0 ≡ picture f (pictureBits f e ++ []) 0 = ap (λ (w : List Bit). picture f (w ++ []) 0) h in
+    let both : picture {P = plain} f (pictureBits f d ++ []) 0 ≡ picture f (pictureBits f e ++ []) 0 = ap (λ (w : List Bit). picture f (w ++ []) 0) h in
     let same : pictureIn d ≡ pictureIn e = cc in
     sym (laid-back f d t) ∙ ap (laidPicture f) same ∙ laid-back f e u

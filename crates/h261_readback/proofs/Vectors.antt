@@ -20,7 +20,8 @@ use Rattle.layout.specs.Proper.{If}
 use Rattle.h261_description.specs.Proper.{ProperVector}
 use Rattle.h261_layers.specs.Vector.{pairOf, component, componentRead, componentsRead, pointing, vectorRead}
 use Rattle.fields.specs.Rules.{optional}
-use Rattle.h261_writer.specs.Write.{bitsIf, componentBits, vectorBits}
+use Rattle.bits.specs.Write.{bitsIf}
+use Rattle.h261_writer.specs.Write.{componentBits, vectorBits}
 use Rattle.h261_readback.proofs.Words.{back-mvd}
 
 -- ---- a test at every number in -15..15

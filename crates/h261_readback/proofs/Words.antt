@@ -12,8 +12,9 @@ use Rattle.bits.proofs.Fields.{length-bitsOf}
 use Rattle.bits.proofs.ReadBack.{Back, length-word}
 use Rattle.h261_words.specs.Tables.{table1, table2, table3, table4, firstTable5, laterTable5, pair, endOfBlock, escape}
 use Rattle.layout.specs.Value.{Coefficient}
-use Rattle.h261_words.specs.Words.{sent, over, coefficientRead, negative, size, tcoeffOf}
-use Rattle.h261_words.specs.Back.{Sendable}
+use Rattle.h261_words.specs.Words.{sent, over, coefficientRead, tcoeffOf}
+use Rattle.layout.specs.Numbers.{codeSign, codeSize}
+use Rattle.layout.specs.Sendable.{Sendable}
 use Rattle.h261_words.proofs.Back.{has-mba, mba-back, mtype-back, mvd-back, cbp-back, first-back, later-back, end-back}
 
 module _ (m : ℕ) (rest : List Bit) where
@@ -46,18 +47,18 @@ length-mba m l h = length-word table1 m tt tt (has-mba m l h)
 
 pub length-coefficient : (table : CodeTable) (c : Coefficient) → 1 ≤ length (tcoeffOf table c)
 unfolding tcoeffOf
-length-coefficient table c = go (both (ltb (size (c .code)) 16) (has table (pair (c .run) (size (c .code)))))
+length-coefficient table c = go (both (ltb (codeSize (c .code)) 16) (has table (pair (c .run) (codeSize (c .code)))))
   where
     inTable : List Bit
-    inTable = wordOf table (pair (c .run) (size (c .code)))
+    inTable = wordOf table (pair (c .run) (codeSize (c .code)))
 
     s : List Bit
-    s = bitsOf 1 (negative (c .code))
+    s = bitsOf 1 (codeSign (c .code))
 
     level : List Bit
     level = bitsOf 6 (c .run) ++ bitsOf 8 (c .code)
 
     go : (b : Bool) → 1 ≤ length (pick b (inTable ++ s) (wordOf table escape ++ level))
-    go true = omega (arith, length-append inTable s, length-bitsOf 1 (negative (c .code)))
+    go true = omega (arith, length-append inTable s, length-bitsOf 1 (codeSign (c .code)))
     go false =
         omega (arith, length-append (wordOf table escape) level, length-append (bitsOf 6 (c .run)) (bitsOf 8 (c .code)), length-bitsOf 8 (c .code))

@@ -1,3 +1,4 @@
+pub mod Counted
 pub mod MacroblocksTurn
 pub mod GroupsTurn
 pub mod PictureTurn
@@ -5,3 +6,4 @@ pub mod ParseSteps
 pub mod ReadSteps
 pub mod Blank
 pub mod Verdicts
+pub mod ListOfReads

@@ -7,33 +7,42 @@ use Prim.Native.Nat.{ℕ, suc, _+_, _*_, _/_, _%_, _≤_, _<_}
 use native.Mathlib.Nat.{eq-or-lt-of-le, not-suc-le-zero}
 use native.Mathlib.Omega.{arith}
 use borrow.Author.Tests.{lt-ltb, le-ltb, ltb-false}
-use lib.Dec.{T, ltb}
+use lib.Dec.{T, ltb, lit<}
 use lib.ListN.{length, getD, set, replicate, length-set, length-replicate, getD-replicate}
 use lib.Seq.{getD-set-same, getD-set-other, ext-getD}
 use denote.Enum.Declared.{tagOf}
 use Rattle.laws.specs.Choice.{either}
 use Rattle.refusals.specs.declared.Reason.the-variants.{Count}
-use Rattle.refusals.specs.declared.Refusal.{Refusal}
+use Rattle.refusals.specs.Number.{refusal}
 use Rattle.refusals.specs.Told.{toldVerdict, verdictOn}
 use Rattle.bits.specs.Bits.{bitsLeft}
 use Rattle.bits.proofs.Source.{source-left}
-use Rattle.bits.specs.Read.{Read, got, refused, bad}
+use Rattle.bits.specs.Places.{counted, stopIn}
+use Rattle.bits.specs.Read.{ReadIn, Read, got, refused}
+use Rattle.bits.specs.Answer.{Placed}
+use Rattle.bits.specs.declared.Place.{Place}
+use Rattle.bits.specs.declared.Stopped.{Stopped}
 use Rattle.size.specs.Size.{limit}
 use Rattle.h261_groups.specs.Format.{formatBit, groupCount, groupNumbers, sizeOf}
 use Rattle.h261_groups.specs.declared.Format.{Format}
+use Rattle.h261_groups.specs.declared.Format.the-variants.{Qcif, Cif}
 use Rattle.layout.specs.Flat.{Flat, putGroups, flat}
 use Rattle.h261_description.specs.Value.{laidPicture, shape}
-use Rattle.fields.specs.Answer.{mapRead, found, leaving, placeRefusal, pairRefusal}
+use Rattle.fields.specs.Answer.{mapRead, found, leaving, placeOf, placeStopped, pairStopped}
+use Rattle.fields.specs.declared.PictureRead.{PictureRead}
+use Rattle.fields.proofs.Uncounted.{uncounted, countIn}
 use Rattle.h261_layers.specs.Answer.{asHeader}
-use Rattle.h261_layers.specs.Grammar.{header, groupsRead, picture, reading}
+use Rattle.h261_layers.specs.Grammar.{header, groupsRead, picture, readWidths}
 use Rattle.h261_reader.specs.Described.{Blank, described, laidOr}
+use Rattle.h261_reader.specs.ReadOf.{refusedPicture}
+use Rattle.h261_reader.proofs.Counted.{describedCounted, described-uncounted, described-count-is}
 use Rattle.fields.specs.declared.PairRead.{PairRead}
 use Rattle.fields.specs.declared.PairRead.the-variants.{Got, Refused as NoHeader}
 use Rattle.fields.proofs.PairRead.{the-type as pair-type}
 use Rattle.fields.specs.declared.PlaceRead.{PlaceRead}
 use Rattle.fields.specs.declared.PlaceRead.the-variants.{At, Refused}
 use Rattle.fields.proofs.PlaceRead.{the-type as place-type}
-use Rattle.refusals.specs.declared.Verdict.the-variants.{Accepted, Refused as Unread}
+use Rattle.refusals.specs.declared.Verdict.the-variants.{Accepted}
 use Rattle.fields.proofs.Meaning.{map-done}
 
 -- ---- three stores over zeros
@@ -50,49 +59,56 @@ module _ (len n : ℕ) (f : Format) where
   pub above-limit : n / 8 + (n % 8 + 7) / 8 ≤ len → ltb (limit (sizeOf f)) n ≡ either (ltb (8 * len) n) (ltb (limit (sizeOf f)) n)
   above-limit l = rw (le-ltb (8 * len) n (omega arith))
 
+-- a place has room for as many reads
+pub limit-low : (f : Format) → limit (sizeOf f) < 4294967296
+limit-low Qcif = lit< tt
+limit-low Cif = lit< tt
+
 no-either : (a b : Bool) → either a b ≡ false → (a ≡ false) × (b ≡ false)
 no-either true b e = absurd (subst (λ (x : Bool). T x) e tt)
 no-either false b e = (refl, e)
 
 module _ (f : Format) (s : List ℕ) (n : ℕ) (a : Bool) (w : a ≡ either (ltb (8 * length s) n) (ltb (limit (sizeOf f)) n)) where
-  pub described-count : a ≡ true → described f s n ≡ bad Count 0
-  unfolding described reading
+  pub described-count : a ≡ true → describedCounted f s n ≡ refused (stopIn counted (refusal Count 0) (placeOf 0 0))
   described-count e = let z : either (ltb (8 * length s) n) (ltb (limit (sizeOf f)) n) ≡ true = sym w ∙ e in rw z
+
+  -- N is low, and the bytes have N bits
+  pub counted-is : a ≡ false → n ≤ limit (sizeOf f)
+  counted-is e = ltb-false (limit (sizeOf f)) n (no-either (ltb (8 * length s) n) (ltb (limit (sizeOf f)) n) (sym w ∙ e) .1)
 
   pub lent-is : a ≡ false → n ≤ 8 * length s
   lent-is e = ltb-false (8 * length s) n (no-either (ltb (8 * length s) n) (ltb (limit (sizeOf f)) n) (sym w ∙ e) .0)
 
-  described-bits : a ≡ false → described f s n ≡ mapRead (laidPicture f) (picture f (bitsLeft s n 0) 0)
-  unfolding described reading
+  described-bits : a ≡ false → describedCounted f s n ≡ mapRead (laidPicture f) (picture f (bitsLeft s n 0) (placeOf 0 0))
   described-bits e =
       let z : either (ltb (8 * length s) n) (ltb (limit (sizeOf f)) n) ≡ false = sym w ∙ e in
       rw (z, source-left s n (lent-is e))
 
-  module _ (e : a ≡ false) (h : PairRead) (v : asHeader s n h ≡ header f (bitsLeft s n 0) 0) where
-    pub described-no-header : tagOf pair-type h ≡ 1 → described f s n ≡ refused (pairRefusal h)
+  module _ (e : a ≡ false) (h : PairRead) (v : asHeader s n h ≡ header f (bitsLeft s n 0) (placeOf 0 0)) where
+    pub described-no-header : tagOf pair-type h ≡ 1 → describedCounted f s n ≡ refused (pairStopped h)
     unfolding picture
-    described-no-header t = let d : header f (bitsLeft s n 0) 0 ≡ refused (pairRefusal h) = no h t v in described-bits e ∙ rw d
+    described-no-header t = let d : header {P = counted} f (bitsLeft s n 0) (placeOf 0 0) ≡ refused (pairStopped h) = no h t v in described-bits e ∙ rw d
       where
-        no : (h : PairRead) → tagOf pair-type h ≡ 1 → asHeader s n h ≡ header f (bitsLeft s n 0) 0 → header f (bitsLeft s n 0) 0 ≡ refused (pairRefusal h)
+        no : (h : PairRead) → tagOf pair-type h ≡ 1 → asHeader s n h ≡ header f (bitsLeft s n 0) (placeOf 0 0) → header {P = counted} f (bitsLeft s n 0) (placeOf 0 0) ≡ refused (pairStopped h)
         no (Got tr ptype p) t v = absurd (omega arith)
         no (NoHeader r) t v = sym v
 
-    pub header-is : (tr ptype p : ℕ) → h ≡ Got tr ptype p → header f (bitsLeft s n 0) 0 ≡ got (record { tr = tr; ptype = ptype }) (bitsLeft s n p) p
+    pub header-is : (tr ptype : ℕ) (p : Place) → h ≡ Got tr ptype p → header {P = counted} f (bitsLeft s n 0) (placeOf 0 0) ≡ got (record { tr = tr; ptype = ptype }) (bitsLeft s n (p .bit)) p
     header-is tr ptype p d = sym v ∙ ap (asHeader s n) d
 
-    pub described-groups : (tr ptype p : ℕ) → h ≡ Got tr ptype p
-        → described f s n ≡ mapRead (putGroups (shape f) 0 (flat (tr ∷ ptype ∷ formatBit f ∷ replicate (groupCount f) 0) (replicate (groupCount f * 132) 0) (replicate (groupCount f * 12672) 0))) (groupsRead f (groupNumbers f) (bitsLeft s n p) p)
+    pub described-groups : (tr ptype : ℕ) (p : Place) → h ≡ Got tr ptype p
+        → describedCounted f s n ≡ mapRead (putGroups (shape f) 0 (flat (tr ∷ ptype ∷ formatBit f ∷ replicate (groupCount f) 0) (replicate (groupCount f * 132) 0) (replicate (groupCount f * 12672) 0))) (groupsRead f (groupNumbers f) (bitsLeft s n (p .bit)) p)
     unfolding picture laidPicture
     described-groups tr ptype p d =
         described-bits e ∙ rw (header-is tr ptype p d)
-        (map-done (laidPicture f) (λ gs. record { tr = tr; ptype = ptype; groups = gs }) (groupsRead f (groupNumbers f) (bitsLeft s n p) p))
+        (map-done (laidPicture f) (λ gs. record { tr = tr; ptype = ptype; groups = gs }) (groupsRead f (groupNumbers f) (bitsLeft s n (p .bit)) p))
 
-    pub groups-described : {tr ptype p bit : ℕ} {c m l : List ℕ} {x : Read Flat} → h ≡ Got tr ptype p → bit ≡ formatBit f → Blank f c m l
-        → x ≡ mapRead (putGroups (shape f) 0 (flat (set (set (set c 0 tr) 1 ptype) 2 bit) m l)) (groupsRead f (groupNumbers f) (bitsLeft s n p) p) → x ≡ described f s n
+    pub groups-described : {tr ptype : ℕ} {p : Place} {bit : ℕ} {c m l : List ℕ} {x : ReadIn counted Flat} → h ≡ Got tr ptype p → bit ≡ formatBit f → Blank f c m l
+        → x ≡ mapRead (putGroups (shape f) 0 (flat (set (set (set c 0 tr) 1 ptype) 2 bit) m l)) (groupsRead f (groupNumbers f) (bitsLeft s n (p .bit)) p) → x ≡ describedCounted f s n
     groups-described {tr} {ptype} {p} {bit} {c} d b blank z =
         let hd : set (set (set c 0 tr) 1 ptype) 2 bit ≡ tr ∷ ptype ∷ formatBit f ∷ replicate (groupCount f) 0
         = cleared (groupCount f) tr ptype bit c (blank .head-blank) ∙ ap (λ (y : ℕ). tr ∷ ptype ∷ y ∷ replicate (groupCount f) 0) b in
-        z ∙ (λ i. mapRead (putGroups (shape f) 0 (flat (hd i) (blank .ms-blank i) (blank .ls-blank i))) (groupsRead f (groupNumbers f) (bitsLeft s n p) p))
+        z ∙ (λ i. mapRead (putGroups (shape f) 0 (flat (hd i) (blank .ms-blank i) (blank .ls-blank i))) (groupsRead f (groupNumbers f) (bitsLeft s n (p .bit)) p))
         ∙ sym (described-groups tr ptype p d)
 
 -- ---- the buffers
@@ -129,26 +145,29 @@ zeroed-all l₀ l i h m =
     up k m q l = omega arith
 
 -- ---- the answers
-module _ (f : Format) (x : Read Flat) where
+module _ (f : Format) (s : List ℕ) (n : ℕ) where
+  -- what is answered and left by what is read in counted places is so of what the rules give
+  answers : (r : PictureRead) (d : Flat) (x : ReadIn counted Flat) → x ≡ describedCounted f s n → toldVerdict (r .verdict) ≡ verdictOn (found (uncounted x)) → d ≡ laidOr f (uncounted x) → r .reads ≡ countIn x
+      → (toldVerdict (r .verdict) ≡ verdictOn (found (described f s n))) × ((d ≡ laidOr f (described f s n)) × (r .reads ≡ length (readWidths f s n)))
+  answers r d x e v b c =
+      let is : uncounted x ≡ described f s n = ap (λ (y : ReadIn counted Flat). uncounted y) e ∙ described-uncounted f s n in
+      (v ∙ ap (λ (y : Read Flat). verdictOn (found y)) is, (b ∙ ap (laidOr f) is, c ∙ ap (λ (y : ReadIn counted Flat). countIn y) e ∙ described-count-is f s n))
+
   -- refused, with the buffers as they were or cleared
-  pub refused-blank : {r s : Refusal} {a b c : List ℕ} → x ≡ refused r → s ≡ r → Blank f a b c → (toldVerdict (Unread s) ≡ verdictOn (found x)) × (flat a b c ≡ laidOr f x)
-  refused-blank e d blank = (
-    ap (λ (y : Refusal). toldVerdict (Unread y)) d ∙ sym (ap (λ (y : Read Flat). verdictOn (found y)) e),
-    (λ i. flat (blank .head-blank i) (blank .ms-blank i) (blank .ls-blank i)) ∙ sym (ap (laidOr f) e),
-  )
+  pub refused-blank : {x : Stopped} {r : PictureRead} {a b c : List ℕ} → describedCounted f s n ≡ refused x → r ≡ refusedPicture x → Blank f a b c
+      → (toldVerdict (r .verdict) ≡ verdictOn (found (described f s n))) × ((flat a b c ≡ laidOr f (described f s n)) × (r .reads ≡ length (readWidths f s n)))
+  refused-blank {x} {r} e d blank =
+      answers r _ (refused x) (sym e) (ap (λ (y : PictureRead). toldVerdict (y .verdict)) d) (λ i. flat (blank .head-blank i) (blank .ms-blank i) (blank .ls-blank i)) (ap (λ (y : PictureRead). y .reads) d)
 
-  module _ (s : List ℕ) (n : ℕ) (r : PlaceRead) (d : Flat) (v : leaving s n r d ≡ x) where
+  module _ (r : PlaceRead) (d : Flat) (v : leaving s n r d ≡ describedCounted f s n) where
     -- accepted, and laid out
-    pub read-laid : tagOf place-type r ≡ 0 → (toldVerdict Accepted ≡ verdictOn (found x)) × (d ≡ laidOr f x)
-    read-laid t = yes r t v
-      where
-        yes : (r : PlaceRead) → tagOf place-type r ≡ 0 → leaving s n r d ≡ x → (toldVerdict Accepted ≡ verdictOn (found x)) × (d ≡ laidOr f x)
-        yes (At p) t v = (ap (λ (y : Read Flat). verdictOn (found y)) v, ap (laidOr f) v)
-        yes (Refused r) t v = absurd (omega arith)
+    pub read-laid : (p : Place) → r ≡ At p
+        → (toldVerdict Accepted ≡ verdictOn (found (described f s n))) × ((d ≡ laidOr f (described f s n)) × (p .reads ≡ length (readWidths f s n)))
+    read-laid p e = answers (record { verdict = Accepted; reads = p .reads }) d (got d (bitsLeft s n (p .bit)) p) (sym (ap (λ (y : PlaceRead). leaving s n y d) e) ∙ v) refl refl refl
 
-    pub unread : tagOf place-type r ≡ 1 → x ≡ refused (placeRefusal r)
+    pub unread : tagOf place-type r ≡ 1 → describedCounted f s n ≡ refused (placeStopped r)
     unread t = no r t v
       where
-        no : (r : PlaceRead) → tagOf place-type r ≡ 1 → leaving s n r d ≡ x → x ≡ refused (placeRefusal r)
+        no : (r : PlaceRead) → tagOf place-type r ≡ 1 → leaving s n r d ≡ describedCounted f s n → describedCounted f s n ≡ refused (placeStopped r)
         no (At p) t v = absurd (omega arith)
         no (Refused r) t v = sym v

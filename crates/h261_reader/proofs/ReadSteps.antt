@@ -17,12 +17,14 @@ use Rattle.refusals.specs.Told.{toldVerdict, verdictOn, foundOr, refused as unr
 use Rattle.refusals.proofs.Told.{told-apart}
 use Rattle.bits.specs.Read.{Read, got, refused, endless}
 use Rattle.fields.specs.Answer.{found}
+use Rattle.fields.specs.declared.PictureRead.{PictureRead}
 use Rattle.h261_groups.specs.Format.{groupCount}
 use Rattle.h261_groups.specs.declared.Format.{Format}
 use Rattle.layout.specs.Flat.{Flat, flat}
 use Rattle.h261_description.specs.Valid.{lengthsOf}
+use Rattle.h261_layers.specs.Grammar.{readWidths}
 use Rattle.h261_reader.specs.Described.{Lengths, described, laidOr}
-use Rattle.h261_reader.specs.ReadOf.{readOf}
+use Rattle.h261_reader.specs.ReadOf.{readOf, readCount}
 use Rattle.refusals.specs.declared.Verdict.{Verdict}
 use Rattle.refusals.specs.declared.Verdict.the-variants.{Accepted, Refused}
 use Rattle.refusals.proofs.Verdict.{the-type as verdict-type}
@@ -38,7 +40,7 @@ copied from to out e c =
     c ∙ rw (take-length, drop-of-length-le to short, append-nil)
 
 -- ---- what the three buffers are in the end
-module _ (f : Format) (s : List ℕ) (n : ℕ) {v : Verdict} (w : toldVerdict v ≡ verdictOn (found (described f s n))) where
+module _ (f : Format) (s : List ℕ) (n : ℕ) (v : Verdict) (w : toldVerdict v ≡ verdictOn (found (described f s n))) where
   taken : (x : Read Flat) (d before : Flat) → v ≡ Accepted → toldVerdict v ≡ verdictOn (found x) → d ≡ laidOr f x → d ≡ foundOr before (found x)
   taken (got e bs at) d before a w b = b
   taken (refused r) d before a w b = absurd (told-apart (sym (ap toldVerdict a) ∙ w))
@@ -53,8 +55,12 @@ module _ (f : Format) (s : List ℕ) (n : ℕ) {v : Verdict} (w : toldVerdict v 
       → h ≡ head → m ≡ macroblocks → l ≡ levels → flat h m l ≡ foundOr before (found (described f s n))
   accepted-buffers b a before h m l eh em el = (λ i. flat (eh i) (em i) (el i)) ∙ taken (described f s n) _ before a w b
 
-  pub refused-unchanged : (r : Refusal) → v ≡ Refused r → (before : Flat) → before ≡ foundOr before (found (described f s n))
-  refused-unchanged r a before = kept (described f s n) r before a w
+  pub refused-unchanged : tagOf verdict-type v ≡ 1 → (before : Flat) → before ≡ foundOr before (found (described f s n))
+  refused-unchanged t before = by v t refl
+    where
+      by : (u : Verdict) → tagOf verdict-type u ≡ 1 → v ≡ u → before ≡ foundOr before (found (described f s n))
+      by Accepted t a = absurd (omega arith)
+      by (Refused r) t a = kept (described f s n) r before a w
 
 -- ---- the lengths
 named-lengths : (f : Format) (before : Flat) → lengthsOf f before ≡ true → Lengths f (before .head) (before .macroblocks) (before .levels)
@@ -74,17 +80,22 @@ module _ (f : Format) (s : List ℕ) (n : ℕ) (before : Flat) {o : Bool} (e : o
   unfolding readOf
   on b h = ap (λ (b : Bool). pick b (found (described f s n)) (unread 1 0)) (sym e ∙ h)
 
-  pub unfit : o ≡ false → (toldVerdict (Refused (refusal Length 0)) ≡ verdictOn (readOf f s n before)) × (before ≡ foundOr before (readOf f s n before))
+  count-on : (b : Bool) → o ≡ b → readCount f s n before ≡ pick b (length (readWidths f s n)) 0
+  unfolding readCount
+  count-on b h = ap (λ (b : Bool). pick b (length (readWidths f s n)) 0) (sym e ∙ h)
+
+  pub unfit : o ≡ false
+      → (toldVerdict (Refused (refusal Length 0)) ≡ verdictOn (readOf f s n before)) × ((before ≡ foundOr before (readOf f s n before)) × (0 ≡ readCount f s n before))
   unfolding number readTable
-  unfit h = (sym (ap verdictOn (on false h)), sym (ap (foundOr before) (on false h)))
+  unfit h = (sym (ap verdictOn (on false h)), (sym (ap (foundOr before) (on false h)), sym (count-on false h)))
 
   -- read as the format that it is
   module _ (h : o ≡ true) {g : Format} (is : f ≡ g) where
     pub lengths-are : Lengths g (before .head) (before .macroblocks) (before .levels)
     lengths-are = named-lengths g before (ap (λ (f : Format). lengthsOf f before) (sym is) ∙ sym e ∙ h)
 
-    pub fit : (v : Verdict) {after : Flat} → toldVerdict v ≡ verdictOn (found (described g s n)) → after ≡ foundOr before (found (described g s n))
-        → (toldVerdict v ≡ verdictOn (readOf f s n before)) × (after ≡ foundOr before (readOf f s n before))
-    fit v w b =
+    pub fit : (v : PictureRead) {after : Flat} → toldVerdict (v .verdict) ≡ verdictOn (found (described g s n)) → after ≡ foundOr before (found (described g s n)) → v .reads ≡ length (readWidths g s n)
+        → (toldVerdict (v .verdict) ≡ verdictOn (readOf f s n before)) × ((after ≡ foundOr before (readOf f s n before)) × (v .reads ≡ readCount f s n before))
+    fit v w b c =
         let as-read : found (described g s n) ≡ readOf f s n before = ap (λ (f : Format). found (described f s n)) (sym is) ∙ sym (on true h) in
-        (w ∙ ap verdictOn as-read, b ∙ ap (foundOr before) as-read)
+        (w ∙ ap verdictOn as-read, (b ∙ ap (foundOr before) as-read, c ∙ ap (λ (f : Format). length (readWidths f s n)) (sym is) ∙ sym (count-on true h)))

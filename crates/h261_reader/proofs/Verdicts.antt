@@ -18,7 +18,7 @@ use Rattle.bits.specs.Bits.{Bit, source}
 use Rattle.bits.specs.Read.{Read, got, refused, endless, bad}
 use Rattle.bits.proofs.Value.{length-bits}
 use Rattle.bits.proofs.Source.{source-left}
-use Rattle.bits.proofs.Logic.{Holds, holds-weaker, Fair, Took}
+use Rattle.bits.proofs.Logic.{Holds, holds-weaker, Fair, Took, gives}
 use Rattle.h261_groups.specs.Format.{sizeOf}
 use Rattle.size.specs.Size.{limit}
 use Rattle.h261_groups.specs.declared.Format.{Format}
@@ -51,14 +51,14 @@ fair-refuses n end r e h =
       counted = λ c. absurd (two (r .reason) c low);
     }
 
-length-source : (s : List ℕ) (n : ℕ) → n ≤ 8 * length s → length (source s n) ≡ n
+pub length-source : (s : List ℕ) (n : ℕ) → n ≤ 8 * length s → length (source s n) ≡ n
 length-source s n h = rw (source-left s n h) (length-bits s 0 (n - 0) ∙ sub-zero n)
 
 picture-gives : (f : Format) (s : List ℕ) (n : ℕ) → n ≤ 8 * length s → Holds (Accepts f n) (Refuses n) (picture f (source s n) 0)
 picture-gives f s n h =
     let all : length (source s n) ≡ n = length-source s n h in
     holds-weaker (picture f (source s n) 0) (λ p left at g. accepts p left at g all) (λ r q. fair-refuses n (0 + length (source s n)) r (omega arith) q)
-    (picture-reads f .gives (source s n) 0 (le-refl (suc (length (source s n)))))
+    (gives (picture-reads f) (source s n) 0 (le-refl (suc (length (source s n)))))
   where
     accepts : (p : Picture) (left : List Bit) (at : ℕ) → Took 20 (source s n) 0 left at × (Proper f p × (left ≡ [])) → length (source s n) ≡ n → Accepts f n p left at
     accepts p left at g all =

@@ -1,3 +1,4 @@
 pub mod Described
 pub mod ReadOf
 pub mod Verdict
+pub mod ListOfReads

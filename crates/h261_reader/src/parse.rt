@@ -1,9 +1,11 @@
 // A picture's bits to its description, or the refusal, in buffers of the format's lengths that are lent as zeros.
 use crate::picture::groups;
+use bits::Stopped;
 use fields::PairRead;
+use fields::PictureRead;
 use fields::PlaceRead;
-use fields::pair_refusal;
-use fields::place_refusal;
+use fields::pair_stopped;
+use fields::place_stopped;
 use h261_groups::Format;
 use h261_layers::head::header;
 use refusals::Reason;
@@ -19,7 +21,9 @@ ghost use Rattle.laws.specs.Choice.{either};
 ghost use Rattle.size.specs.Size.{limit};
 ghost use Rattle.h261_groups.specs.Format.{sizeOf};
 ghost use Rattle.layout.specs.Flat.{flat};
+ghost use Rattle.h261_layers.specs.Grammar.{readWidths};
 ghost use Rattle.h261_reader.specs.Described.{Blank, described, laidOr};
+ghost use Rattle.h261_reader.specs.ReadOf.{refusedPicture};
 
 // Whether N is above 8 times the slice, or above the format's limit.
 fn above(length: usize, count: usize, format: Format) -> bool
@@ -32,6 +36,17 @@ fn above(length: usize, count: usize, format: Format) -> bool
     h261_groups::limit(format) < count
 }
 
+// A picture that was refused.
+fn refused(stopped: Stopped) -> PictureRead
+    ensures { λ r. ⌜ r ≡ refusedPicture stopped ⌝ }
+{
+    let why = stopped.refusal;
+    PictureRead {
+        verdict: Verdict::Refused(why),
+        reads: stopped.reads,
+    }
+}
+
 fn clear(buffer: &mut [u8])
     ensures { λ _. ⌜ now (buffer .exit) ≡ replicate (length (now (buffer .entry))) 0 ⌝ }
 {
@@ -42,28 +57,32 @@ fn clear(buffer: &mut [u8])
     }
 }
 
-// The verdict of the rules. On acceptance the buffers hold the description, on a refusal zeros.
-pub fn parse(
+// The verdict of the rules, and how many fields and codewords were read. On acceptance the buffers hold the description, on a refusal zeros.
+pub fn parse_counted(
     bytes: &[u8],
     count: usize,
     format: Format,
     head: &mut [u8],
     macroblocks: &mut [u8],
     levels: &mut [u8],
-) -> Verdict
+) -> PictureRead
     requires { ⌜ Blank format (now head) (now macroblocks) (now levels) ⌝ }
-    ensures verdict { λ r. ⌜ toldVerdict r ≡ verdictOn (found (described format (now (bytes .entry)) count)) ⌝ }
+    ensures verdict { λ r. ⌜ toldVerdict (r .verdict) ≡ verdictOn (found (described format (now (bytes .entry)) count)) ⌝ }
     ensures buffers { λ _. ⌜ flat (now (head .exit)) (now (macroblocks .exit)) (now (levels .exit)) ≡ laidOr format (described format (now (bytes .entry)) count) ⌝ }
+    ensures reads { λ r. ⌜ r .reads ≡ length (readWidths format (now (bytes .entry)) count) ⌝ }
 {
     if above(bytes.len(), count, format) {
-        return Verdict::Refused(Refusal {
-            reason: Reason::Count,
-            place: 0,
-        });
+        return PictureRead {
+            verdict: Verdict::Refused(Refusal {
+                reason: Reason::Count,
+                place: 0,
+            }),
+            reads: 0,
+        };
     }
     let opened = header(bytes, count, 0, format);
     let PairRead::Got(tr, ptype, next) = opened else {
-        return Verdict::Refused(pair_refusal(opened));
+        return refused(pair_stopped(opened));
     };
     head[0] = tr;
     head[1] = ptype;
@@ -79,11 +98,31 @@ pub fn parse(
         macroblocks,
         levels,
     );
-    let PlaceRead::At(_) = read else {
+    let PlaceRead::At(end) = read else {
         clear(head);
         clear(macroblocks);
         clear(levels);
-        return Verdict::Refused(place_refusal(read));
+        return refused(place_stopped(read));
     };
-    Verdict::Accepted
+    PictureRead {
+        verdict: Verdict::Accepted,
+        reads: end.reads,
+    }
+}
+
+// The verdict alone.
+pub fn parse(
+    bytes: &[u8],
+    count: usize,
+    format: Format,
+    head: &mut [u8],
+    macroblocks: &mut [u8],
+    levels: &mut [u8],
+) -> Verdict
+    requires { ⌜ Blank format (now head) (now macroblocks) (now levels) ⌝ }
+    ensures verdict { λ r. ⌜ toldVerdict r ≡ verdictOn (found (described format (now (bytes .entry)) count)) ⌝ }
+    ensures buffers { λ _. ⌜ flat (now (head .exit)) (now (macroblocks .exit)) (now (levels .exit)) ≡ laidOr format (described format (now (bytes .entry)) count) ⌝ }
+{
+    let read = parse_counted(bytes, count, format, head, macroblocks, levels);
+    read.verdict
 }

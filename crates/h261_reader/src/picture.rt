@@ -1,7 +1,9 @@
 // A picture: its groups and their macroblocks, laid out as they are read.
-use bits::FieldRead;
-use bits::field_refusal;
+use bits::Place;
+use bits::Stopped;
+use fields::NumberRead;
 use fields::PlaceRead;
+use fields::number_stopped;
 use h261_groups::Format;
 use h261_layers::Behind;
 use h261_layers::MacroblockRead;
@@ -9,7 +11,7 @@ use h261_layers::MbaRead;
 use h261_layers::head::group_head;
 use h261_layers::macroblock::macroblock;
 use h261_layers::macroblock::mba;
-use h261_layers::macroblock_refusal;
+use h261_layers::macroblock_stopped;
 use h261_words::WordTables;
 use refusals::Reason;
 use refusals::Refusal;
@@ -28,27 +30,30 @@ pub fn groups(
     tables: &WordTables,
     bytes: &[u8],
     count: usize,
-    at: usize,
+    at: Place,
     format: Format,
     head: &mut [u8],
     macroblocks: &mut [u8],
     levels: &mut [u8],
 ) -> PlaceRead
     requires { ⌜ (Reading (now tables) (now bytes) count at) × (Lengths format (now head) (now macroblocks) (now levels)) ⌝ }
-    ensures { λ r. ⌜ leaving (now (bytes .entry)) count r (flat (now (head .exit)) (now (macroblocks .exit)) (now (levels .exit))) ≡ mapRead (putGroups (shape format) 0 (flat (now (head .entry)) (now (macroblocks .entry)) (now (levels .entry)))) (groupsRead format (groupNumbers format) (bitsLeft (now (bytes .entry)) count at) at) ⌝ }
+    ensures { λ r. ⌜ leaving (now (bytes .entry)) count r (flat (now (head .exit)) (now (macroblocks .exit)) (now (levels .exit))) ≡ mapRead (putGroups (shape format) 0 (flat (now (head .entry)) (now (macroblocks .entry)) (now (levels .entry)))) (groupsRead format (groupNumbers format) (bitsLeft (now (bytes .entry)) count (at .bit)) at) ⌝ }
 {
     let all = h261_groups::order::group_count(format);
     let mut group: usize = 0;
     let mut place = at;
-    let mut refusal = Refusal {
-        reason: Reason::BitsEnd,
-        place: at,
+    let mut stopped = Stopped {
+        refusal: Refusal {
+            reason: Reason::BitsEnd,
+            place: at.bit,
+        },
+        reads: at.reads,
     };
     'picture: while group < all {
         let number = h261_groups::order::group_number(format, group);
         let opened = group_head(bytes, count, place, number as u32);
-        let FieldRead::Got(gquant, after) = opened else {
-            refusal = field_refusal(opened);
+        let NumberRead::Got(gquant, after) = opened else {
+            stopped = number_stopped(opened);
             break 'picture;
         };
         head[3 + group] = gquant as u8;
@@ -83,7 +88,7 @@ pub fn groups(
                         levels,
                     );
                     let MacroblockRead::Got(then, end) = read else {
-                        refusal = macroblock_refusal(read);
+                        stopped = macroblock_stopped(read);
                         break 'picture;
                     };
                     behind = then;
@@ -97,7 +102,7 @@ pub fn groups(
                     break 'group;
                 }
                 MbaRead::Refused(first) => {
-                    refusal = first;
+                    stopped = first;
                     break 'picture;
                 }
             }
@@ -105,7 +110,7 @@ pub fn groups(
         group += 1;
     }
     if group < all {
-        return PlaceRead::Refused(refusal);
+        return PlaceRead::Refused(stopped);
     }
     PlaceRead::At(place)
 }

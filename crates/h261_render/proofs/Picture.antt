@@ -19,7 +19,7 @@ use Rattle.quantiser.specs.Level.{bytesFrom}
 use Rattle.samples.specs.Content.{Values, differenceOf, sentValues, keptValues, contentValues}
 use Rattle.samples.specs.Wrote.{Macroblock}
 use Rattle.samples.specs.Ready.{Ready}
-use Rattle.samples.proofs.Turns.{kept-content, sent-content}
+use Rattle.samples.proofs.Turns.{macroblock-at, kept-content, sent-content}
 use Rattle.samples.proofs.Rendered.{Order}
 use Rattle.h261_words.specs.Words.{isIntra, isMC, isFiltered, hasMQUANT}
 use Rattle.h261_groups.specs.declared.Format.{Format}
@@ -34,7 +34,8 @@ use Rattle.layout.specs.Flat.{Flat, numberOf}
 use Rattle.h261_description.specs.Valid.{valid}
 use Rattle.layout.specs.Fields.{typeOf, quantOf, horizontalOf, verticalOf, vectorAt}
 use Rattle.h261_description.specs.Fields.{gquantOf, vectorSent, quantiserBefore, quantiserOf}
-use Rattle.h261_description.proofs.ValidAt.{Fine, fine-at, head-length, macroblocks-length, levels-length, is-quantiser, quantiser-at}
+use Rattle.h261_description.proofs.ValidAt.{Fine, fine-at, head-length, macroblocks-length, levels-length, quantiser-at}
+use Rattle.layout.proofs.Levels.{is-quantiser}
 use Rattle.h261_description.specs.Moved.{Points}
 use Rattle.h261_description.proofs.Moved.{points-in}
 use Rattle.h261_render.specs.declared.Prediction.{Prediction}
@@ -45,10 +46,6 @@ use Rattle.h261_render.specs.Turn.{intraOf, vectorFrom}
 -- the order of macroblocks
 pub order : (f : Format) → Order (sizeOf f) (macroblockCount f) (macroblockAt f) (rowOf f) (columnOf f)
 order f = record { less = number-less f; row-of = number-row f; column-of = number-column f; back = of-number f }
-
-there : {r c : ℕ} (f : Format) (n : ℕ) {g : Values} {t u : List ℕ} → r ≡ rowOf f n → c ≡ columnOf f n → Macroblock (sizeOf f) r c g t u → Macroblock (sizeOf f) (rowOf f n) (columnOf f n) g t u
-there {r} {c} f n {g} {t} {u} er ec h =
-    subst (λ (m : ℕ). Macroblock (sizeOf f) m (columnOf f n) g t u) er (subst (λ (m : ℕ). Macroblock (sizeOf f) r m g t u) ec h)
 
 -- the content of macroblock n is the one in its row and column
 pub content-there : {t u : List ℕ} (f : Format) (d : Flat) (s : List ℕ) (n : ℕ) → Macroblock (sizeOf f) (rowOf f n) (columnOf f n) (contentValues (sizeOf f) s (contentOf f d s n)) t u
@@ -64,7 +61,7 @@ not-sent f d s n e = simp (eq-eqb (typeOf d n) 0 e)
 pub kept-all : {z : Size} {r c : ℕ} {t u : List ℕ} (f : Format) (n : ℕ) (d : Flat) (s : List ℕ) → z ≡ sizeOf f → r ≡ rowOf f n → c ≡ columnOf f n → typeOf d n ≡ 0
     → Macroblock z r c (keptValues z s) t u → Macroblock (sizeOf f) (rowOf f n) (columnOf f n) (contentValues (sizeOf f) s (contentOf f d s n)) t u
 kept-all {r = r} {c = c} {t = t} {u = u} f n d s ez er ec e h =
-    there f n er ec (kept-content s (contentOf f d s n) (not-sent f d s n e) (subst (λ (z : Size). Macroblock z r c (keptValues z s) t u) ez h))
+    macroblock-at er ec (kept-content s (contentOf f d s n) (not-sent f d s n e) (subst (λ (z : Size). Macroblock z r c (keptValues z s) t u) ez h))
 
 -- ---- sent
 pub is-sent : (f : Format) (d : Flat) (s : List ℕ) (n : ℕ) → (typeOf d n ≡ 0 → ⊥) → contentOf f d s n .sent ≡ true
@@ -85,7 +82,7 @@ pub sent-all : {r c q : ℕ} {k : Prediction} {v : Vector} {t u : List ℕ} (f :
     → Macroblock (sizeOf f) (rowOf f n) (columnOf f n) (contentValues (sizeOf f) s (contentOf f d s n)) t u
 unfolding contentOf
 sent-all {r} {c} {q} {k} {v} {t} {u} f n d s er ec e ek ev eq h =
-    there f n er ec (sent-content s (contentOf f d s n) (is-sent f d s n e) (subst (λ (g : Values). Macroblock (sizeOf f) r c g t u) same h))
+    macroblock-at er ec (sent-content s (contentOf f d s n) (is-sent f d s n e) (subst (λ (g : Values). Macroblock (sizeOf f) r c g t u) same h))
   where
     same : sentValues (predictionsFrom f s k v) (λ b. differenceOf (bytesFrom (d .levels) (n * 384 + b * 64)) (intraOf k) q) ≡ sentValues (contentOf f d s n .prediction) (contentOf f d s n .difference)
     same z = sentValues (predictionsFrom f s (ek z) (ev z)) (λ b. differenceOf (bytesFrom (d .levels) (n * 384 + b * 64)) ((ap intraOf ek ∙ intra-is (typeOf d n)) z) (eq z))

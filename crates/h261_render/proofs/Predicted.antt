@@ -1,20 +1,21 @@
 -- A block that is predicted: where its vector points, what is put, and that it is the block of the grid. Assumes nothing.
 use mathlib.Core.Path.{_≡_, sym, subst, _∙_}
+use mathlib.Core.Bool.{true, false}
 use mathlib.Core.List.{List}
 use Prim.Native.Nat.{ℕ, _+_, _*_, _≤_, _<_}
 use native.Mathlib.Omega.{arith}
 use lib.IntN.{ℤ, pos}
 use lib.ListN.{getD}
 use Rattle.laws.specs.Rows.{Put, Room}
-use Rattle.laws.specs.Block.{Is, cell}
+use Rattle.laws.proofs.Rows.{put-as}
 use Rattle.size.specs.declared.Size.{Size}
 use Rattle.size.specs.Size.{storeLength}
 use Rattle.size.specs.Place.{wide, high, index, On}
 use Rattle.quantiser.specs.Sample.{sampleOf}
 use Rattle.samples.specs.Content.{differenceOf}
 use Rattle.samples.specs.Ready.{Inside}
-use Rattle.samples.specs.Wrote.{Wrote, blockFrom, rowsOf}
-use Rattle.samples.proofs.Added.{put-added, put-copied}
+use Rattle.samples.specs.Wrote.{Wrote, blockFrom}
+use Rattle.samples.proofs.Added.{put-over}
 use Rattle.samples.proofs.Corner.{Corner, corner, corner-cell, corner-room}
 use Rattle.samples.proofs.Wrote.{wrote, wrote-as}
 use Rattle.h261_groups.specs.declared.Format.{Format}
@@ -22,7 +23,7 @@ use Rattle.h261_groups.specs.Format.{sizeOf}
 use Rattle.layout.specs.Value.{Vector}
 use Rattle.h261_description.specs.Moved.{movedPlace, Aims}
 use Rattle.h261_render.specs.declared.Prediction.{Prediction}
-use Rattle.h261_render.specs.declared.Prediction.the-variants.{Inter}
+use Rattle.h261_render.specs.declared.Prediction.the-variants.{Intra}
 use Rattle.h261_render.specs.Sample.{source, predicted, predictionsFrom}
 use Rattle.h261_render.specs.Turn.{intraOf}
 
@@ -37,16 +38,18 @@ inside-for f {p} {y} {x} e h = subst (λ (g : Size). Inside g p y x) (sym e) h
 abbrev PutFor : Prediction → List ℕ → ℕ → (ℕ → ℕ) → ℕ → ℕ → ℕ → List ℕ → List ℕ → Type 0
 PutFor k s from bytes q to w t u = Put 8 8 to w (λ i j. sampleOf (predicted k (blockFrom s from w) i j) (differenceOf bytes (intraOf k) q i j)) t u
 
--- the prediction's block and what is added
-pub drawn : {k : Prediction} (m : Prediction) (s : List ℕ) (from : ℕ) (bytes : ℕ → ℕ) (q : ℕ) {to w : ℕ} {a d : List (List ℤ)} {t u : List ℕ} → k ≡ m
-    → Is (pos 0) (predicted m (blockFrom s from w)) a → Is (pos 0) (differenceOf bytes (intraOf m) q) d
-    → Put 8 8 to w (λ i j. sampleOf (cell (pos 0) a i j) (cell (pos 0) d i j)) t u → PutFor k s from bytes q to w t u
-drawn m s from bytes q {to} {w} {t = t} {u = u} e h n r = subst (λ (k : Prediction). PutFor k s from bytes q to w t u) (sym e) (put-added h n r)
+-- what is sent by itself
+pub drawn-alone : {k : Prediction} (s : List ℕ) (from : ℕ) (bytes : ℕ → ℕ) (q : ℕ) {to w : ℕ} {t u : List ℕ} → k ≡ Intra
+    → Put 8 8 to w (λ i j. sampleOf (pos 0) (differenceOf bytes true q i j)) t u → PutFor k s from bytes q to w t u
+drawn-alone s from bytes q {to} {w} {t} {u} e r = subst (λ (k : Prediction). PutFor k s from bytes q to w t u) (sym e) r
 
--- the reference's block as it is, where nothing is added
-pub copied : {k : Prediction} (s : List ℕ) (from : ℕ) (bytes : ℕ → ℕ) (q : ℕ) {to w : ℕ} {t u : List ℕ} → k ≡ Inter
-    → ((n : ℕ) → getD s n 0 ≤ 255) → ((n : ℕ) → n < 64 → bytes n ≡ 0) → Put 8 8 to w (rowsOf s from w) t u → PutFor k s from bytes q to w t u
-copied s from bytes q {to} {w} {t} {u} e h n r = subst (λ (k : Prediction). PutFor k s from bytes q to w t u) (sym e) (put-copied s from bytes q h n r)
+-- what is sent over a prediction that was put
+pub drawn-over : {k : Prediction} (m : Prediction) (s : List ℕ) (from : ℕ) (bytes : ℕ → ℕ) (q : ℕ) {to w : ℕ} {g : ℕ → ℕ → ℕ} {t u v : List ℕ} → k ≡ m → intraOf m ≡ false
+    → ((i j : ℕ) → i < 8 → j < 8 → pos (g i j) ≡ predicted m (blockFrom s from w) i j) → Put 8 8 to w g t u
+    → Put 8 8 to w (λ i j. sampleOf (blockFrom u to w i j) (differenceOf bytes false q i j)) u v → PutFor k s from bytes q to w t v
+drawn-over m s from bytes q {to} {w} {t = t} {v = v} e n h p r =
+    subst (λ (k : Prediction). PutFor k s from bytes q to w t v) (sym e)
+    (put-as (λ i j a b z. sampleOf (h i j a b z) (differenceOf bytes (sym n z) q i j)) (put-over (λ i j n. sampleOf (pos n) (differenceOf bytes false q i j)) p r))
 
 -- ---- the block at (y, x) of plane p, moved by its vector to row my, column mx
 module _ (f : Format) (p y x : ℕ) (v : Vector) {my mx : ℕ} (ey : my ≡ movedPlace p (y * 8) (v .vertical)) (ex : mx ≡ movedPlace p (x * 8) (v .horizontal)) where

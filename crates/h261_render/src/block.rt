@@ -65,7 +65,7 @@ fn filtered(reference: &[u8], from: usize, stride: usize) -> [[i32; 8]; 8]
     h261_filter::filter(samples::blocks::fetch(reference, from, stride))
 }
 
-// The block at one place of the store, predicted from another of the reference. Where nothing is added and nothing filtered, it is copied.
+// The block at one place of the store, predicted from another of the reference: the prediction is put there first, and what is sent added to it.
 fn draw(
     reference: &[u8],
     from: usize,
@@ -82,24 +82,16 @@ fn draw(
 {
     match prediction {
         Prediction::Intra => {
-            let zeros = [0i32; 8];
-            let nothing = [zeros; 8];
-            let added = samples::levels::output(levels, at, true, quantiser);
-            samples::blocks::put(store, to, stride, &nothing, &added);
+            samples::draw::draw(store, to, stride, true, quantiser, levels, at);
         }
         Prediction::Inter => {
-            if samples::levels::empty(levels, at) {
-                samples::rows::copy(8, reference, from, store, to, stride);
-            } else {
-                let block = samples::blocks::fetch(reference, from, stride);
-                let added = samples::levels::output(levels, at, false, quantiser);
-                samples::blocks::put(store, to, stride, &block, &added);
-            }
+            samples::rows::copy(8, reference, from, store, to, stride);
+            samples::draw::draw(store, to, stride, false, quantiser, levels, at);
         }
         Prediction::Filtered => {
             let block = filtered(reference, from, stride);
-            let added = samples::levels::output(levels, at, false, quantiser);
-            samples::blocks::put(store, to, stride, &block, &added);
+            samples::blocks::put(store, to, stride, &block);
+            samples::draw::draw(store, to, stride, false, quantiser, levels, at);
         }
     }
 }

@@ -1,43 +1,26 @@
 -- The tests of a description, and the loops over them, on plain values. Assumes nothing.
 use mathlib.Core.Path.{_≡_, refl, sym, ap, ap₂, _∙_}
 use mathlib.Core.Bool.{Bool, true, false}
-use mathlib.Core.List.{List, _∷_}
-use Prim.Native.Nat.{ℕ, zero, suc, _+_, _-_, _*_, _≤_, _<_, max}
+use mathlib.Core.List.{List}
+use Prim.Native.Nat.{ℕ, suc, _+_, _-_, _*_, _≤_, _<_}
 use native.Mathlib.Omega.{arith}
 use native.Mathlib.Nat.{add-zero}
 use borrow.Author.Tests.{lt-ltb, le-ltb, le-leb, lt-leb, eq-eqb, ne-eqb}
-use lib.Dec.{T, leb, ltb, eqb, eqb→eq, eqb·suc-zero, lit≤}
+use lib.Dec.{T, leb, ltb, eqb, eqb→eq, lit≤}
 use Rattle.h261_words.specs.Words.{isIntra, isMC, hasMQUANT, hasCBP}
-use lib.ListN.{length, getD, take, drop, length-drop}
-use lib.Seq.{drop-length, drop-drop, getD-drop, take-all, length-take-le}
+use lib.ListN.{length, getD, drop}
 use lib.IntN.{ℤ, pos, negsuc, natAbs}
 use Rattle.laws.specs.Choice.{pick, both, opposite}
-use Rattle.laws.proofs.Choice.{both-left, both-right, both-assoc, both-true, true-T}
-use Rattle.laws.proofs.Lists.{drop-on}
+use Rattle.laws.proofs.Choice.{both-left, both-right, true-T, crossed}
 use Rattle.h261_groups.specs.Format.{formatBit, groupNumbers, groupCount, column, row, headLength, macroblocksLength, levelsLength, sizeOf}
 use Rattle.size.specs.Size.{width, height}
 use Rattle.h261_groups.specs.declared.Format.{Format}
 use Rattle.h261_groups.specs.declared.Format.the-variants.{Qcif, Cif}
-use Rattle.h261_groups.proofs.Room.{groups-listed, groups-most}
+use Rattle.h261_groups.proofs.Room.{groups-most}
 use Rattle.h261_description.specs.Vector.{inRange, inside}
 use Rattle.layout.specs.Flat.{numberOf, flat}
 use Rattle.layout.specs.Numbers.{all, isZero, isQuantiser, isLevel, codesFirst}
-use Rattle.layout.specs.Valid.{everyMacroblock, everyGroup}
-use Rattle.h261_description.specs.Valid.{validVector, validLevels, validMacroblock, validMacroblocks, validGroups, lengthsOf, validHead, valid}
-
--- ---- tests of one byte
-pub quantiser-zero : (b : ℕ) → b ≡ 0 → false ≡ isQuantiser b
-quantiser-zero b e = sym (ap isQuantiser e)
-
-pub quantiser-some : (b : ℕ) → (b ≡ 0 → ⊥) → leb b 31 ≡ isQuantiser b
-quantiser-some zero n = absurd (n refl)
-quantiser-some (suc b) n = let l : 1 ≤ suc b = omega arith in rw (le-leb 1 (suc b) l)
-
-pub level-no : (b : ℕ) → b ≡ 128 → isLevel b ≡ false
-level-no b e = ap isLevel e
-
-pub level-yes : (b : ℕ) → b < 256 → (b ≡ 128 → ⊥) → isLevel b ≡ true
-level-yes b l n = let h : b ≤ 255 = omega arith in rw (le-leb b 255 h, ne-eqb b 128 n)
+use Rattle.h261_description.specs.Valid.{validVector, validLevels, validMacroblock, validGroups, lengthsOf, validHead, valid}
 
 -- ---- a component
 number-low : (n : ℕ) → n < 128 → numberOf n ≡ pos n
@@ -91,206 +74,6 @@ module _ (n from end : ℕ) (l : 240 < n) (h : n < 256) where
 
   pub component-back : 256 - n ≤ from → leb (from + 16) (end + (256 - n)) ≡ both (inRange (numberOf n)) (inside end from (numberOf n))
   component-back s = sym (component-behind (256 - n) refl ∙ ap (λ (b : Bool). both b (leb (from + 16) (end + (256 - n)))) (le-leb (256 - n) from s))
-
--- range and edges, component by component
-pub crossed : (a b c d : Bool) → both (both a c) (both b d) ≡ both (both a b) (both c d)
-crossed true true c d = refl
-crossed true false true d = refl
-crossed true false false d = refl
-crossed false b c d = refl
-
--- ---- every byte
-pub record AllSoFar (whole : Bool) (good : ℕ → Bool) (bytes : List ℕ) (i : ℕ) : Type 0 where
-  pub inside : i ≤ length bytes
-  pub same : whole ≡ all good (drop i bytes)
-
-pub all-first : (good : ℕ → Bool) (bytes : List ℕ) (i : ℕ) → i ≤ length bytes → AllSoFar (all good (drop i bytes)) good bytes i
-all-first good bytes i h = record { inside = h; same = refl }
-
-module _ {whole : Bool} {good : ℕ → Bool} {bytes : List ℕ} {i : ℕ} (h : AllSoFar whole good bytes i) where
-  pub all-done : length bytes ≤ i → true ≡ whole
-  all-done l =
-      let e : i ≡ length bytes = omega (arith, h .inside) in
-      sym (h .same ∙ ap (λ (n : ℕ). all good (drop n bytes)) e ∙ ap (all good) (drop-length bytes))
-
-  module _ (l : i < length bytes) where
-    on : whole ≡ both (good (getD bytes i 0)) (all good (drop (i + 1) bytes))
-    on = h .same ∙ ap (all good) (drop-on bytes i l)
-
-    pub all-no : good (getD bytes i 0) ≡ false → false ≡ whole
-    all-no e = sym (on ∙ ap (λ (b : Bool). both b (all good (drop (i + 1) bytes))) e)
-
-    pub all-more : good (getD bytes i 0) ≡ true → AllSoFar whole good bytes (i + 1)
-    all-more e = record { inside = omega arith; same = on ∙ ap (λ (b : Bool). both b (all good (drop (i + 1) bytes))) e }
-
--- ---- the largest of i bytes' marks is 0 where all of them pass
-pub record LargestSoFar (whole : Bool) (good : ℕ → Bool) (bytes : List ℕ) (largest i : ℕ) : Type 0 where
-  pub inside : i ≤ length bytes
-  pub same : whole ≡ both (isZero largest) (all good (drop i bytes))
-
-largest-zero : (m x : ℕ) → both (isZero m) (isZero x) ≡ isZero (max m x)
-largest-zero zero x = let e : x ≡ max 0 x = omega arith in ap isZero e
-largest-zero (suc m) x = ap (λ (b : Bool). both b (isZero x)) (eqb·suc-zero m) ∙ sym (ne-eqb (max (suc m) x) 0 (λ e. omega (arith, e)))
-
-pub largest-first : (good : ℕ → Bool) (bytes : List ℕ) → LargestSoFar (all good bytes) good bytes 0 0
-largest-first good bytes = record { inside = omega arith; same = refl }
-
-module _ {whole : Bool} {good : ℕ → Bool} {bytes : List ℕ} {largest i : ℕ} (h : LargestSoFar whole good bytes largest i) where
-  pub largest-done : length bytes ≤ i → isZero largest ≡ whole
-  largest-done l =
-      let e : i ≡ length bytes = omega (arith, h .inside) in
-      sym (h .same ∙ ap (λ (n : ℕ). both (isZero largest) (all good (drop n bytes))) e ∙ ap (λ (x : List ℕ). both (isZero largest) (all good x)) (drop-length bytes) ∙ both-true (isZero largest))
-
-  pub largest-more : (mark : ℕ) {m : ℕ} → i < length bytes → isZero mark ≡ good (getD bytes i 0) → m ≡ max largest mark → LargestSoFar whole good bytes m (i + 1)
-  largest-more mark l g e = record {
-    inside = omega arith;
-    same =
-        h .same ∙ ap (λ (x : List ℕ). both (isZero largest) (all good x)) (drop-on bytes i l)
-        ∙ both-assoc (isZero largest) (good (getD bytes i 0)) (all good (drop (i + 1) bytes))
-        ∙ ap (λ (b : Bool). both b (all good (drop (i + 1) bytes))) (ap (both (isZero largest)) (sym g) ∙ largest-zero largest mark ∙ ap isZero (sym e));
-  }
-
--- ---- the DC codes of six blocks: k are behind
-pub record CodesSoFar (whole : Bool) (bytes : List ℕ) (k : ℕ) : Type 0 where
-  pub left : ℕ
-  pub count : k + left ≡ 6
-  pub same : whole ≡ codesFirst left (drop (k * 64) bytes)
-
-pub codes-begin : (bytes : List ℕ) → CodesSoFar (codesFirst 6 bytes) bytes 0
-codes-begin bytes = record { left = 6; count = refl; same = refl }
-
-codes-none : (n : ℕ) (l : List ℕ) → n ≡ 0 → codesFirst n l ≡ true
-unfolding codesFirst
-codes-none zero l e = refl
-codes-none (suc n) l e = absurd (omega arith)
-
-codes-one : (n : ℕ) (l : List ℕ) → codesFirst (suc n) l ≡ both (opposite (isZero (getD l 0 0))) (codesFirst n (drop 64 l))
-unfolding codesFirst
-codes-one n l = refl
-
-module _ {whole : Bool} {bytes : List ℕ} {k : ℕ} (h : CodesSoFar whole bytes k) where
-  pub codes-done : 6 ≤ k → true ≡ whole
-  codes-done l = sym (h .same ∙ codes-none (h .left) _ (omega (arith, h .count)))
-
-  module _ (l : k < 6) where
-    code-on : whole ≡ both (opposite (isZero (getD bytes (k * 64) 0))) (codesFirst (5 - k) (drop ((k + 1) * 64) bytes))
-    code-on =
-        let e : h .left ≡ suc (5 - k) = omega (arith, h .count) in
-        let z : k * 64 + 0 ≡ k * 64 = omega arith in
-        let m : k * 64 + 64 ≡ (k + 1) * 64 = omega arith in
-        h .same ∙ ap (λ (n : ℕ). codesFirst n (drop (k * 64) bytes)) e ∙ codes-one (5 - k) (drop (k * 64) bytes)
-        ∙ ap₂ (λ (x : ℕ) (y : List ℕ). both (opposite (isZero x)) (codesFirst (5 - k) y))
-        (getD-drop (k * 64) bytes 0 0 ∙ ap (λ (n : ℕ). getD bytes n 0) z)
-        (drop-drop 64 (k * 64) bytes ∙ ap (λ (n : ℕ). drop n bytes) m)
-
-    pub codes-no : getD bytes (k * 64) 0 ≡ 0 → false ≡ whole
-    codes-no e = sym (code-on ∙ ap (λ (x : ℕ). both (opposite (isZero x)) (codesFirst (5 - k) (drop ((k + 1) * 64) bytes))) e)
-
-    pub codes-more : (getD bytes (k * 64) 0 ≡ 0 → ⊥) → CodesSoFar whole bytes (k + 1)
-    codes-more n = record {
-      left = 5 - k;
-      count = omega arith;
-      same = code-on ∙ ap (λ (b : Bool). both (opposite b) (codesFirst (5 - k) (drop ((k + 1) * 64) bytes))) (ne-eqb (getD bytes (k * 64) 0) 0 n);
-    }
-
--- ---- the macroblocks of a group: k are behind
-pub record GroupSoFar (whole : Bool) (f : Format) (number : ℕ) (fields levels : List ℕ) (k : ℕ) : Type 0 where
-  pub left : ℕ
-  pub count : k + left ≡ 33
-  pub same : whole ≡ validMacroblocks left f number (k + 1) (drop (k * 4) fields) (drop (k * 384) levels)
-
-pub group-begin : (f : Format) (number : ℕ) (fields levels : List ℕ) → GroupSoFar (validMacroblocks 33 f number 1 fields levels) f number fields levels 0
-group-begin f number fields levels = record { left = 33; count = refl; same = refl }
-
-macroblocks-none : (n : ℕ) (f : Format) (number address : ℕ) (fields levels : List ℕ) → n ≡ 0 → validMacroblocks n f number address fields levels ≡ true
-unfolding everyMacroblock
-macroblocks-none zero f number address fields levels e = refl
-macroblocks-none (suc n) f number address fields levels e = absurd (omega arith)
-
-macroblocks-one : (n : ℕ) (f : Format) (number address : ℕ) (fields levels : List ℕ)
-    → validMacroblocks (suc n) f number address fields levels
-    ≡ both (validMacroblock f number address (take 4 fields) (take 384 levels)) (validMacroblocks n f number (address + 1) (drop 4 fields) (drop 384 levels))
-unfolding everyMacroblock
-macroblocks-one n f number address fields levels = refl
-
-module _ {whole : Bool} {f : Format} {number : ℕ} {fields levels : List ℕ} {k : ℕ} (h : GroupSoFar whole f number fields levels k) where
-  pub group-done : 33 ≤ k → true ≡ whole
-  group-done l = sym (h .same ∙ macroblocks-none (h .left) f number _ _ _ (omega (arith, h .count)))
-
-  module _ (l : k < 33) (r : Bool)
-      (m : r ≡ validMacroblock f number (k + 1) (take (k * 4 + 4 - k * 4) (drop (k * 4) fields)) (take (k * 384 + 384 - k * 384) (drop (k * 384) levels)))
-    where
-      group-on : whole ≡ both r (validMacroblocks (32 - k) f number (k + 1 + 1) (drop ((k + 1) * 4) fields) (drop ((k + 1) * 384) levels))
-      group-on =
-          let e : h .left ≡ suc (32 - k) = omega (arith, h .count) in
-          let four : k * 4 + 4 - k * 4 ≡ 4 = omega arith in
-          let many : k * 384 + 384 - k * 384 ≡ 384 = omega arith in
-          let a : k * 4 + 4 ≡ (k + 1) * 4 = omega arith in
-          let b : k * 384 + 384 ≡ (k + 1) * 384 = omega arith in
-          h .same ∙ ap (λ (n : ℕ). validMacroblocks n f number (k + 1) (drop (k * 4) fields) (drop (k * 384) levels)) e
-          ∙ macroblocks-one (32 - k) f number (k + 1) (drop (k * 4) fields) (drop (k * 384) levels)
-          ∙ ap₂ both
-          (sym (m ∙ ap₂ (λ (x y : ℕ). validMacroblock f number (k + 1) (take x (drop (k * 4) fields)) (take y (drop (k * 384) levels))) four many))
-          (ap₂ (validMacroblocks (32 - k) f number (k + 1 + 1))
-          (drop-drop 4 (k * 4) fields ∙ ap (λ (n : ℕ). drop n fields) a)
-          (drop-drop 384 (k * 384) levels ∙ ap (λ (n : ℕ). drop n levels) b))
-
-      pub group-no : r ≡ false → false ≡ whole
-      group-no e = sym (group-on ∙ ap (λ (b : Bool). both b (validMacroblocks (32 - k) f number (k + 1 + 1) (drop ((k + 1) * 4) fields) (drop ((k + 1) * 384) levels))) e)
-
-      pub group-more : r ≡ true → GroupSoFar whole f number fields levels (k + 1)
-      group-more e = record {
-        left = 32 - k;
-        count = omega arith;
-        same = group-on ∙ ap (λ (b : Bool). both b (validMacroblocks (32 - k) f number (k + 1 + 1) (drop ((k + 1) * 4) fields) (drop ((k + 1) * 384) levels))) e;
-      }
-
--- ---- the groups: g are behind
-
-pub record GroupsSoFar (whole : Bool) (f : Format) (fields levels : List ℕ) (g : ℕ) : Type 0 where
-  pub within-count : g ≤ groupCount f
-  pub same : whole ≡ validGroups f (drop g (groupNumbers f)) (drop (g * 132) fields) (drop (g * 12672) levels)
-
-pub groups-begin : (f : Format) (fields levels : List ℕ) → GroupsSoFar (validGroups f (groupNumbers f) fields levels) f fields levels 0
-groups-begin f fields levels = record { within-count = omega arith; same = refl }
-
-groups-one : (f : Format) (number : ℕ) (numbers fields levels : List ℕ)
-    → validGroups f (number ∷ numbers) fields levels ≡ both (validMacroblocks 33 f number 1 fields levels) (validGroups f numbers (drop 132 fields) (drop 12672 levels))
-unfolding everyGroup
-groups-one f number numbers fields levels = refl
-
-module _ {whole : Bool} {f : Format} {fields levels : List ℕ} {g : ℕ} (h : GroupsSoFar whole f fields levels g) where
-  pub groups-done : groupCount f ≤ g → true ≡ whole
-  unfolding everyGroup
-  groups-done l =
-      let e : g ≡ length (groupNumbers f) = omega (arith, h .within-count, groups-listed f) in
-      sym (h .same ∙ ap (λ (ns : List ℕ). validGroups f ns (drop (g * 132) fields) (drop (g * 12672) levels)) (ap (λ (n : ℕ). drop n (groupNumbers f)) e ∙ drop-length (groupNumbers f)))
-
-  module _ (l : g < groupCount f) (r : Bool) (m : r ≡ validMacroblocks 33 f (getD (groupNumbers f) g 0) 1 (drop (g * 132) fields) (drop (g * 12672) levels)) where
-    groups-on : whole ≡ both r (validGroups f (drop (g + 1) (groupNumbers f)) (drop ((g + 1) * 132) fields) (drop ((g + 1) * 12672) levels))
-    groups-on =
-        let a : g * 132 + 132 ≡ (g + 1) * 132 = omega arith in
-        let b : g * 12672 + 12672 ≡ (g + 1) * 12672 = omega arith in
-        h .same
-        ∙ ap (λ (ns : List ℕ). validGroups f ns (drop (g * 132) fields) (drop (g * 12672) levels)) (drop-on (groupNumbers f) g (omega (arith, groups-listed f)))
-        ∙ groups-one f (getD (groupNumbers f) g 0) (drop (g + 1) (groupNumbers f)) (drop (g * 132) fields) (drop (g * 12672) levels)
-        ∙ ap₂ both (sym m)
-        (ap₂ (validGroups f (drop (g + 1) (groupNumbers f)))
-        (drop-drop 132 (g * 132) fields ∙ ap (λ (n : ℕ). drop n fields) a)
-        (drop-drop 12672 (g * 12672) levels ∙ ap (λ (n : ℕ). drop n levels) b))
-
-    pub groups-no : r ≡ false → false ≡ whole
-    groups-no e = sym (groups-on ∙ ap (λ (b : Bool). both b (validGroups f (drop (g + 1) (groupNumbers f)) (drop ((g + 1) * 132) fields) (drop ((g + 1) * 12672) levels))) e)
-
-    pub groups-more : r ≡ true → GroupsSoFar whole f fields levels (g + 1)
-    groups-more e = record {
-      within-count = omega arith;
-      same = groups-on ∙ ap (λ (b : Bool). both b (validGroups f (drop (g + 1) (groupNumbers f)) (drop ((g + 1) * 132) fields) (drop ((g + 1) * 12672) levels))) e;
-    }
-
--- a part to the end is the rest
-pub part-rest : (l : List ℕ) (a : ℕ) → take (length l - a) (drop a l) ≡ drop a l
-part-rest l a = take-all (length l - a) (drop a l) (omega (arith, length-drop a l))
 
 -- ---- a vector: where the type has one, and where it hasn't
 module _ (f : Format) (number address : ℕ) (fields : List ℕ) where
@@ -451,16 +234,7 @@ module _ (f : Format) (head : List ℕ) where
       head-yes x r g =
           g ∙ sym (λ i. headed (le-leb (getD head 0 0) 31 a i) (le-leb (getD head 1 0) 7 b i) (eq-eqb (getD head 2 0) (formatBit f) (x ∙ e) i))
 
--- ---- a group's part of the slices
-pub group-part : (f : Format) (fields levels : List ℕ) (g number : ℕ) (r : Bool) → number ≡ getD (groupNumbers f) g 0
-    → r ≡ validMacroblocks 33 f number 1 (take (length fields - g * 132) (drop (g * 132) fields)) (take (length levels - g * 12672) (drop (g * 12672) levels))
-    → r ≡ validMacroblocks 33 f (getD (groupNumbers f) g 0) 1 (drop (g * 132) fields) (drop (g * 12672) levels)
-group-part f fields levels g number r n e = e ∙ (λ i. validMacroblocks 33 f (n i) 1 (part-rest fields (g * 132) i) (part-rest levels (g * 12672) i))
-
-pub part-length : (l : List ℕ) (a n : ℕ) → a + n ≤ length l → n ≤ length (take (length l - a) (drop a l))
-part-length l a n h = omega (arith, ap length (part-rest l a), length-drop a l)
-
--- a group's parts lie in the lists
+-- ---- a group's parts lie in the lists
 pub record GroupFits (g : ℕ) (fields levels : List ℕ) : Type 0 where
   pub low : g < 12
   pub fields-fit : g * 132 + 132 ≤ length fields
@@ -469,8 +243,3 @@ pub record GroupFits (g : ℕ) (fields levels : List ℕ) : Type 0 where
 pub group-fits : (f : Format) {fields levels : List ℕ} {g count : ℕ}
     → length fields ≡ macroblocksLength f → length levels ≡ levelsLength f → count ≡ groupCount f → g < count → GroupFits g fields levels
 group-fits f a b e h = record { low = omega (arith, groups-most f); fields-fit = omega arith; levels-fit = omega arith }
-
-pub piece-length : (l : List ℕ) (a n : ℕ) → a + n ≤ length l → length (take (a + n - a) (drop a l)) ≡ n
-piece-length l a n h =
-    let e : a + n - a ≡ n = omega arith in
-    ap (λ (k : ℕ). length (take k (drop a l))) e ∙ length-take-le n (drop a l) (omega (arith, length-drop a l))

@@ -9,7 +9,6 @@ ghost use Rattle.h261_description.specs.Valid.{lengthsOf, validHead, validMacro
 ghost use Rattle.layout.specs.Flat.{flat};
 ghost use Rattle.h261_validity.specs.Ready.{GroupReady};
 
-pub mod levels;
 mod macroblock;
 pub mod refresh;
 
@@ -33,7 +32,7 @@ fn all_quantisers(head: &[u8]) -> bool
 {
     let mut i: usize = 3;
     while i < head.len() {
-        if !macroblock::is_quantiser(head[i]) {
+        if !levels::is_quantiser(head[i]) {
             return false;
         }
         i += 1;

@@ -1,5 +1,4 @@
 // A macroblock under the rules of its type and place.
-use crate::levels;
 use h261_groups::Format;
 ghost use mathlib.Core.Path.{_≡_};
 ghost use Prim.Native.Nat.{_≤_, _<_};
@@ -10,25 +9,15 @@ ghost use Rattle.h261_words.specs.Words.{hasMQUANT, isMC};
 ghost use Rattle.h261_description.specs.Vector.{inRange, inside};
 ghost use Rattle.layout.specs.Flat.{numberOf};
 ghost use Rattle.layout.specs.Numbers.{isQuantiser, isZero};
-ghost use Rattle.h261_description.specs.Valid.{validVector, validMacroblock};
+ghost use Rattle.h261_description.specs.Valid.{validVector, validLevels, validMacroblock};
 ghost use Rattle.h261_validity.specs.Ready.{MacroblockReady};
-
-// Whether a byte is a quantiser, 1 to 31.
-pub fn is_quantiser(byte: u8) -> bool
-    ensures { λ r. ⌜ r ≡ isQuantiser byte ⌝ }
-{
-    if byte == 0 {
-        return false;
-    }
-    byte <= 31
-}
 
 // MQUANT stands where the type has it, and is 0 where it hasn't.
 fn valid_mquant(kind: u8, mquant: u8) -> bool
     ensures { λ r. ⌜ r ≡ pick (hasMQUANT kind) (isQuantiser mquant) (isZero mquant) ⌝ }
 {
     if h261_words::kind::has_mquant(kind as u16) {
-        return is_quantiser(mquant);
+        return levels::is_quantiser(mquant);
     }
     mquant == 0
 }
@@ -73,6 +62,29 @@ fn valid_vector(format: Format, number: usize, address: usize, fields: &[u8]) ->
     down == 0
 }
 
+// Whether a macroblock of this type may have these levels.
+fn valid_levels(kind: u8, bytes: &[u8]) -> bool
+    requires { ⌜ length (now bytes) ≡ 384 ⌝ }
+    ensures { λ r. ⌜ r ≡ validLevels kind (now (bytes .entry)) ⌝ }
+{
+    if h261_words::kind::is_intra(kind as u16) {
+        if levels::all_levels(bytes) {
+            return levels::codes_first(bytes);
+        }
+        return false;
+    }
+    if h261_words::kind::has_cbp(kind as u16) {
+        if levels::all_levels(bytes) {
+            if levels::all_zero(bytes) {
+                return false;
+            }
+            return true;
+        }
+        return false;
+    }
+    levels::all_zero(bytes)
+}
+
 // The macroblock at an address of a group: its four fields, and its 384 levels.
 pub fn valid_macroblock(
     format: Format,
@@ -94,5 +106,5 @@ pub fn valid_macroblock(
     if !valid_vector(format, number, address, fields) {
         return false;
     }
-    levels::valid_levels(kind, levels)
+    valid_levels(kind, levels)
 }

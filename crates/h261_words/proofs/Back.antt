@@ -2,26 +2,27 @@
 use mathlib.Core.Path.{_≡_, refl, ap, _∙_}
 use mathlib.Core.Bool.{Bool, true, false}
 use mathlib.Core.List.{List, _++_, append-assoc}
-use Prim.Native.Nat.{ℕ, zero, suc, _+_, _-_, _/_, _%_, _^_, _<_, _≤_}
+use Prim.Native.Nat.{ℕ, _+_, _-_, _/_, _%_, _≤_}
 use native.Mathlib.Omega.{arith}
-use borrow.Author.Tests.{le-ltb, ltb-true}
+use borrow.Author.Tests.{ltb-true}
 use lib.Dec.{T, ltb}
 use lib.ListN.{length, length-append}
-use Rattle.laws.specs.Choice.{pick, both, either}
-use Rattle.laws.proofs.Choice.{both-left, both-right, either-right, true-false, true-T, T-true}
-use Rattle.laws.specs.Table.{allB}
-use Rattle.laws.proofs.Table.{all-at}
+use Rattle.laws.specs.Choice.{pick, both}
+use Rattle.laws.proofs.Choice.{both-left, both-right, true-T, T-true}
 use Rattle.bits.specs.Bits.{Bit, bitsOf}
+use Rattle.bits.specs.Places.{plain}
 use Rattle.bits.specs.Read.{got, settle}
-use Rattle.bits.specs.Code.{Entry, CodeTable, word, wordOf, hasIn, has}
+use Rattle.bits.specs.Code.{CodeTable, word, wordOf, hasIn, has}
 use Rattle.bits.proofs.Codes.{free, word-back}
+use Rattle.bits.proofs.Codewords.{has-each}
 use Rattle.bits.proofs.Fields.{field-back, length-bitsOf}
 use Rattle.h261_words.specs.Tables.{table1, table2, table3, table4, pair, endOfBlock, escape, pairs, firstTable5, laterTable5}
 use Rattle.layout.specs.Value.{Coefficient, coefficient}
-use Rattle.h261_words.specs.Words.{sent, over, signed, allowed, negative, size, coefficientRead, tcoeffOf}
-use Rattle.layout.specs.Numbers.{forbidden}
+use Rattle.h261_words.specs.Words.{sent, over, allowed, coefficientRead, tcoeffOf}
+use Rattle.layout.specs.Numbers.{signedCode, codeSign, codeSize}
+use Rattle.layout.proofs.Codes.{size-some, sign-small, sign-back}
 use Rattle.h261_words.proofs.Coefficients.{end-read, escape-read, pair-read, settle-allowed}
-use Rattle.h261_words.specs.Back.{Sendable}
+use Rattle.layout.specs.Sendable.{Sendable}
 
 -- no codeword of a table is a beginning of another
 free1 : T (free (table1 .entries))
@@ -49,94 +50,62 @@ unfolding pairs laterTable5 hasIn
 has-end = tt
 
 -- ---- the meanings
--- each from `from` to `to` has a codeword
-abbrev hasAll : List Entry → ℕ → ℕ → Bool
-hasAll table from to = allB (suc to) (λ m. either (ltb m from) (hasIn table m))
-
-from-to : (table : List Entry) (from to : ℕ) → T (hasAll table from to) → (m : ℕ) → from ≤ m → m ≤ to → T (hasIn table m)
-from-to table from to t m l h =
-    either-right (ltb m from) (hasIn table m) (le-ltb m from l) (all-at (suc to) (λ i. either (ltb i from) (hasIn table i)) t m (omega arith))
-
 pub has-mba : (m : ℕ) → 1 ≤ m → m ≤ 35 → T (has table1 m)
 unfolding table1 hasIn
-has-mba m l h = from-to (table1 .entries) 1 35 tt m l h
+has-mba m l h = has-each (table1 .entries) 1 35 tt m l h
 
 pub has-mtype : (m : ℕ) → 1 ≤ m → m ≤ 10 → T (has table2 m)
 unfolding table2 hasIn
-has-mtype m l h = from-to (table2 .entries) 1 10 tt m l h
+has-mtype m l h = has-each (table2 .entries) 1 10 tt m l h
 
 pub has-mvd : (m : ℕ) → m ≤ 31 → T (has table3 m)
 unfolding table3 hasIn
-has-mvd m h = from-to (table3 .entries) 0 31 tt m (omega arith) h
+has-mvd m h = has-each (table3 .entries) 0 31 tt m (omega arith) h
 
 pub has-cbp : (m : ℕ) → 1 ≤ m → m ≤ 63 → T (has table4 m)
 unfolding table4 hasIn
-has-cbp m l h = from-to (table4 .entries) 1 63 tt m l h
+has-cbp m l h = has-each (table4 .entries) 1 63 tt m l h
 
 -- ---- Tables 1 to 4
-pub mba-back : (m : ℕ) (rest : List Bit) (at : ℕ) → 1 ≤ m → m ≤ 35 → word table1 (wordOf table1 m ++ rest) at ≡ got m rest (at + length (wordOf table1 m))
+pub mba-back : (m : ℕ) (rest : List Bit) (at : ℕ) → 1 ≤ m → m ≤ 35 → word {P = plain} table1 (wordOf table1 m ++ rest) at ≡ got m rest (at + length (wordOf table1 m))
 mba-back m rest at l h = word-back table1 m rest at free1 (has-mba m l h)
 
-pub mtype-back : (m : ℕ) (rest : List Bit) (at : ℕ) → 1 ≤ m → m ≤ 10 → word table2 (wordOf table2 m ++ rest) at ≡ got m rest (at + length (wordOf table2 m))
+pub mtype-back : (m : ℕ) (rest : List Bit) (at : ℕ) → 1 ≤ m → m ≤ 10 → word {P = plain} table2 (wordOf table2 m ++ rest) at ≡ got m rest (at + length (wordOf table2 m))
 mtype-back m rest at l h = word-back table2 m rest at free2 (has-mtype m l h)
 
-pub mvd-back : (m : ℕ) (rest : List Bit) (at : ℕ) → m ≤ 31 → word table3 (wordOf table3 m ++ rest) at ≡ got m rest (at + length (wordOf table3 m))
+pub mvd-back : (m : ℕ) (rest : List Bit) (at : ℕ) → m ≤ 31 → word {P = plain} table3 (wordOf table3 m ++ rest) at ≡ got m rest (at + length (wordOf table3 m))
 mvd-back m rest at h = word-back table3 m rest at free3 (has-mvd m h)
 
-pub cbp-back : (m : ℕ) (rest : List Bit) (at : ℕ) → 1 ≤ m → m ≤ 63 → word table4 (wordOf table4 m ++ rest) at ≡ got m rest (at + length (wordOf table4 m))
+pub cbp-back : (m : ℕ) (rest : List Bit) (at : ℕ) → 1 ≤ m → m ≤ 63 → word {P = plain} table4 (wordOf table4 m ++ rest) at ≡ got m rest (at + length (wordOf table4 m))
 cbp-back m rest at l h = word-back table4 m rest at free4 (has-cbp m l h)
 
-level-some : (code : ℕ) → forbidden code ≡ false → code ≡ 0 → ⊥
-level-some zero e z = true-false e
-level-some (suc n) e z = omega arith
-
-pub size-some : (code : ℕ) → code < 256 → forbidden code ≡ false → 1 ≤ size code
-size-some code h e = go (ltb code 128) (level-some code e)
-  where
-    go : (b : Bool) → (code ≡ 0 → ⊥) → 1 ≤ pick b code (256 - code)
-    go true n = omega arith
-    go false n = omega arith
-
-sign-back : (code : ℕ) → code < 256 → signed (negative code) (size code) ≡ code
-sign-back code h = go (ltb code 128)
-  where
-    go : (b : Bool) → signed (pick b 0 1) (pick b code (256 - code)) ≡ code
-    go true = refl
-    go false = omega arith
-
-pub negative-small : (code : ℕ) → negative code < 2 ^ 1
-negative-small code = go (ltb code 128)
-  where
-    go : (b : Bool) → pick b 0 1 < 2
-    go true = omega arith
-    go false = omega arith
-
+-- ---- Table 5
 module _ (table : CodeTable) (ok : T (free (table .entries))) (esc : T (has table escape)) (c : Coefficient) (g : Sendable c) (rest : List Bit) (at : ℕ) where
   m : ℕ
-  m = pair (c .run) (size (c .code))
+  m = pair (c .run) (codeSize (c .code))
 
-  pair-back : ltb (size (c .code)) 16 ≡ true → T (has table m)
-      → coefficientRead table ((wordOf table m ++ bitsOf 1 (negative (c .code))) ++ rest) at ≡ got (sent c) rest (at + length (wordOf table m ++ bitsOf 1 (negative (c .code))))
+  pair-back : ltb (codeSize (c .code)) 16 ≡ true → T (has table m)
+      → coefficientRead {P = plain} table ((wordOf table m ++ bitsOf 1 (codeSign (c .code))) ++ rest) at ≡ got (sent c) rest (at + length (wordOf table m ++ bitsOf 1 (codeSign (c .code))))
   unfolding m
   pair-back l h =
       let some = size-some (c .code) (g .byte) (g .level) in
-      let less = ltb-true (size (c .code)) 16 l in
+      let less = ltb-true (codeSize (c .code)) 16 l in
       let w = wordOf table m in
-      let s = bitsOf 1 (negative (c .code)) in
+      let s = bitsOf 1 (codeSign (c .code)) in
       let n0 : m ≡ endOfBlock → ⊥ = λ e. omega arith in
       let n5 : m ≡ escape → ⊥ = λ e. omega arith in
       let run : m / 16 ≡ c .run = omega arith in
-      let lev : m % 16 ≡ size (c .code) = omega arith in
+      let lev : m % 16 ≡ codeSize (c .code) = omega arith in
       let e = word-back table m (s ++ rest) at ok h in
-      let f = field-back 1 (negative (c .code)) rest (at + length w) (negative-small (c .code)) in
-      let p : at + length w + 1 ≡ at + length (w ++ s) = omega (arith, length-append w s, length-bitsOf 1 (negative (c .code))) in
-      let k : signed (negative (c .code)) (m % 16) ≡ c .code = ap (signed (negative (c .code))) lev ∙ sign-back (c .code) (g .byte) in
+      let f = field-back 1 (codeSign (c .code)) rest (at + length w) (sign-small (c .code)) in
+      let p : at + length w + 1 ≡ at + length (w ++ s) = omega (arith, length-append w s, length-bitsOf 1 (codeSign (c .code))) in
+      let k : signedCode (codeSign (c .code)) (m % 16) ≡ c .code = ap (signedCode (codeSign (c .code))) lev ∙ sign-back (c .code) (g .byte) in
       rw (append-assoc w s rest)
-      (pair-read table (w ++ (s ++ rest)) at m (s ++ rest) (at + length w) e n0 n5 (negative (c .code)) rest (at + length w + 1) f
+      (pair-read table (w ++ (s ++ rest)) at m (s ++ rest) (at + length w) e n0 n5 (codeSign (c .code)) rest (at + length w + 1) f
       ∙ (λ i. settle at (allowed (sent (coefficient (run i) (k i)))) rest (p i))
       ∙ settle-allowed at (c .run) (c .code) rest (at + length (w ++ s)) (g .level))
 
-  escape-back : coefficientRead table ((wordOf table escape ++ (bitsOf 6 (c .run) ++ bitsOf 8 (c .code))) ++ rest) at
+  escape-back : coefficientRead {P = plain} table ((wordOf table escape ++ (bitsOf 6 (c .run) ++ bitsOf 8 (c .code))) ++ rest) at
       ≡ got (sent c) rest (at + length (wordOf table escape ++ (bitsOf 6 (c .run) ++ bitsOf 8 (c .code))))
   escape-back =
       let w = wordOf table escape in
@@ -153,31 +122,31 @@ module _ (table : CodeTable) (ok : T (free (table .entries))) (esc : T (has tabl
       ∙ ap (settle at (allowed (sent c)) rest) p
       ∙ settle-allowed at (c .run) (c .code) rest (at + length (w ++ (r ++ l))) (g .level))
 
-  coefficient-back : coefficientRead table (tcoeffOf table c ++ rest) at ≡ got (sent c) rest (at + length (tcoeffOf table c))
+  coefficient-back : coefficientRead {P = plain} table (tcoeffOf table c ++ rest) at ≡ got (sent c) rest (at + length (tcoeffOf table c))
   unfolding tcoeffOf m
-  coefficient-back = go (both (ltb (size (c .code)) 16) (has table m)) refl
+  coefficient-back = go (both (ltb (codeSize (c .code)) 16) (has table m)) refl
     where
       A : List Bit
-      A = wordOf table m ++ bitsOf 1 (negative (c .code))
+      A = wordOf table m ++ bitsOf 1 (codeSign (c .code))
 
       B : List Bit
       B = wordOf table escape ++ (bitsOf 6 (c .run) ++ bitsOf 8 (c .code))
 
-      go : (b : Bool) → both (ltb (size (c .code)) 16) (has table m) ≡ b → coefficientRead table (pick b A B ++ rest) at ≡ got (sent c) rest (at + length (pick b A B))
+      go : (b : Bool) → both (ltb (codeSize (c .code)) 16) (has table m) ≡ b → coefficientRead {P = plain} table (pick b A B ++ rest) at ≡ got (sent c) rest (at + length (pick b A B))
       go true e =
-          let t = true-T (both (ltb (size (c .code)) 16) (has table m)) e in
-          pair-back (T-true _ (both-left (ltb (size (c .code)) 16) (has table m) t)) (both-right (ltb (size (c .code)) 16) (has table m) t)
+          let t = true-T (both (ltb (codeSize (c .code)) 16) (has table m)) e in
+          pair-back (T-true _ (both-left (ltb (codeSize (c .code)) 16) (has table m) t)) (both-right (ltb (codeSize (c .code)) 16) (has table m) t)
       go false e = escape-back
 
 pub first-back : (c : Coefficient) (rest : List Bit) (at : ℕ) → Sendable c
-    → coefficientRead firstTable5 (tcoeffOf firstTable5 c ++ rest) at ≡ got (sent c) rest (at + length (tcoeffOf firstTable5 c))
+    → coefficientRead {P = plain} firstTable5 (tcoeffOf firstTable5 c ++ rest) at ≡ got (sent c) rest (at + length (tcoeffOf firstTable5 c))
 unfolding pairs firstTable5 hasIn
 first-back c rest at g = coefficient-back firstTable5 tt tt c g rest at
 
 pub later-back : (c : Coefficient) (rest : List Bit) (at : ℕ) → Sendable c
-    → coefficientRead laterTable5 (tcoeffOf laterTable5 c ++ rest) at ≡ got (sent c) rest (at + length (tcoeffOf laterTable5 c))
+    → coefficientRead {P = plain} laterTable5 (tcoeffOf laterTable5 c ++ rest) at ≡ got (sent c) rest (at + length (tcoeffOf laterTable5 c))
 unfolding pairs laterTable5 hasIn
 later-back c rest at g = coefficient-back laterTable5 tt tt c g rest at
 
-pub end-back : (rest : List Bit) (at : ℕ) → coefficientRead laterTable5 (wordOf laterTable5 endOfBlock ++ rest) at ≡ got over rest (at + length (wordOf laterTable5 endOfBlock))
+pub end-back : (rest : List Bit) (at : ℕ) → coefficientRead {P = plain} laterTable5 (wordOf laterTable5 endOfBlock ++ rest) at ≡ got over rest (at + length (wordOf laterTable5 endOfBlock))
 end-back rest at = end-read laterTable5 (wordOf laterTable5 endOfBlock ++ rest) at endOfBlock rest _ (word-back laterTable5 endOfBlock rest at free-later has-end) refl

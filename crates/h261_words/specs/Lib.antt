@@ -3,5 +3,4 @@ pub mod Words
 pub mod Answer
 pub mod Lookup
 pub mod Addresses
-pub mod Back
 pub mod Written

@@ -1,15 +1,16 @@
 -- What the codewords of Tables 2 and 5 mean, and the codeword of a coefficient. Assumes nothing.
-use Prim.Native.Nat.{ℕ, zero, suc, _-_, _/_, _%_}
+use Prim.Native.Nat.{ℕ, _/_, _%_}
 use mathlib.Core.Bool.{Bool}
 use mathlib.Core.List.{List, [], _∷_, _++_}
 use lib.Dec.{ltb, eqb}
 use Rattle.laws.specs.Choice.{pick, both, oneOf}
 use Rattle.refusals.specs.declared.Reason.the-variants.{Forbidden}
 use Rattle.bits.specs.Bits.{Bit, bitsOf}
-use Rattle.bits.specs.Read.{Reader, _>>=_, done, field, whole, Judged, fine, against, judgedRead}
+use Rattle.bits.specs.Places.{Places}
+use Rattle.bits.specs.Read.{ReaderIn, _>>=_, done, field, whole, Judged, fine, against, judgedRead}
 use Rattle.bits.specs.Code.{CodeTable, word, wordOf, has}
 use Rattle.layout.specs.Value.{Coefficient, coefficient}
-use Rattle.layout.specs.Numbers.{forbidden}
+use Rattle.layout.specs.Numbers.{forbidden, signedCode, codeSign, codeSize}
 use Rattle.h261_words.specs.Tables.{pair, endOfBlock, escape}
 
 -- ---- Table 2: 1, 2 are Intra; 3, 4 Inter; 5, 6, 7 Inter+MC; 8, 9, 10 Inter+MC+FIL
@@ -35,25 +36,21 @@ pub data Event : Type 0 where
   sent : Coefficient → Event
   over : Event
 
--- "The last bit "s" denotes the sign of the level, "0" for positive and "1" for negative" (H.261)
-abbrev pub signed : ℕ → ℕ → ℕ
-signed zero level = level
-signed (suc s) level = 256 - level
-
 -- "Escape is 000001, run 6, level 8 (signed)."
-abbrev pub escaped : Reader Event
+abbrev pub escaped : {P : Places} → ReaderIn P Event
 escaped = do
   run ← field 6
   code ← field 8
   done (sent (coefficient run code))
 
-abbrev pub paired : ℕ → Reader Event
+-- "The last bit "s" denotes the sign of the level, "0" for positive and "1" for negative" (H.261)
+abbrev pub paired : {P : Places} → ℕ → ReaderIn P Event
 paired m = do
   s ← field 1
-  done (sent (coefficient (m / 16) (signed s (m % 16))))
+  done (sent (coefficient (m / 16) (signedCode s (m % 16))))
 
 -- "An escape is one codeword of 20 bits.", and so is a pair with its sign
-unfoldable pub tcoeff : CodeTable → Reader Event
+unfoldable pub tcoeff : {P : Places} → CodeTable → ReaderIn P Event
 tcoeff table = whole (word table >>= λ m. pick (eqb m endOfBlock) (done over) (pick (eqb m escape) escaped (paired m)))
 
 -- refusal 10
@@ -62,18 +59,12 @@ allowed (sent c) = pick (forbidden (c .code)) (against Forbidden) (fine (sent c)
 allowed over = fine over
 
 -- a codeword of Table 5 with an allowed level
-unfoldable pub coefficientRead : CodeTable → Reader Event
+unfoldable pub coefficientRead : {P : Places} → CodeTable → ReaderIn P Event
 coefficientRead table = judgedRead (tcoeff table) allowed
 
 -- ---- and back: "a table code wherever Table 5 has one"
-abbrev pub negative : ℕ → ℕ
-negative code = pick (ltb code 128) 0 1
-
-abbrev pub size : ℕ → ℕ
-size code = pick (ltb code 128) code (256 - code)
-
 unfoldable pub tcoeffOf : CodeTable → Coefficient → List Bit
 tcoeffOf table c =
-    pick (both (ltb (size (c .code)) 16) (has table (pair (c .run) (size (c .code)))))
-    (wordOf table (pair (c .run) (size (c .code))) ++ bitsOf 1 (negative (c .code)))
+    pick (both (ltb (codeSize (c .code)) 16) (has table (pair (c .run) (codeSize (c .code)))))
+    (wordOf table (pair (c .run) (codeSize (c .code))) ++ bitsOf 1 (codeSign (c .code)))
     (wordOf table escape ++ (bitsOf 6 (c .run) ++ bitsOf 8 (c .code)))

@@ -1,23 +1,26 @@
 // H.261's Tables 1 to 5: codewords read and written.
 use bits::FieldRead;
+use bits::codeword;
+use bits::codeword::Codeword;
 use refusals::Reason;
 use refusals::Refusal;
 use refusals::Table;
 ghost use mathlib.Core.Path.{_≡_};
-ghost use Rattle.bits.specs.Bits.{bitsOf, bitsLeft};
+ghost use Rattle.bits.specs.Bits.{bitsLeft};
 ghost use Rattle.bits.specs.Code.{word as wordRead, wordOf};
-ghost use Rattle.bits.specs.Appended.{FieldFits, WroteBits, CountablePlace};
+ghost use Rattle.bits.specs.Codewords.{codewordOf, Writes};
+ghost use Rattle.bits.specs.Settled.{partPlace};
 ghost use Rattle.bits.specs.Answer.{Within, asField};
 ghost use Prim.Native.Nat.{_+_, _*_, _/_, _%_, _≤_, _<_};
 ghost use lib.ListN.{getD};
 ghost use Rattle.laws.specs.Choice.{pick};
 ghost use Rattle.h261_words.specs.Tables.{table1, table2, table3, table4, endOfBlock, firstTable5, laterTable5};
 ghost use Rattle.layout.specs.Value.{coefficient as coefficientOf};
-ghost use Rattle.h261_words.specs.Words.{negative, size, coefficientRead, tcoeffOf};
+ghost use Rattle.h261_words.specs.Words.{coefficientRead, tcoeffOf};
 ghost use Rattle.h261_words.specs.Answer.{asCoefficient};
-ghost use Rattle.h261_words.specs.Back.{Sendable};
-ghost use Rattle.h261_words.specs.Written.{codewordOf, Writes, MeaningAsked};
-ghost use Rattle.h261_words.specs.Lookup.{Tables, entryPlace, firstAt, laterAt};
+ghost use Rattle.layout.specs.Sendable.{Sendable};
+ghost use Rattle.h261_words.specs.Written.{MeaningAsked};
+ghost use Rattle.h261_words.specs.Lookup.{Tables, partsFrom, firstAt, laterAt};
 
 pub mod kind;
 mod lookup;
@@ -127,7 +130,7 @@ pub fn cbp(tables: &WordTables, bytes: &[u8], count: usize, at: usize) -> FieldR
 // The entry of Table 5 for 13 bits of this number.
 fn looked_up(tables: &WordTables, number: u32, first: bool) -> u16
     requires { ⌜ number < 8192 ⌝ }
-    ensures { λ r. ⌜ r ≡ getD (now (tables .entry)) (entryPlace (pick first firstAt laterAt) number) 0 ⌝ }
+    ensures { λ r. ⌜ r ≡ getD (now (tables .entry)) (partPlace (partsFrom (pick first firstAt laterAt)) number) 0 ⌝ }
 {
     let x = number as usize;
     if x < 128 {
@@ -191,35 +194,12 @@ pub fn coefficient(
     }
 }
 
-// A codeword to be written: its number in `width` bits.
-pub struct Codeword {
-    pub width: usize,
-    pub bits: u32,
-}
-
-fn split(e: u16) -> Codeword
-    ensures { λ r. ⌜ (r .width ≡ e % 32) × (r .bits ≡ e / 32) × (r .bits < 2048) ⌝ }
-{
-    Codeword {
-        width: (e % 32) as usize,
-        bits: (e / 32) as u32,
-    }
-}
-
-// The codeword that an entry by meaning spells.
-fn spelt(tables: &WordTables, place: usize) -> Codeword
-    requires { ⌜ place < 7153 ⌝ }
-    ensures { λ r. ⌜ (r .width ≡ getD (now (tables .entry)) place 0 % 32) × (r .bits ≡ getD (now (tables .entry)) place 0 / 32) × (r .bits < 2048) ⌝ }
-{
-    split(tables[place])
-}
-
 // The codeword of MBA: a step of 1 to 33, 34 for stuffing, 35 for a start code.
 pub fn mba_codeword(tables: &WordTables, step: usize) -> Codeword
     requires { ⌜ MeaningAsked (now tables) 35 step ⌝ }
     ensures { λ r. ⌜ Writes (wordOf table1 step) r ⌝ }
 {
-    spelt(tables, MBA_WORDS + step)
+    codeword::spelt(tables, MBA_WORDS + step)
 }
 
 // The codeword of MTYPE, 1 to 10.
@@ -227,7 +207,7 @@ pub fn mtype_codeword(tables: &WordTables, kind: usize) -> Codeword
     requires { ⌜ MeaningAsked (now tables) 10 kind ⌝ }
     ensures { λ r. ⌜ Writes (wordOf table2 kind) r ⌝ }
 {
-    spelt(tables, MTYPE_WORDS + kind)
+    codeword::spelt(tables, MTYPE_WORDS + kind)
 }
 
 // The codeword of a component of MVD: 16 more than the difference that Table 3 prints first.
@@ -235,7 +215,7 @@ pub fn mvd_codeword(tables: &WordTables, difference: usize) -> Codeword
     requires { ⌜ (Tables (now tables)) × (difference ≤ 31) ⌝ }
     ensures { λ r. ⌜ Writes (wordOf table3 difference) r ⌝ }
 {
-    spelt(tables, MVD_WORDS + difference)
+    codeword::spelt(tables, MVD_WORDS + difference)
 }
 
 // The codeword of CBP, 1 to 63.
@@ -243,7 +223,7 @@ pub fn cbp_codeword(tables: &WordTables, pattern: usize) -> Codeword
     requires { ⌜ MeaningAsked (now tables) 63 pattern ⌝ }
     ensures { λ r. ⌜ Writes (wordOf table4 pattern) r ⌝ }
 {
-    spelt(tables, CBP_WORDS + pattern)
+    codeword::spelt(tables, CBP_WORDS + pattern)
 }
 
 // EOB.
@@ -251,22 +231,6 @@ pub fn end_codeword() -> Codeword
     ensures { λ r. ⌜ Writes (wordOf laterTable5 endOfBlock) r ⌝ }
 {
     Codeword { width: 2, bits: 2 }
-}
-
-fn sign(code: u8) -> u32
-    ensures { λ r. ⌜ r ≡ negative code ⌝ }
-{
-    if code < 128 { 0 } else { 1 }
-}
-
-fn magnitude(code: u8) -> usize
-    ensures { λ r. ⌜ r ≡ size code ⌝ }
-{
-    if code < 128 {
-        code as usize
-    } else {
-        256 - code as usize
-    }
 }
 
 fn escape(run: usize, code: u8) -> Codeword
@@ -285,8 +249,8 @@ pub fn coefficient_codeword(tables: &WordTables, run: usize, code: u8, first: bo
     requires { ⌜ (Tables (now tables)) × (Sendable (coefficientOf run code)) ⌝ }
     ensures { λ r. ⌜ Writes (tcoeffOf (pick first firstTable5 laterTable5) (coefficientOf run code)) r ⌝ }
 {
-    let minus = sign(code);
-    let level = magnitude(code);
+    let minus = layout::code::sign(code);
+    let level = layout::code::magnitude(code);
     if 16 <= level {
         return escape(run, code);
     }
@@ -306,7 +270,7 @@ pub fn coefficient_codeword(tables: &WordTables, run: usize, code: u8, first: bo
             bits: 6 + minus,
         };
     }
-    let word = spelt(tables, PAIR_WORDS + pair);
+    let word = codeword::spelt(tables, PAIR_WORDS + pair);
     let width = word.width;
     if width == 0 {
         return escape(run, code);
@@ -316,14 +280,4 @@ pub fn coefficient_codeword(tables: &WordTables, run: usize, code: u8, first: bo
         width: width + 1,
         bits: number * 2 + minus,
     }
-}
-
-// A codeword at a place of the output, as far as it has room; the place after it.
-pub fn append(out: &mut [u8], at: usize, word: Codeword) -> usize
-    requires { ⌜ (FieldFits (word .width) (word .bits)) × (CountablePlace at (bitsOf (word .width) (word .bits))) ⌝ }
-    ensures { λ r. ⌜ WroteBits (bitsOf (word .width) (word .bits)) (now (out .entry)) at (now (out .exit)) r ⌝ }
-{
-    let width = word.width;
-    let number = word.bits;
-    bits::append(out, at, width, number)
 }

@@ -1,10 +1,10 @@
 -- The groups of a picture as they are written, on plain values. Assumes nothing.
 use mathlib.Core.Path.{_≡_, refl, sym, ap, ap₂, subst, _∙_}
 use mathlib.Core.List.{List, [], _∷_, _++_, append-assoc, append-nil}
-use Prim.Native.Nat.{ℕ, zero, suc, _+_, _-_, _*_, _^_, _≤_, _<_}
+use Prim.Native.Nat.{ℕ, zero, suc, _+_, _-_, _*_, _≤_, _<_}
 use native.Mathlib.Omega.{arith}
 use native.Mathlib.Nat.{pos-of-ne-zero}
-use lib.Dec.{T, leb, ltb, eqb, leb→le, ltb→lt, eqb→eq, lit≤}
+use lib.Dec.{T, leb, eqb, leb→le, eqb→eq, lit≤}
 use lib.ListN.{length, getD, take, drop, length-drop}
 use lib.Seq.{drop-drop, getD-drop, getD-take}
 use Rattle.laws.specs.Choice.{both}
@@ -30,31 +30,17 @@ use Rattle.layout.proofs.Levels.{all-index, gathers-take}
 use Rattle.h261_writer.specs.Write.{macroblockOf, macroblocksOf, groupOf, groupsOf, pictureOf}
 use Rattle.h261_writer.specs.Sound.{NearComponent, SoundMacroblock, SoundGroup, beforeIn, groupIn}
 use Rattle.h261_writer.specs.Asked.{MacroblockAsked, MacroblocksAsked, GroupAsked}
-use Rattle.h261_validity.proofs.Steps.{part-rest, part-length, piece-length, group-fits}
-use Rattle.h261_writer.proofs.BlockTurn.{past, piece}
+use Rattle.layout.proofs.Turns.{part-rest, part-length, piece-length}
+use Rattle.h261_validity.proofs.Steps.{group-fits}
+use Rattle.layout.proofs.Gathered.{piece}
+use Rattle.layout.proofs.Sent.{macroblocks-sent, macroblocks-not}
+use Rattle.h261_writer.proofs.BlockTurn.{past}
 use Rattle.h261_writer.proofs.MacroblockSteps.{sound}
 use Rattle.h261_writer.proofs.Longest.{picture-counts}
 
 -- ---- a macroblock of the slices
 field-at : (fields : List ℕ) (k j : ℕ) → j < 4 → getD (take (k * 4 + 4 - k * 4) (drop (k * 4) fields)) j 0 ≡ getD (drop (k * 4) fields) j 0
 field-at fields k j l = ap (λ (x : List ℕ). getD x j 0) (piece fields (k * 4) 4) ∙ getD-take 4 (drop (k * 4) fields) j 0 l
-
-described-sent : (type : ℕ) (m : Macroblock) (rest : List Macroblock) → (type ≡ 0 → ⊥) → elim type as (λ n. List Macroblock) [ zero ↦ rest | suc n ↦ m ∷ rest ] ≡ m ∷ rest
-described-sent zero m rest l = absurd (l refl)
-described-sent (suc type) m rest l = refl
-
-described-not : (type : ℕ) (m : Macroblock) (rest : List Macroblock) → type ≡ 0 → elim type as (λ n. List Macroblock) [ zero ↦ rest | suc n ↦ m ∷ rest ] ≡ rest
-described-not zero m rest l = refl
-described-not (suc type) m rest l = absurd (omega arith)
-
-module _ (n address : ℕ) (fields levels : List ℕ) where
-  macroblocks-sent : (getD fields 0 0 ≡ 0 → ⊥) → macroblocksIn (suc n) address fields levels ≡ macroblockIn address fields levels ∷ macroblocksIn n (address + 1) (drop 4 fields) (drop 384 levels)
-  unfolding macroblocksIn
-  macroblocks-sent e = described-sent (getD fields 0 0) _ _ e
-
-  macroblocks-not : getD fields 0 0 ≡ 0 → macroblocksIn (suc n) address fields levels ≡ macroblocksIn n (address + 1) (drop 4 fields) (drop 384 levels)
-  unfolding macroblocksIn
-  macroblocks-not e = described-not (getD fields 0 0) _ _ e
 
 macroblocks-none : (before : Before) (n address : ℕ) (fields levels : List ℕ) → n ≡ 0 → macroblocksOf before (macroblocksIn n address fields levels) ≡ []
 unfolding macroblocksIn macroblocksOf
@@ -217,10 +203,6 @@ module _ {t : List ℕ} {number gquant : ℕ} {fields levels : List ℕ} {at : �
       → WroteBits (bitsOf 5 gquant) t₂ p₂ t₃ p₃ → WroteBits (bitsOf 1 0) t₃ p₃ t₄ p₄ → WroteBits sent-bits t₄ p₄ t₅ p₅ → WroteBits (groupOf number (groupIn gquant fields levels)) s at t₅ p₅
   unfolding groupOf
   group-whole a b c d e = wrote-then a (wrote-then b (wrote-then c (wrote-then d e)))
-
--- a field of a start code, or a bit that is 0
-pub fixed-fits : (width value : ℕ) → T (leb 1 width) → T (leb width 24) → T (ltb value (2 ^ width)) → FieldFits width value
-fixed-fits width value a b c = record { some = leb→le 1 width a; short = leb→le width 24 b; small = ltb→lt value (2 ^ width) c }
 
 -- ---- what a valid description has
 module _ (f : Format) where

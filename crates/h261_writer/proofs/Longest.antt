@@ -4,17 +4,19 @@ use mathlib.Core.List.{List, [], _∷_, _++_}
 use Prim.Native.Nat.{ℕ, zero, suc, _+_, _-_, _*_, _%_, _≤_}
 use native.Mathlib.Nat.{min-le-left}
 use native.Mathlib.Omega.{arith}
-use lib.Dec.{T, leb, ltb, leb→le, eqb, lit≤}
+use lib.Dec.{T, ltb}
 use lib.ListN.{length, getD, take, drop, length-append, length-take}
 use lib.IntN.{ℤ, pos, natAbs, _+ℤ_, _-ℤ_}
-use Rattle.laws.specs.Choice.{pick, both}
-use Rattle.laws.proofs.Choice.{both-left, both-right}
+use Rattle.laws.specs.Choice.{both}
 use Rattle.bits.specs.Bits.{Bit, bitsOf}
-use Rattle.bits.specs.Code.{Entry, entry, CodeTable, wordIn, wordOf, has}
+use Rattle.bits.specs.Code.{CodeTable, wordOf, has}
 use Rattle.bits.specs.Appended.{CountablePlace}
 use Rattle.bits.proofs.Fields.{length-bitsOf}
+use Rattle.bits.proofs.Short.{pick-short, if-short, shortWords, word-short}
+use Rattle.layout.proofs.Gathered.{gather-short}
 use Rattle.h261_words.specs.Tables.{pair, table1, table2, table3, table4, endOfBlock, escape, pairs, firstTable5, laterTable5}
-use Rattle.h261_words.specs.Words.{isIntra, isMC, hasMQUANT, hasCBP, negative, size, tcoeffOf}
+use Rattle.h261_words.specs.Words.{isIntra, isMC, hasMQUANT, hasCBP, tcoeffOf}
+use Rattle.layout.specs.Numbers.{codeSign, codeSize}
 use Rattle.h261_groups.specs.Format.{groupNumbers}
 use Rattle.h261_groups.specs.declared.Format.{Format}
 use Rattle.h261_groups.proofs.Room.{groups-most, groups-listed}
@@ -22,33 +24,13 @@ use Rattle.layout.specs.Value.{Coefficient, Vector, Block, Macroblock}
 use Rattle.layout.specs.Flat.{Flat, gather, gathers, macroblockIn, macroblocksIn, groupsIn}
 use Rattle.h261_description.specs.Vector.{Before, preceding, atStart}
 use Rattle.h261_description.specs.Value.{pictureIn, beforeNext}
-use Rattle.h261_writer.specs.Write.{bitsIf, coefficientsOf, blockOf, blocksOf, patternOf, componentBits, vectorBits, macroblockOf, macroblocksOf, groupOf, groupsOf, pictureOf}
+use Rattle.bits.specs.Write.{bitsIf}
+use Rattle.layout.specs.Pattern.{patternOf}
+use Rattle.h261_writer.specs.Write.{coefficientsOf, blockOf, blocksOf, componentBits, vectorBits, macroblockOf, macroblocksOf, groupOf, groupsOf, pictureOf}
 use Rattle.h261_writer.specs.Sound.{groupIn}
 use Rattle.h261_writer.specs.Output.{pictureBits}
 
--- ---- one or the other, or none
-pick-short : (b : Bool) (w v : List Bit) (n : ℕ) → length w ≤ n → length v ≤ n → length (pick b w v) ≤ n
-pick-short true w v n l m = l
-pick-short false w v n l m = m
-
-if-short : (b : Bool) (w : List Bit) → length (bitsIf b w) ≤ length w
-if-short true w = omega arith
-if-short false w = omega arith
-
--- ---- a codeword has up to 16 bits
-shortWords : List Entry → Bool
-shortWords [] = true
-shortWords (entry w m ∷ table) = both (leb (length w) 16) (shortWords table)
-
-listed-short : (table : List Entry) (m : ℕ) → T (shortWords table) → length (wordIn table m) ≤ 16
-unfolding wordIn shortWords
-listed-short [] m t = lit≤ tt
-listed-short (entry w m′ ∷ table) m t =
-    pick-short (eqb m′ m) w (wordIn table m) 16 (leb→le (length w) 16 (both-left (leb (length w) 16) (shortWords table) t)) (listed-short table m (both-right (leb (length w) 16) (shortWords table) t))
-
-word-short : (table : CodeTable) (m : ℕ) → T (shortWords (table .entries)) → length (wordOf table m) ≤ 16
-word-short table m t = listed-short (table .entries) m t
-
+-- ---- each table's codewords are short
 short₁ : T (shortWords (table1 .entries))
 unfolding shortWords table1
 short₁ = tt
@@ -77,10 +59,10 @@ later-short = tt
 coefficient-short : (table : CodeTable) (c : Coefficient) → T (shortWords (table .entries)) → length (tcoeffOf table c) ≤ 30
 unfolding tcoeffOf
 coefficient-short table c t =
-    let w = wordOf table (pair (c .run) (size (c .code))) in
+    let w = wordOf table (pair (c .run) (codeSize (c .code))) in
     let v = wordOf table escape in
-    pick-short (both (ltb (size (c .code)) 16) (has table (pair (c .run) (size (c .code))))) (w ++ bitsOf 1 (negative (c .code))) (v ++ (bitsOf 6 (c .run) ++ bitsOf 8 (c .code))) 30
-    (omega (arith, length-append w (bitsOf 1 (negative (c .code))), word-short table (pair (c .run) (size (c .code))) t))
+    pick-short (both (ltb (codeSize (c .code)) 16) (has table (pair (c .run) (codeSize (c .code))))) (w ++ bitsOf 1 (codeSign (c .code))) (v ++ (bitsOf 6 (c .run) ++ bitsOf 8 (c .code))) 30
+    (omega (arith, length-append w (bitsOf 1 (codeSign (c .code))), word-short table (pair (c .run) (codeSize (c .code))) t))
     (omega (arith, length-append v (bitsOf 6 (c .run) ++ bitsOf 8 (c .code)), length-append (bitsOf 6 (c .run)) (bitsOf 8 (c .code)), word-short table escape t))
 
 coefficients-short : (cs : Block) → length (coefficientsOf cs) ≤ 30 * length cs + 16
@@ -92,12 +74,6 @@ block-short : (intra : Bool) (b : Block) → length (blockOf intra b) ≤ 30 * l
 block-short intra [] = omega arith
 block-short true (c ∷ cs) = omega (arith, length-append (bitsOf 8 (c .code)) (coefficientsOf cs), length-bitsOf 8 (c .code), coefficients-short cs)
 block-short false (c ∷ cs) = omega (arith, length-append (tcoeffOf firstTable5 c) (coefficientsOf cs), coefficient-short firstTable5 c first-short, coefficients-short cs)
-
-gather-short : (run : ℕ) (l : List ℕ) → length (gather run l) ≤ length l
-unfolding gather
-gather-short run [] = omega arith
-gather-short run (zero ∷ ls) = omega (arith, gather-short (suc run) ls)
-gather-short run (suc code ∷ ls) = omega (arith, gather-short 0 ls)
 
 blocks-short : (intra : Bool) (n : ℕ) (l : List ℕ) → length (blocksOf intra (gathers n l)) ≤ n * 1936
 unfolding blocksOf gathers

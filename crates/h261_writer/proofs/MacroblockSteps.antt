@@ -15,7 +15,7 @@ use Rattle.laws.proofs.Table.{all-at}
 use Rattle.bits.specs.Bits.{Bit, bitsOf}
 use Rattle.bits.specs.Code.{wordOf}
 use Rattle.bits.specs.Appended.{FieldFits, WroteBits, CountablePlace}
-use Rattle.bits.proofs.Appended.{wrote-none, wrote-as, wrote-then, first-countable, then-countable, CountableParts}
+use Rattle.bits.proofs.Appended.{wrote-as, wrote-then, first-countable, then-countable, sent-counts, sent-wrote, CountableParts}
 use Rattle.h261_words.specs.Tables.{table1, table2, table3, table4}
 use Rattle.h261_words.specs.Words.{isIntra, isMC, hasMQUANT, hasCBP}
 use Rattle.h261_words.specs.Written.{MeaningAsked}
@@ -26,7 +26,9 @@ use Rattle.layout.specs.Flat.{numberOf, byteVector, gathers, vectorIn, macroblo
 use Rattle.layout.specs.Numbers.{all, isZero, isQuantiser, isLevel, codesFirst}
 use Rattle.h261_description.proofs.Levels.{all-levels}
 use Rattle.h261_description.specs.Valid.{validVector, validLevels, validMacroblock}
-use Rattle.h261_writer.specs.Write.{bitsIf, componentBits, vectorBits, blocksOf, patternOf, macroblockOf}
+use Rattle.bits.specs.Write.{bitsIf}
+use Rattle.layout.specs.Pattern.{patternOf}
+use Rattle.h261_writer.specs.Write.{componentBits, vectorBits, blocksOf, macroblockOf}
 use Rattle.h261_writer.specs.Asked.{ComponentAsked, ComponentsAsked, VectorAsked, PatternAsked, BlocksAsked, MacroblockAsked}
 use Rattle.h261_writer.specs.Sound.{NearComponent, SoundMacroblock, beforeIn}
 use Rattle.h261_writer.proofs.BlockTurn.{pattern-some, pattern-low}
@@ -70,18 +72,7 @@ difference p b l h m n =
 pub difference-counts : {t : List ℕ} {p b at : ℕ} → p < 256 → b < 256 → ComponentAsked t p b at → CountablePlace at (wordOf table3 ((b + 304 - p) % 32))
 difference-counts {p = p} {b = b} {at = at} l h a = subst (λ (n : ℕ). CountablePlace at (wordOf table3 n)) (sym (difference p b l h (a .preceding-near) (a .near))) (a .counts)
 
--- ---- what the type may leave out
-pub left-out : (bits : List Bit) {s : List ℕ} {at : ℕ} (b : Bool) → b ≡ false → WroteBits (bitsIf b bits) s at s at
-left-out bits {s} {at} b e = wrote-as (wrote-none s at) (sym (ap (λ (x : Bool). bitsIf x bits) e))
-
-module _ {bits : List Bit} {at : ℕ} (b : Bool) (e : b ≡ true) where
-  pub sent-counts : CountablePlace at (bitsIf b bits) → CountablePlace at bits
-  sent-counts n = subst (λ (x : Bool). CountablePlace at (bitsIf x bits)) e n
-
-  pub sent-wrote : {s t : List ℕ} {p : ℕ} → WroteBits bits s at t p → WroteBits (bitsIf b bits) s at t p
-  sent-wrote w = wrote-as w (sym (ap (λ (x : Bool). bitsIf x bits) e))
-
--- the vector against the preceding one
+-- ---- the vector against the preceding one
 module _ (b : Bool) (before : Before) (step : ℕ) (v p : Vector) {at : ℕ} (e : b ≡ true) (d : preceding before step ≡ p) where
   pub pointing-counts : CountablePlace at (bitsIf b (vectorBits (preceding before step) v)) → CountablePlace at (vectorBits p v)
   pointing-counts n = subst (λ (x : Vector). CountablePlace at (vectorBits x v)) d (sent-counts b e n)

@@ -18,7 +18,9 @@ use Rattle.layout.specs.Flat.{flat, numberOf, byteVector, gather, gathers, macr
 use Rattle.layout.specs.Numbers.{all, isZero, isLevel, codesFirst}
 use Rattle.h261_description.specs.Vector.{atStart, preceding}
 use Rattle.h261_description.specs.Valid.{validLevels, valid}
-use Rattle.h261_writer.specs.Write.{bitsIf, blockOf, blocksOf, patternOf, componentBits, vectorBits, macroblockOf, macroblocksOf, groupOf, groupsOf}
+use Rattle.bits.specs.Write.{bitsIf}
+use Rattle.layout.specs.Pattern.{patternOf}
+use Rattle.h261_writer.specs.Write.{blockOf, blocksOf, componentBits, vectorBits, macroblockOf, macroblocksOf, groupOf, groupsOf}
 use Rattle.h261_writer.specs.Sound.{codedBits, beforeIn, NearComponent, SoundMacroblock, SoundGroup, groupIn}
 
 -- ---- blocks

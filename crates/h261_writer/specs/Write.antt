@@ -1,25 +1,21 @@
 -- Writing: from a picture to its bits, layer by layer. Document 01: "The writer uses no stuffing, no spares, and a table code wherever Table 5 has one."
 -- The bits of a picture that is not valid mean nothing. Assumes nothing.
-use Prim.Native.Nat.{ℕ, _+_, _-_, _*_, _%_, _^_}
-use mathlib.Core.Bool.{Bool, true, false}
+use Prim.Native.Nat.{ℕ, _+_, _-_, _*_, _%_}
+use mathlib.Core.Bool.{Bool}
 use mathlib.Core.List.{List, [], _∷_, _++_}
-use lib.ListN.{length}
 use lib.IntN.{ℤ, pos, natAbs, _+ℤ_, _-ℤ_}
 use Rattle.laws.specs.Choice.{pick}
 use Rattle.bits.specs.Bits.{Bit, bitsOf}
 use Rattle.bits.specs.Code.{wordOf}
+use Rattle.bits.specs.Write.{bitsIf}
 use Rattle.h261_words.specs.Tables.{table1, table2, table3, table4, endOfBlock, firstTable5, laterTable5}
 use Rattle.h261_words.specs.Words.{isIntra, isMC, hasMQUANT, hasCBP, tcoeffOf}
 use Rattle.h261_groups.specs.Format.{formatBit, groupNumbers}
 use Rattle.layout.specs.Value.{Vector, Block, Macroblock, Group}
+use Rattle.layout.specs.Pattern.{patternOf}
 use Rattle.h261_description.specs.Vector.{Before, atStart, preceding}
 use Rattle.h261_description.specs.Value.{Picture, beforeNext}
 use Rattle.h261_groups.specs.declared.Format.{Format}
-
--- what the type may leave out
-abbrev pub bitsIf : Bool → List Bit → List Bit
-bitsIf true bits = bits
-bitsIf false bits = []
 
 -- ---- blocks
 unfoldable pub coefficientsOf : Block → List Bit
@@ -34,15 +30,6 @@ blockOf intra (c ∷ cs) = pick intra (bitsOf 8 (c .code)) (tcoeffOf firstTable5
 unfoldable pub blocksOf : Bool → List Block → List Bit
 blocksOf intra [] = []
 blocksOf intra (b ∷ bs) = blockOf intra b ++ blocksOf intra bs
-
--- "CBP is taken from the levels": 32 P1 + 16 P2 + 8 P3 + 4 P4 + 2 P5 + P6, Pn 1 "if any coefficient is present for block n, else 0" (H.261)
-abbrev pub presenceOf : Block → ℕ
-presenceOf [] = 0
-presenceOf (c ∷ cs) = 1
-
-unfoldable pub patternOf : List Block → ℕ
-patternOf [] = 0
-patternOf (b ∷ bs) = presenceOf b * 2 ^ length bs + patternOf bs
 
 -- ---- vectors: Table 3 holds the difference modulo 32, from -16 on
 abbrev pub componentBits : ℤ → ℤ → List Bit

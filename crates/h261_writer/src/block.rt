@@ -1,29 +1,13 @@
 // The blocks of a macroblock: their coefficients as runs and levels, to EOB.
 use h261_words::WordTables;
 ghost use mathlib.Core.Path.{_≡_};
-ghost use Prim.Native.Nat.{_≤_};
-ghost use lib.Dec.{T};
 ghost use lib.ListN.{length, drop};
 ghost use Rattle.bits.specs.Appended.{WroteBits};
 ghost use Rattle.layout.specs.Flat.{gather, gathers};
-ghost use Rattle.layout.specs.Numbers.{all, isZero};
-ghost use Rattle.h261_writer.specs.Write.{blockOf, blocksOf, presenceOf, patternOf};
+ghost use Rattle.layout.specs.Pattern.{patternOf};
+ghost use Rattle.h261_writer.specs.Write.{blockOf, blocksOf};
 ghost use Rattle.h261_writer.specs.Sound.{codedBits};
 ghost use Rattle.h261_writer.specs.Asked.{CoefficientsAsked, BlockAsked, BlocksAsked};
-
-// From where on a block's levels are all zeros, in steps of 16: as most are, and a look at many at once is cheap.
-fn zeros_from(levels: &[u8]) -> usize
-    requires { ⌜ length (now levels) ≡ 64 ⌝ }
-    ensures { λ r. ⌜ (r ≤ 64) × (T (all isZero (drop r (now (levels .entry))))) ⌝ }
-{
-    if !h261_validity::levels::all_zero(&levels[32..64]) {
-        return 64;
-    }
-    if !h261_validity::levels::all_zero(&levels[16..32]) {
-        return 32;
-    }
-    16
-}
 
 // The coefficients of a block from one of its levels on; `opening` where the first is yet to come in a block that isn't INTRA, which isn't sent if it has none.
 fn coefficients(
@@ -37,7 +21,7 @@ fn coefficients(
     requires { ⌜ CoefficientsAsked (now tables) (now levels) from opening at ⌝ }
     ensures { λ r. ⌜ WroteBits (codedBits opening (gather 0 (drop from (now (levels .entry))))) (now (out .entry)) at (now (out .exit)) r ⌝ }
 {
-    let end = zeros_from(levels);
+    let end = levels::zeros_from(levels);
     let mut first = opening;
     let mut run: usize = 0;
     let mut k = from;
@@ -50,14 +34,14 @@ fn coefficients(
             continue;
         }
         let word = h261_words::coefficient_codeword(tables, run, code, first);
-        place = h261_words::append(out, place, word);
+        place = bits::codeword::append(out, place, word);
         first = false;
         run = 0;
     }
     if first {
         return place;
     }
-    h261_words::append(out, place, h261_words::end_codeword())
+    bits::codeword::append(out, place, h261_words::end_codeword())
 }
 
 // One block of 64 levels.
@@ -87,26 +71,16 @@ pub fn blocks(tables: &WordTables, levels: &[u8], intra: bool, out: &mut [u8], a
     place
 }
 
-// Whether a block has a coefficient, as a number.
-fn present(levels: &[u8]) -> usize
-    ensures { λ r. ⌜ r ≡ presenceOf (gather 0 (now (levels .entry))) ⌝ }
-{
-    if h261_validity::levels::all_zero(levels) {
-        return 0;
-    }
-    1
-}
-
 // CBP of a macroblock's 384 levels.
 pub fn pattern(levels: &[u8]) -> usize
     requires { ⌜ length (now levels) ≡ 384 ⌝ }
     ensures { λ r. ⌜ r ≡ patternOf (gathers 6 (now (levels .entry))) ⌝ }
 {
-    let a = present(&levels[0..64]);
-    let b = present(&levels[64..128]);
-    let c = present(&levels[128..192]);
-    let d = present(&levels[192..256]);
-    let e = present(&levels[256..320]);
-    let f = present(&levels[320..384]);
+    let a = levels::present(&levels[0..64]);
+    let b = levels::present(&levels[64..128]);
+    let c = levels::present(&levels[128..192]);
+    let d = levels::present(&levels[192..256]);
+    let e = levels::present(&levels[256..320]);
+    let f = levels::present(&levels[320..384]);
     a * 32 + b * 16 + c * 8 + d * 4 + e * 2 + f
 }

@@ -1,12 +1,11 @@
 // From a valid description to the bits of its picture.
 use h261_groups::Format;
 use refusals::Reason;
-use refusals::Refusal;
+use refusals::Written;
 ghost use mathlib.Core.Path.{_≡_};
 ghost use lib.Dec.{T};
 ghost use lib.ListN.{length};
 ghost use Rattle.laws.specs.Choice.{either};
-ghost use Rattle.refusals.specs.Number.{refusal};
 ghost use Rattle.h261_description.specs.Valid.{lengthsOf, valid as isValid};
 ghost use Rattle.layout.specs.Flat.{flat};
 ghost use Rattle.size.specs.Size.{outputLength};
@@ -20,12 +19,6 @@ mod macroblock;
 mod picture;
 mod vector;
 
-// The number of bits, or the refusal.
-pub enum Written {
-    Bits(usize),
-    Refused(Refusal),
-}
-
 // Whether the three slices have the lengths of one format's description.
 pub fn one_format(head: &[u8], macroblocks: &[u8], levels: &[u8]) -> bool
     ensures { λ r. ⌜ r ≡ either (lengthsOf Qcif (flat (now (head .entry)) (now (macroblocks .entry)) (now (levels .entry)))) (lengthsOf Cif (flat (now (head .entry)) (now (macroblocks .entry)) (now (levels .entry)))) ⌝ }
@@ -34,12 +27,6 @@ pub fn one_format(head: &[u8], macroblocks: &[u8], levels: &[u8]) -> bool
         return true;
     }
     h261_validity::lengths(head, macroblocks, levels, Format::Cif)
-}
-
-fn refused(reason: Reason) -> Written
-    ensures { λ r. ⌜ r ≡ Written.Refused (refusal reason 0) ⌝ }
-{
-    Written::Refused(Refusal { reason, place: 0 })
 }
 
 // The bits of a valid description's picture, and how many they are: the last started byte is filled with zeros, and nothing after it is touched. They are made in lent scratch
@@ -117,17 +104,17 @@ pub fn write(
     ensures { λ r. ⌜ WriteLeaves format (flat (now (head .entry)) (now (macroblocks .entry)) (now (levels .entry))) (now (out .entry)) (now (out .exit)) ⌝ }
 {
     if !one_format(head, macroblocks, levels) {
-        return refused(Reason::Length);
+        return refusals::not_written(Reason::Length);
     }
     if out.len() != h261_groups::output_length(format) {
-        return refused(Reason::Length);
+        return refusals::not_written(Reason::Length);
     }
     if !h261_validity::valid(head, macroblocks, levels, format) {
-        return refused(Reason::Invalid);
+        return refusals::not_written(Reason::Invalid);
     }
     let count = write_valid(head, macroblocks, levels, format, out);
     if h261_groups::limit(format) < count {
-        return refused(Reason::AboveLimit);
+        return refusals::not_written(Reason::AboveLimit);
     }
     Written::Bits(count)
 }

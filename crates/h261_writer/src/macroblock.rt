@@ -11,7 +11,9 @@ ghost use Rattle.h261_words.specs.Tables.{table4};
 ghost use Rattle.h261_words.specs.Words.{hasMQUANT, hasCBP};
 ghost use Rattle.layout.specs.Flat.{gathers, macroblockIn};
 ghost use Rattle.layout.specs.Numbers.{isQuantiser, isZero};
-ghost use Rattle.h261_writer.specs.Write.{bitsIf, patternOf, macroblockOf};
+ghost use Rattle.bits.specs.Write.{bitsIf};
+ghost use Rattle.layout.specs.Pattern.{patternOf};
+ghost use Rattle.h261_writer.specs.Write.{macroblockOf};
 ghost use Rattle.h261_writer.specs.Sound.{beforeIn};
 ghost use Rattle.h261_writer.specs.Asked.{PatternAsked, MacroblockAsked};
 
@@ -33,7 +35,7 @@ fn pattern(tables: &WordTables, kind: u8, levels: &[u8], out: &mut [u8], at: usi
 {
     if h261_words::kind::has_cbp(kind as u16) {
         let word = h261_words::cbp_codeword(tables, block::pattern(levels));
-        return h261_words::append(out, at, word);
+        return bits::codeword::append(out, at, word);
     }
     at
 }
@@ -55,8 +57,8 @@ pub fn macroblock(
 {
     let kind = fields[0];
     let step = address - last;
-    let addressed = h261_words::append(out, at, h261_words::mba_codeword(tables, step));
-    let typed = h261_words::append(
+    let addressed = bits::codeword::append(out, at, h261_words::mba_codeword(tables, step));
+    let typed = bits::codeword::append(
         out,
         addressed,
         h261_words::mtype_codeword(tables, kind as usize),

@@ -4,7 +4,8 @@ ghost use Rattle.bits.specs.Appended.{WroteBits};
 ghost use Rattle.h261_words.specs.Words.{isMC};
 ghost use Rattle.h261_description.specs.Vector.{preceding as precedingOf};
 ghost use Rattle.layout.specs.Flat.{numberOf, byteVector};
-ghost use Rattle.h261_writer.specs.Write.{bitsIf, componentBits, vectorBits};
+ghost use Rattle.bits.specs.Write.{bitsIf};
+ghost use Rattle.h261_writer.specs.Write.{componentBits, vectorBits};
 ghost use Rattle.h261_writer.specs.Sound.{beforeIn};
 ghost use Rattle.h261_writer.specs.Asked.{ComponentAsked, ComponentsAsked, VectorAsked};
 
@@ -15,7 +16,7 @@ fn component(tables: &WordTables, preceding: u8, byte: u8, out: &mut [u8], at: u
 {
     let difference = (byte as usize + 304 - preceding as usize) % 32;
     let word = h261_words::mvd_codeword(tables, difference);
-    h261_words::append(out, at, word)
+    bits::codeword::append(out, at, word)
 }
 
 fn components(

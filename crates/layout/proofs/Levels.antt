@@ -1,11 +1,11 @@
--- A test of each number of a list; levels and codes. Assumes nothing.
+-- A test of each number of a list; quantisers, levels and codes. Assumes nothing.
 use Prim.Native.Nat.{ℕ, zero, suc, _+_, _*_, _≤_, _<_}
 use mathlib.Core.Path.{_≡_, refl, ap, _∙_}
 use mathlib.Core.Bool.{Bool, true, false}
 use mathlib.Core.List.{List, [], _∷_, _++_}
 use native.Mathlib.Omega.{arith}
 use native.Mathlib.Nat.{le-of-suc-le-suc, not-suc-le-zero}
-use lib.Dec.{T, leb, eqb, eqb→eq, eqb·suc-zero}
+use lib.Dec.{T, leb, eqb, leb→le, eqb→eq, eqb·suc-zero}
 use lib.ListN.{length, getD, take, drop}
 use lib.Seq.{take-take}
 use Rattle.laws.specs.Choice.{both, either, opposite}
@@ -13,7 +13,7 @@ use Rattle.laws.proofs.Choice.{both-left, both-right, both-make, both-assoc, T-
 use Rattle.laws.proofs.Lists.{drop-take}
 use Rattle.laws.proofs.Zeros.{zeros}
 use Rattle.layout.specs.Flat.{gathers}
-use Rattle.layout.specs.Numbers.{all, isZero, forbidden, isCode, isLevel}
+use Rattle.layout.specs.Numbers.{all, isZero, isQuantiser, forbidden, isCode, isLevel}
 
 pub all-index : (good : ℕ → Bool) (xs : List ℕ) → T (all good xs) → (k : ℕ) → k < length xs → T (good (getD xs k 0))
 all-index good [] t k l = absurd (not-suc-le-zero l)
@@ -65,6 +65,10 @@ zero-all (suc n) (x ∷ xs) e t =
     let z = eqb→eq x 0 (both-left (isZero x) (all isZero xs) t) in
     let others = zero-all n xs (omega arith) (both-right (isZero x) (all isZero xs) t) in
     (λ i. z i ∷ others i)
+
+-- ---- quantisers
+pub is-quantiser : (q : ℕ) → T (isQuantiser q) → (1 ≤ q) × (q ≤ 31)
+is-quantiser q t = (leb→le 1 q (both-left (leb 1 q) (leb q 31) t), leb→le q 31 (both-right (leb 1 q) (leb q 31) t))
 
 -- ---- levels and codes
 pub zero-levels : (ls : List ℕ) → T (all isZero ls) → T (all isLevel ls)

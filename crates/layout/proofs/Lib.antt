@@ -7,3 +7,7 @@ pub mod Pictured
 pub mod LaidOut
 pub mod Relaid
 pub mod EveryAt
+pub mod Turns
+pub mod Gathered
+pub mod Codes
+pub mod Sent

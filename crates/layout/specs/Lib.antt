@@ -5,3 +5,5 @@ pub mod Numbers
 pub mod Valid
 pub mod Proper
 pub mod Back
+pub mod Pattern
+pub mod Sendable

@@ -1,10 +1,10 @@
 -- Tests of a description's numbers: quantisers, levels, codes. Assumes nothing.
-use Prim.Native.Nat.{ℕ, zero, suc}
+use Prim.Native.Nat.{ℕ, zero, suc, _-_}
 use mathlib.Core.Bool.{Bool, true}
 use mathlib.Core.List.{List, [], _∷_}
-use lib.Dec.{leb, eqb}
+use lib.Dec.{leb, ltb, eqb}
 use lib.ListN.{getD, drop}
-use Rattle.laws.specs.Choice.{both, opposite, oneOf}
+use Rattle.laws.specs.Choice.{pick, both, opposite, oneOf}
 
 abbrev pub all : (ℕ → Bool) → List ℕ → Bool
 all good [] = true
@@ -31,6 +31,17 @@ isCode code = both (leb code 255) (opposite (forbidden code))
 -- a level -127 to 127, in eight bits
 abbrev pub isLevel : ℕ → Bool
 isLevel b = both (leb b 255) (opposite (eqb b 128))
+
+-- a level in eight bits, of its sign ("0" for positive and "1" for negative) and its size; and back
+abbrev pub signedCode : ℕ → ℕ → ℕ
+signedCode zero level = level
+signedCode (suc s) level = 256 - level
+
+abbrev pub codeSign : ℕ → ℕ
+codeSign code = pick (ltb code 128) 0 1
+
+abbrev pub codeSize : ℕ → ℕ
+codeSize code = pick (ltb code 128) code (256 - code)
 
 -- k INTRA blocks begin with an allowed DC code: a level's code that isn't 0
 unfoldable pub codesFirst : ℕ → List ℕ → Bool

@@ -12,14 +12,15 @@ use Rattle.refusals.specs.declared.Reason.the-variants.{NoStartCode, OtherGroup
 use Rattle.refusals.specs.declared.Refusal.{Refusal}
 use Rattle.refusals.specs.Number.{number}
 use Rattle.bits.specs.Bits.{Bit, O, I, bitsOf}
+use Rattle.bits.specs.Places.{plain}
 use Rattle.bits.specs.Read.{Read, got, refused, endless, Reader, next, _>>=_, done, field, fine, against, Judged, settle, judgedRead}
 use Rattle.bits.specs.Code.{CodeTable, word}
 use Rattle.bits.proofs.Codes.{each}
 use Rattle.fields.specs.Rules.{expect, quantiser, sparesAfter, sparesFrom, spares, optional}
 use Rattle.h261_words.specs.Tables.{table1, table2, table3, table4, pairs, firstTable5, laterTable5, endOfBlock, escape}
-use Rattle.h261_words.specs.Words.{isIntra, isMC, hasMQUANT, hasCBP, Event, sent, over, signed, escaped, paired, tcoeff, allowed, coefficientRead}
+use Rattle.h261_words.specs.Words.{isIntra, isMC, hasMQUANT, hasCBP, Event, sent, over, escaped, paired, tcoeff, allowed, coefficientRead}
 use Rattle.layout.specs.Value.{coefficient, Vector, zeroVector, Block, Macroblock}
-use Rattle.layout.specs.Numbers.{forbidden}
+use Rattle.layout.specs.Numbers.{forbidden, signedCode}
 use Rattle.h261_groups.specs.Format.{groupNumbers}
 use Rattle.h261_groups.specs.declared.Format.{Format}
 use Rattle.h261_description.specs.Vector.{Before, atStart, preceding, inPicture}
@@ -90,7 +91,7 @@ word-stands table g = steady-word (λ m. true) table (g .0 .0) (g .0 .1) (g .1)
 tcoeff-after : {bound bound′ : ℕ} (end esc : Bool) (m : ℕ) → Steady backwards false bound bound′ 0 (pick end (done over) (pick esc escaped (paired m))) (pick end (done over) (pick esc escaped (paired m)))
 tcoeff-after true esc m = steady-done
 tcoeff-after false true m = steady-any (steady-then (steady-field 6) (λ run. steady-map (λ code. sent (coefficient run code)) (steady-field 8)))
-tcoeff-after false false m = steady-any (steady-map (λ s. sent (coefficient (m / 16) (signed s (m % 16)))) (steady-field 1))
+tcoeff-after false false m = steady-any (steady-map (λ s. sent (coefficient (m / 16) (signedCode s (m % 16)))) (steady-field 1))
 
 tcoeff-stands : {bound bound′ : ℕ} (table : CodeTable) → Good table → Steady backwards false bound bound′ 1 (tcoeff table) (tcoeff table)
 unfolding tcoeff
@@ -163,11 +164,11 @@ unfolding componentRead
 component-near before = judged-near (λ n. component before (pairOf n)) (word-near table3)
 
 -- a component ends within 11 bits
-component-short : (before : ℤ) (bs : List Bit) (at : ℕ) (z : ℤ) (left : List Bit) (p : ℕ) → componentRead before bs at ≡ got z left p → p ≤ at + 11
+component-short : (before : ℤ) (bs : List Bit) (at : ℕ) (z : ℤ) (left : List Bit) (p : ℕ) → componentRead {P = plain} before bs at ≡ got z left p → p ≤ at + 11
 unfolding componentRead
 component-short before bs at z left p e = from (word table3 bs at) refl e
   where
-    by : (n : ℕ) (rest : List Bit) (q : ℕ) → q ≤ at + 11 → (j : Judged ℤ) → settle at j rest q ≡ got z left p → p ≤ at + 11
+    by : (n : ℕ) (rest : List Bit) (q : ℕ) → q ≤ at + 11 → (j : Judged ℤ) → settle {P = plain} at j rest q ≡ got z left p → p ≤ at + 11
     by n rest q l (fine y) e = let same : q ≡ p = cc in omega arith
     by n rest q l (against reason) e = absurd (let z : _≡_ {A = ℕ} 0 1 = cc in omega arith)
 

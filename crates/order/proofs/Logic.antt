@@ -15,6 +15,7 @@ use Rattle.refusals.specs.declared.Reason.the-variants.{BitsEnd}
 use Rattle.refusals.specs.declared.Refusal.{Refusal}
 use Rattle.refusals.specs.Number.{number}
 use Rattle.bits.specs.Bits.{Bit, num}
+use Rattle.bits.specs.Places.{plain}
 use Rattle.bits.specs.Read.{Read, got, refused, endless, bad, Reader, next, _>>=_, done, fieldFrom, field, Judged, fine, against, settle, judgedRead, movedRead, whole, orEnd, loop}
 use Rattle.bits.proofs.Logic.{Took}
 use Rattle.layout.specs.Proper.{If}
@@ -275,7 +276,7 @@ module _ {A B : Type 0} {back : Reason → ℕ} {bound bound′ least reach : �
     grows = λ bs more at l l′. judged-grown bs more at (r bs at) (r (bs ++ more) at) refl (h .grows bs more at l l′);
   }
 
-near-settled : {B : Type 0} (reach at p : ℕ) (left : List Bit) (j : Judged B) (why : Refusal) → settle at j left p ≡ refused why → why .place ≤ at + reach
+near-settled : {B : Type 0} (reach at p : ℕ) (left : List Bit) (j : Judged B) (why : Refusal) → settle {P = plain} at j left p ≡ refused why → why .place ≤ at + reach
 near-settled reach at p left (fine b) why e = absurd (let z : _≡_ {A = ℕ} 0 1 = cc in omega arith)
 near-settled reach at p left (against reason) why e = let q : at ≡ why .place = cc in omega arith
 
@@ -318,7 +319,7 @@ module _ {A : Type 0} {back : Reason → ℕ} {bound bound′ least : ℕ} {r : 
     grows = λ bs more at l l′. whole-grown (bs ++ more) more at (r bs at) (r (bs ++ more) at) (h .there .moves (bs ++ more) at l′) (h .grows bs more at l l′);
   }
 
-near-whole : {A : Type 0} (at : ℕ) (x : Read A) (why : Refusal) → movedRead at x ≡ refused why → why .place ≤ at + 0
+near-whole : {A : Type 0} (at : ℕ) (x : Read A) (why : Refusal) → movedRead {P = plain} at x ≡ refused why → why .place ≤ at + 0
 near-whole at (got a left p) why e = absurd (let z : _≡_ {A = ℕ} 0 1 = cc in omega arith)
 near-whole at (refused w) why e = let q : at ≡ why .place = cc in omega arith
 near-whole at endless why e = absurd (let z : _≡_ {A = ℕ} 0 1 = cc in omega arith)
@@ -354,7 +355,7 @@ steady-field {back} k = record {
   grows = λ bs more at l l′. field-grown back k at 0 bs more at (omega arith);
 }
 
-near-field : (rest at v : ℕ) (left : List Bit) (p : ℕ) (why : Refusal) → fieldFrom rest at v left p ≡ refused why → why .place ≤ at + 0
+near-field : (rest at v : ℕ) (left : List Bit) (p : ℕ) (why : Refusal) → fieldFrom {P = plain} rest at v left p ≡ refused why → why .place ≤ at + 0
 unfolding fieldFrom
 near-field zero at v left p why e = absurd (let z : _≡_ {A = ℕ} 0 1 = cc in omega arith)
 near-field (suc rest) at v [] p why e = let q : at ≡ why .place = cc in omega arith

@@ -9,10 +9,11 @@ use lib.IntN.{ℤ, _+ℤ_}
 use Rattle.laws.specs.Choice.{pick, both, either, opposite}
 use Rattle.laws.proofs.Choice.{true-T}
 use Rattle.refusals.specs.declared.Reason.{Reason}
-use Rattle.refusals.specs.declared.Reason.the-variants.{BitsEnd, OtherFormat, NoCodeword, AddressPast, Forbidden, CoefficientPast, VectorOut, StartCodeLast}
+use Rattle.refusals.specs.declared.Reason.the-variants.{BitsEnd, OtherFormat, NoCodeword, AddressPast, Forbidden, CoefficientPast, VectorOut, AfterLast}
 use Rattle.refusals.specs.declared.Refusal.{Refusal}
 use Rattle.refusals.specs.Number.{number}
 use Rattle.bits.specs.Bits.{Bit, num}
+use Rattle.bits.specs.Places.{plain}
 use Rattle.bits.specs.Read.{Read, got, refused, endless, Reader, next, _>>=_, done, fieldFrom, field, Judged, fine, against, settle, judgedRead, movedRead, whole}
 use Rattle.bits.specs.Code.{CodeTable, longer, word}
 use Rattle.layout.specs.Numbers.{forbidden}
@@ -31,7 +32,7 @@ use Rattle.order.proofs.Words.{lookup-refused}
 record Alone {A : Type 0} (n : ℕ) (r : Reader A) : Type 0 where
   alone : (bs : List Bit) (at : ℕ) (why : Refusal) → r bs at ≡ refused why → number (why .reason) ≤ n
 
-apart : {A : Type 0} {a : A} {bs : List Bit} {at : ℕ} {why : Refusal} → got a bs at ≡ refused why → ⊥
+apart : {A : Type 0} {a : A} {bs : List Bit} {at : ℕ} {why : Refusal} → _≡_ {A = Read A} (got a bs at) (refused why) → ⊥
 apart e = let z : _≡_ {A = ℕ} 0 1 = cc in omega arith
 
 apart-endless : {A : Type 0} {why : Refusal} → _≡_ {A = Read A} endless (refused why) → ⊥
@@ -51,7 +52,7 @@ alone-then {A} {n = n} {r} {k} h f = record { alone = λ bs at why e. from bs at
 alone-judged : {A B : Type 0} {n : ℕ} {r : Reader A} (rule : A → Judged B) → ((a : A) (reason : Reason) → rule a ≡ against reason → number reason ≤ n) → Alone n r → Alone n (judgedRead r rule)
 alone-judged {A} {B} {n} {r} rule f h = record { alone = λ bs at why e. from bs at why (r bs at) refl e }
   where
-    by : (at p : ℕ) (left : List Bit) (why : Refusal) (j : Judged B) → ((reason : Reason) → j ≡ against reason → number reason ≤ n) → settle at j left p ≡ refused why → number (why .reason) ≤ n
+    by : (at p : ℕ) (left : List Bit) (why : Refusal) (j : Judged B) → ((reason : Reason) → j ≡ against reason → number reason ≤ n) → settle {P = plain} at j left p ≡ refused why → number (why .reason) ≤ n
     by at p left why (fine b) g e = absurd (apart e)
     by at p left why (against reason) g e = let same : reason ≡ why .reason = cc in subst (λ (x : Reason). number x ≤ n) same (g reason refl)
 
@@ -63,12 +64,12 @@ alone-judged {A} {B} {n} {r} rule f h = record { alone = λ bs at why e. from bs
 alone-whole : {A : Type 0} {n : ℕ} {r : Reader A} → Alone n r → Alone n (whole r)
 alone-whole {A} {n} {r} h = record { alone = λ bs at why e. from bs at why (r bs at) refl e }
   where
-    from : (bs : List Bit) (at : ℕ) (why : Refusal) (x : Read A) → r bs at ≡ x → movedRead at x ≡ refused why → number (why .reason) ≤ n
+    from : (bs : List Bit) (at : ℕ) (why : Refusal) (x : Read A) → r bs at ≡ x → movedRead {P = plain} at x ≡ refused why → number (why .reason) ≤ n
     from bs at why (got a left p) w e = absurd (apart e)
     from bs at why (refused c) w e = let same : c .reason ≡ why .reason = cc in subst (λ (x : Reason). number x ≤ n) same (h .alone bs at c w)
     from bs at why endless w e = absurd (apart-endless e)
 
-three : (rest at v : ℕ) (left : List Bit) (p : ℕ) (why : Refusal) → fieldFrom rest at v left p ≡ refused why → BitsEnd ≡ why .reason
+three : (rest at v : ℕ) (left : List Bit) (p : ℕ) (why : Refusal) → fieldFrom {P = plain} rest at v left p ≡ refused why → BitsEnd ≡ why .reason
 unfolding fieldFrom
 three zero at v left p why e = absurd (apart e)
 three (suc rest) at v [] p why e = cc
@@ -132,8 +133,8 @@ mba-rules last address m = by (eqb m stuffing) (eqb m startCode) last (ltb 33 (a
     clash e f = omega arith
 
     by : (s t l u : Bool) → (T s → T t → ⊥)
-        → pick s (fine stuffed) (pick t (pick l (against StartCodeLast) (fine ended)) (pick u (against AddressPast) (fine (step m))))
-        ≡ pick (both (opposite (either s t)) u) (against AddressPast) (pick (both l t) (against StartCodeLast) (fine (pick s stuffed (pick t ended (step m)))))
+        → pick s (fine stuffed) (pick t (pick l (against AfterLast) (fine ended)) (pick u (against AddressPast) (fine (step m))))
+        ≡ pick (both (opposite (either s t)) u) (against AddressPast) (pick (both l t) (against AfterLast) (fine (pick s stuffed (pick t ended (step m)))))
     by true true l u n = absurd (n tt tt)
     by true false true u n = refl
     by true false false u n = refl
@@ -145,13 +146,13 @@ mba-rules last address m = by (eqb m stuffing) (eqb m startCode) last (ltb 33 (a
     by false false false false n = refl
 
 level-rules : (room : ℕ) (c : Coefficient) (at : ℕ) (left : List Bit) (p : ℕ) (b : Bool)
-    → next (settle at (pick b (against Forbidden) (fine (sent c))) left p) (λ a. settle at (fits room a))
+    → next {P = plain} (settle at (pick b (against Forbidden) (fine (sent c))) left p) (λ a. settle at (fits room a))
     ≡ settle at (pick b (against Forbidden) (pick (leb room (c .run)) (against CoefficientPast) (fine (sent c)))) left p
 level-rules room c at left p true = refl
 level-rules room c at left p false = refl
 
 coefficient-rules : (room : ℕ) (table : CodeTable) (bs : List Bit) (at : ℕ)
-    → judgedRead (coefficientRead table) (fits room) bs at ≡ judgedRead (tcoeff table) (λ e. firstBroken (coefficientRules room e) e) bs at
+    → judgedRead {P = plain} (coefficientRead table) (fits room) bs at ≡ judgedRead (tcoeff table) (λ e. firstBroken (coefficientRules room e) e) bs at
 unfolding coefficientRead
 coefficient-rules room table bs at = by (tcoeff table bs at)
   where

@@ -17,11 +17,12 @@ use Rattle.refusals.specs.declared.Table.{Table}
 use Rattle.refusals.specs.declared.Refusal.{Refusal}
 use Rattle.refusals.specs.Number.{number}
 use Rattle.bits.specs.Bits.{Bit, O, I}
+use Rattle.bits.specs.Places.{plain}
 use Rattle.bits.specs.Read.{Read, got, refused, endless, bad}
 use Rattle.bits.specs.Code.{Entry, entry, CodeTable, starts, longer, lookup, word}
 use Rattle.bits.proofs.Tree.{hit, miss}
 use Rattle.bits.proofs.Codes.{each}
-use Rattle.bits.proofs.Logic.{Took, Fair, Gives, Reads, reads-word}
+use Rattle.bits.proofs.Logic.{Took, Fair, Gives, Reads, gives, reads-word}
 use Rattle.order.specs.Order.{bitsEnd}
 use Rattle.order.proofs.Logic.{Low, Moved, From, Grown, Moves, Steady, Near}
 
@@ -190,7 +191,7 @@ none-moved name bs at false f = (omega arith, omega (arith, f refl))
 module _ (p : ℕ → Bool) (table : CodeTable) (t : T (each p (table .entries))) (s : T (some (table .entries))) where
   word-moves : {bound : ℕ} → Moves bound 1 (word table)
   unfolding word
-  word-moves = record { moves = λ bs at b. from bs at (word table bs at) refl (reads-word p table t .gives bs at (le-refl (suc (length bs)))) }
+  word-moves = record { moves = λ bs at b. from bs at (word table bs at) refl (gives (reads-word p table t) bs at (le-refl (suc (length bs)))) }
     where
       from : (bs : List Bit) (at : ℕ) (x : Read ℕ) → word table bs at ≡ x → Gives 1 (λ m left. T (p m)) bs at x → Moved 1 bs at x
       from bs at (got m left q) e h = h .0
@@ -228,6 +229,6 @@ lookup-short n (entry w k ∷ tab) bs at o m left p t f e =
         omega (arith, leb→le (length w) n (both-left (leb (length w) n) (short n tab) t))
     go false s g = g (sym (miss w k tab bs at o s) ∙ e)
 
-pub word-short : (n : ℕ) (table : CodeTable) (bs : List Bit) (at m : ℕ) (left : List Bit) (p : ℕ) → T (short n (table .entries)) → word table bs at ≡ got m left p → p ≤ at + n
+pub word-short : (n : ℕ) (table : CodeTable) (bs : List Bit) (at m : ℕ) (left : List Bit) (p : ℕ) → T (short n (table .entries)) → word {P = plain} table bs at ≡ got m left p → p ≤ at + n
 unfolding word
 word-short n table bs at m left p t e = lookup-short n (table .entries) bs at _ m left p t (λ f. let z : _≡_ {A = ℕ} 0 1 = cc in omega arith) e

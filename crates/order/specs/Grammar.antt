@@ -5,7 +5,7 @@ use mathlib.Core.List.{List, [], _∷_}
 use lib.Dec.{eqb, leb, ltb}
 use Rattle.laws.specs.Choice.{pick, both, either, opposite}
 use Rattle.refusals.specs.declared.Reason.{Reason}
-use Rattle.refusals.specs.declared.Reason.the-variants.{NoStartCode, OtherFormat, OtherGroup, QuantiserZero, AddressPast, Forbidden, CoefficientPast, VectorOut, StartCodeLast}
+use Rattle.refusals.specs.declared.Reason.the-variants.{NoStartCode, OtherFormat, OtherGroup, QuantiserZero, AddressPast, Forbidden, CoefficientPast, VectorOut, AfterLast}
 use Rattle.refusals.specs.Number.{number}
 use Rattle.bits.specs.Read.{field, judgedRead}
 use Rattle.bits.specs.Code.{CodeTable, word}
@@ -39,7 +39,7 @@ coefficientRules room over = []
 abbrev pub mbaRules : Bool → ℕ → ℕ → List Rule
 mbaRules last address m =
     rule AddressPast (both (opposite (either (eqb m stuffing) (eqb m startCode))) (ltb 33 (address + m))) ∷
-    rule StartCodeLast (both last (eqb m startCode)) ∷ []
+    rule AfterLast (both last (eqb m startCode)) ∷ []
 
 abbrev pub mbaMeaning : ℕ → Mba
 mbaMeaning m = pick (eqb m stuffing) stuffed (pick (eqb m startCode) ended (step m))

@@ -4,9 +4,9 @@ use mathlib.Core.Path.{_≡_, refl}
 use native.Mathlib.Omega.{arith}
 use lib.Dec.{lit≤}
 use Rattle.refusals.specs.declared.Reason.{Reason}
-use Rattle.refusals.specs.declared.Reason.the-variants.{Length, Count, BitsEnd, NoStartCode, OtherFormat, OtherGroup, QuantiserZero, NoCodeword, AddressPast, Forbidden, CoefficientPast, VectorOut, StartCodeLast, BlockCheck, BlockField, OtherClip, UntrueMark, Invalid, AboveLimit, NotRefresh, AllSent, NoLock}
+use Rattle.refusals.specs.declared.Reason.the-variants.{Length, Count, BitsEnd, NoStartCode, OtherFormat, OtherGroup, QuantiserZero, NoCodeword, AddressPast, Forbidden, CoefficientPast, VectorOut, AfterLast, OptionalMode, BlockCheck, BlockField, OtherClip, UntrueMark, Invalid, AboveLimit, NotRefresh, AllSent, NoneKept, NoLock}
 use Rattle.refusals.specs.declared.Table.{Table}
-use Rattle.refusals.specs.declared.Table.the-variants.{Mba, Mtype, Mvd, Cbp, Tcoeff}
+use Rattle.refusals.specs.declared.Table.the-variants.{Mba, Mtype, Mvd, Cbp, Tcoeff, McbpcIntra, McbpcInter, Cbpy, Mvd263, Tcoef263}
 use Rattle.refusals.specs.declared.Verdict.the-variants.{Accepted, Refused}
 use Rattle.refusals.specs.Number.{number, tableNumber, readTable}
 use Rattle.refusals.specs.Told.{Numbers, untabled}
@@ -16,13 +16,18 @@ use Rattle.refusals.specs.Tables.{Tabled, TabledExactly, VerdictStays}
 pub untabled-tabled : (n place : ℕ) → (n ≡ 8 → ⊥) → Tabled (untabled n place)
 untabled-tabled n place other = record { read = λ e. absurd (other e); other = λ h. refl }
 
-of-table : (table : Table) → (1 ≤ tableNumber table) × (tableNumber table ≤ 5)
+of-table : (table : Table) → (1 ≤ tableNumber table) × (tableNumber table ≤ 10)
 unfolding tableNumber
 of-table Mba = (lit≤ tt, lit≤ tt)
 of-table Mtype = (lit≤ tt, lit≤ tt)
 of-table Mvd = (lit≤ tt, lit≤ tt)
 of-table Cbp = (lit≤ tt, lit≤ tt)
 of-table Tcoeff = (lit≤ tt, lit≤ tt)
+of-table McbpcIntra = (lit≤ tt, lit≤ tt)
+of-table McbpcInter = (lit≤ tt, lit≤ tt)
+of-table Cbpy = (lit≤ tt, lit≤ tt)
+of-table Mvd263 = (lit≤ tt, lit≤ tt)
+of-table Tcoef263 = (lit≤ tt, lit≤ tt)
 
 of-reason : (reason : Reason) (place : ℕ) → Tabled (record { number = number reason; place = place; table = readTable reason })
 unfolding number readTable
@@ -38,7 +43,8 @@ of-reason AddressPast place = untabled-tabled 9 place (λ e. omega (arith, e))
 of-reason Forbidden place = untabled-tabled 10 place (λ e. omega (arith, e))
 of-reason CoefficientPast place = untabled-tabled 11 place (λ e. omega (arith, e))
 of-reason VectorOut place = untabled-tabled 12 place (λ e. omega (arith, e))
-of-reason StartCodeLast place = untabled-tabled 13 place (λ e. omega (arith, e))
+of-reason AfterLast place = untabled-tabled 13 place (λ e. omega (arith, e))
+of-reason OptionalMode place = untabled-tabled 14 place (λ e. omega (arith, e))
 of-reason BlockCheck place = untabled-tabled 21 place (λ e. omega (arith, e))
 of-reason BlockField place = untabled-tabled 22 place (λ e. omega (arith, e))
 of-reason OtherClip place = untabled-tabled 23 place (λ e. omega (arith, e))
@@ -47,6 +53,7 @@ of-reason Invalid place = untabled-tabled 31 place (λ e. omega (arith, e))
 of-reason AboveLimit place = untabled-tabled 32 place (λ e. omega (arith, e))
 of-reason NotRefresh place = untabled-tabled 33 place (λ e. omega (arith, e))
 of-reason AllSent place = untabled-tabled 34 place (λ e. omega (arith, e))
+of-reason NoneKept place = untabled-tabled 43 place (λ e. omega (arith, e))
 of-reason NoLock place = untabled-tabled 44 place (λ e. omega (arith, e))
 
 pub tabled-exactly : TabledExactly

@@ -5,18 +5,18 @@ use mathlib.Core.List.{List, [], _∷_}
 use lib.ListN.{getD}
 use native.Mathlib.Omega.{arith}
 use Rattle.refusals.specs.declared.Reason.{Reason}
-use Rattle.refusals.specs.declared.Reason.the-variants.{Length, Count, BitsEnd, NoStartCode, OtherFormat, OtherGroup, QuantiserZero, NoCodeword, AddressPast, Forbidden, CoefficientPast, VectorOut, StartCodeLast, BlockCheck, BlockField, OtherClip, UntrueMark, Invalid, AboveLimit, NotRefresh, AllSent, NoLock}
+use Rattle.refusals.specs.declared.Reason.the-variants.{Length, Count, BitsEnd, NoStartCode, OtherFormat, OtherGroup, QuantiserZero, NoCodeword, AddressPast, Forbidden, CoefficientPast, VectorOut, AfterLast, OptionalMode, BlockCheck, BlockField, OtherClip, UntrueMark, Invalid, AboveLimit, NotRefresh, AllSent, NoneKept, NoLock}
 use Rattle.refusals.specs.declared.Table.{Table}
-use Rattle.refusals.specs.declared.Table.the-variants.{Mba, Mtype, Mvd, Cbp, Tcoeff}
+use Rattle.refusals.specs.declared.Table.the-variants.{Mba, Mtype, Mvd, Cbp, Tcoeff, McbpcIntra, McbpcInter, Cbpy, Mvd263, Tcoef263}
 use Rattle.refusals.specs.declared.Refusal.{Refusal}
 use Rattle.refusals.specs.declared.Verdict.{Verdict}
 use Rattle.refusals.specs.declared.Verdict.the-variants.{Accepted, Refused}
 use Rattle.refusals.specs.Number.{number, tableNumber, readTable, refusal}
 use Rattle.refusals.specs.Told.{Numbers, numbersOf, Told, accepted, refusedBy, toldVerdict, verdictOn, foundOr, NumbersOnce, RefusalToldOnce, VerdictToldOnce}
 
--- ---- the table of a number: 1 to 5
+-- ---- the table of a number: 1 to 10
 abbrev tableNamed : ℕ → Table
-tableNamed n = getD (Mba ∷ Mba ∷ Mtype ∷ Mvd ∷ Cbp ∷ Tcoeff ∷ []) n Mba
+tableNamed n = getD (Mba ∷ Mba ∷ Mtype ∷ Mvd ∷ Cbp ∷ Tcoeff ∷ McbpcIntra ∷ McbpcInter ∷ Cbpy ∷ Mvd263 ∷ Tcoef263 ∷ []) n Mba
 
 table-back : (table : Table) → tableNamed (tableNumber table) ≡ table
 unfolding tableNumber
@@ -25,15 +25,20 @@ table-back Mtype = refl
 table-back Mvd = refl
 table-back Cbp = refl
 table-back Tcoeff = refl
+table-back McbpcIntra = refl
+table-back McbpcInter = refl
+table-back Cbpy = refl
+table-back Mvd263 = refl
+table-back Tcoef263 = refl
 
--- ---- the reason of a number: 1 to 13, 21 to 24, 31 to 34, 44
+-- ---- the reason of a number: 1 to 14, 21 to 24, 31 to 34, 43 and 44
 abbrev byNumber : ℕ → List Reason
 byNumber table =
     Length ∷ Length ∷ Count ∷ BitsEnd ∷ NoStartCode ∷ OtherFormat ∷ OtherGroup ∷ QuantiserZero ∷ NoCodeword (tableNamed table) ∷ AddressPast
-    ∷ Forbidden ∷ CoefficientPast ∷ VectorOut ∷ StartCodeLast ∷ Length ∷ Length ∷ Length ∷ Length ∷ Length ∷ Length
+    ∷ Forbidden ∷ CoefficientPast ∷ VectorOut ∷ AfterLast ∷ OptionalMode ∷ Length ∷ Length ∷ Length ∷ Length ∷ Length
     ∷ Length ∷ BlockCheck ∷ BlockField ∷ OtherClip ∷ UntrueMark ∷ Length ∷ Length ∷ Length ∷ Length ∷ Length
     ∷ Length ∷ Invalid ∷ AboveLimit ∷ NotRefresh ∷ AllSent ∷ Length ∷ Length ∷ Length ∷ Length ∷ Length
-    ∷ Length ∷ Length ∷ Length ∷ Length ∷ NoLock ∷ []
+    ∷ Length ∷ Length ∷ Length ∷ NoneKept ∷ NoLock ∷ []
 
 unfoldable pub reasonOf : ℕ → ℕ → Reason
 reasonOf n table = getD (byNumber table) n Length
@@ -52,7 +57,8 @@ reason-back AddressPast = refl
 reason-back Forbidden = refl
 reason-back CoefficientPast = refl
 reason-back VectorOut = refl
-reason-back StartCodeLast = refl
+reason-back AfterLast = refl
+reason-back OptionalMode = refl
 reason-back BlockCheck = refl
 reason-back BlockField = refl
 reason-back OtherClip = refl
@@ -61,6 +67,7 @@ reason-back Invalid = refl
 reason-back AboveLimit = refl
 reason-back NotRefresh = refl
 reason-back AllSent = refl
+reason-back NoneKept = refl
 reason-back NoLock = refl
 
 pub numbers-once : NumbersOnce

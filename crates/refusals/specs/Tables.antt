@@ -7,9 +7,9 @@ use Rattle.refusals.specs.declared.Verdict.the-variants.{Accepted, Refus
 use Rattle.refusals.specs.Number.{number}
 use Rattle.refusals.specs.Told.{Numbers, numbersOf, Told, accepted, refusedBy, toldVerdict}
 
--- ---- the table is 1 to 5 exactly with 8
+-- ---- the table is 1 to 10 exactly with 8
 pub record Tabled (numbers : Numbers) : Type 0 where
-  pub read : numbers .number ≡ 8 → (1 ≤ numbers .table) × (numbers .table ≤ 5)
+  pub read : numbers .number ≡ 8 → (1 ≤ numbers .table) × (numbers .table ≤ 10)
   pub other : (numbers .number ≡ 8 → ⊥) → numbers .table ≡ 0
 
 -- of every refusal that there is

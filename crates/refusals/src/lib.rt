@@ -1,14 +1,19 @@
 // Document 01's table of refusals: each reason by name, and the refusal with its bit place. A refusal is passed on unopened.
 ghost use mathlib.Core.Path.{_≡_};
-ghost use Rattle.refusals.specs.Number.{number, tableNumber, readTable};
+ghost use Rattle.refusals.specs.Number.{number, tableNumber, readTable, refusal};
 
-// The table of codewords that was being read: H.261's Tables 1 to 5.
+// The table of codewords that was being read: H.261's Tables 1 to 5, then H.263's.
 pub enum Table {
     Mba,
     Mtype,
     Mvd,
     Cbp,
     Tcoeff,
+    McbpcIntra,
+    McbpcInter,
+    Cbpy,
+    Mvd263,
+    Tcoef263,
 }
 
 pub enum Reason {
@@ -24,7 +29,8 @@ pub enum Reason {
     Forbidden,
     CoefficientPast,
     VectorOut,
-    StartCodeLast,
+    AfterLast,
+    OptionalMode,
     BlockCheck,
     BlockField,
     OtherClip,
@@ -33,6 +39,7 @@ pub enum Reason {
     AboveLimit,
     NotRefresh,
     AllSent,
+    NoneKept,
     NoLock,
 }
 
@@ -45,6 +52,19 @@ pub struct Refusal {
 pub enum Verdict {
     Accepted,
     Refused(Refusal),
+}
+
+// What a writer answers: the number of bits, or the refusal.
+pub enum Written {
+    Bits(usize),
+    Refused(Refusal),
+}
+
+// Nothing is written, for this reason. Its place is 0.
+pub fn not_written(reason: Reason) -> Written
+    ensures { λ r. ⌜ r ≡ Written.Refused (refusal reason 0) ⌝ }
+{
+    Written::Refused(Refusal { reason, place: 0 })
 }
 
 // A refusal's number in the table, for programs that print it.
@@ -64,7 +84,8 @@ pub fn number_of(reason: Reason) -> u32
         Reason::Forbidden => 10,
         Reason::CoefficientPast => 11,
         Reason::VectorOut => 12,
-        Reason::StartCodeLast => 13,
+        Reason::AfterLast => 13,
+        Reason::OptionalMode => 14,
         Reason::BlockCheck => 21,
         Reason::BlockField => 22,
         Reason::OtherClip => 23,
@@ -73,6 +94,7 @@ pub fn number_of(reason: Reason) -> u32
         Reason::AboveLimit => 32,
         Reason::NotRefresh => 33,
         Reason::AllSent => 34,
+        Reason::NoneKept => 43,
         Reason::NoLock => 44,
     }
 }
@@ -87,6 +109,11 @@ fn table_number(table: Table) -> u32
         Table::Mvd => 3,
         Table::Cbp => 4,
         Table::Tcoeff => 5,
+        Table::McbpcIntra => 6,
+        Table::McbpcInter => 7,
+        Table::Cbpy => 8,
+        Table::Mvd263 => 9,
+        Table::Tcoef263 => 10,
     }
 }
 

@@ -1,5 +1,5 @@
 -- One macroblock's turn gives its content's values: what is sent, and what is kept. Assumes nothing.
-use mathlib.Core.Path.{_≡_, refl, sym, ap}
+use mathlib.Core.Path.{_≡_, refl, sym, ap, subst}
 use mathlib.Core.Bool.{true, false}
 use mathlib.Core.List.{List}
 use Prim.Native.Nat.{ℕ, zero, suc, _+_, _*_, _≤_, _<_}
@@ -10,7 +10,7 @@ use Rattle.size.specs.declared.Size.{Size}
 use Rattle.size.specs.Place.{macroblocksAcross, macroblocksDown}
 use Rattle.size.proofs.Blocks.{Placed, placed}
 use Rattle.quantiser.specs.Sample.{sampleOf}
-use Rattle.samples.specs.Content.{Predictions, Differences, Content, Contents, sentValues, keptValues, contentValues, pictureValues}
+use Rattle.samples.specs.Content.{Values, Predictions, Differences, Content, Contents, sentValues, keptValues, contentValues, pictureValues}
 use Rattle.samples.specs.Wrote.{Wrote, Part, Macroblock, rowsOf}
 use Rattle.samples.proofs.Corner.{Corner, corner-half, rows-cell}
 use Rattle.samples.proofs.Wrote.{wrote, wrote-as, part-as, part-more, part-four}
@@ -48,6 +48,10 @@ sent-more {p = p} {y = y} {x = x} g a l q h =
     part-more l q (wrote-as (λ i j m n. ap (λ (e : ℕ). sampleOf (g p y x i j) (a e i j)) (sym (l .number))) h)
 
 -- ---- either is the content's
+pub macroblock-at : {f : Size} {r c q d : ℕ} {g : Values} {t u : List ℕ} → r ≡ q → c ≡ d → Macroblock f r c g t u → Macroblock f q d g t u
+macroblock-at {f} {r} {d = d} {g = g} {t = t} {u = u} er ec h =
+    subst (λ (m : ℕ). Macroblock f m d g t u) er (subst (λ (m : ℕ). Macroblock f r m g t u) ec h)
+
 pub kept-content : {f : Size} {r c : ℕ} {t u : List ℕ} (s : List ℕ) (m : Content) → m .sent ≡ false → Macroblock f r c (keptValues f s) t u → Macroblock f r c (contentValues f s m) t u
 unfolding contentValues
 kept-content s m e h = part-as (λ p y x a b i j l k. simp e) h

@@ -2,7 +2,7 @@
 use mathlib.Core.Bool.{Bool}
 use mathlib.Core.List.{List, _++_}
 use Prim.Native.Nat.{ℕ, _/_, _%_}
-use lib.IntN.{ℤ}
+use lib.IntN.{ℤ, pos}
 use Rattle.laws.specs.Choice.{pick}
 use Rattle.laws.specs.Tabulate.{rows, made}
 use Rattle.size.specs.declared.Size.{Size}
@@ -26,6 +26,10 @@ Differences = ℕ → ℕ → ℕ → ℤ
 -- the transform's output for the 64 bytes of a block, in transmission order
 unfoldable pub differenceOf : (ℕ → ℕ) → Bool → ℕ → ℕ → ℕ → ℤ
 differenceOf bytes intra quantiser i j = inverseAt (made (coefficientAt bytes intra quantiser)) i j
+
+-- "prediction (0 for INTRA)": a block's prediction, where it isn't INTRA
+abbrev pub unlessIntra : Bool → (ℕ → ℕ → ℤ) → ℕ → ℕ → ℤ
+unlessIntra intra g i j = pick intra (pos 0) (g i j)
 
 -- a macroblock's content: whether it is sent, how its blocks are predicted, and what is added to them
 pub record Content : Type 0 where

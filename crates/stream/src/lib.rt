@@ -375,7 +375,8 @@ fn read_unfilled(
     if !among_zeros(why, ones) {
         return Verdict::Refused(why);
     }
-    let verdict = h261_reader::read(bytes, why.place, format, head, macroblocks, levels);
+    let read = h261_reader::read(bytes, why.place, format, head, macroblocks, levels);
+    let verdict = read.verdict;
     match verdict {
         Verdict::Accepted => Verdict::Accepted,
         Verdict::Refused(_second) => Verdict::Refused(why),
@@ -397,7 +398,8 @@ fn read_whole(
 {
     let most = larger(h261_groups::limit(format), ones);
     let first = smaller(count, most);
-    let verdict = h261_reader::read(bytes, first, format, head, macroblocks, levels);
+    let read = h261_reader::read(bytes, first, format, head, macroblocks, levels);
+    let verdict = read.verdict;
     match verdict {
         Verdict::Accepted => Verdict::Accepted,
         Verdict::Refused(why) => read_unfilled(format, bytes, ones, why, head, macroblocks, levels),
@@ -444,7 +446,8 @@ pub fn read(
     if !ends_filled(format, bytes, count, ones) {
         return read_whole(format, bytes, count, ones, head, macroblocks, levels);
     }
-    let verdict = h261_reader::read(bytes, ones + 1, format, head, macroblocks, levels);
+    let read = h261_reader::read(bytes, ones + 1, format, head, macroblocks, levels);
+    let verdict = read.verdict;
     match verdict {
         Verdict::Accepted => Verdict::Accepted,
         Verdict::Refused(_first) => {

@@ -1,1 +1,2 @@
 pub mod Coefficient
+pub mod Words

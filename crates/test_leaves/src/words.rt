@@ -1,14 +1,17 @@
-// What each read of bits or of a table of H.261 finds, a line for each record of 32 bytes.
+// What each read of bits or of a table finds, a line for each record of 32 bytes.
 //
 // Byte 0 is the read: 1 MBA, 2 MTYPE, 3 MVD, 4 CBP, 5 TCOEFF, 6 TCOEFF for the first coefficient of a block that is not INTRA, 7 a field of byte 1
-// bits. Bytes 2-3 are N and 4-5 the place, high byte first; byte 6 is the slice's length, at most 24, and the slice stands from byte 8 on.
-// Lines: "got MEANING NEXT", "got RUN LEVEL NEXT", "eob NEXT", "refused NUMBER PLACE TABLE"; "refused 2 0 0" where the record asks for no such read.
+// bits; of H.263 8 MCBPC in an INTRA picture, 9 in an INTER one, 10 CBPY, 11 MVD, 12 TCOEF. Bytes 2-3 are N and 4-5 the place, high byte first; byte 6
+// is the slice's length, at most 24, and the slice stands from byte 8 on.
+// Lines: "got MEANING NEXT", "got RUN LEVEL NEXT", "got LAST RUN LEVEL NEXT", "eob NEXT", "refused NUMBER PLACE TABLE"; "refused 2 0 0" where the record
+// asks for no such read. The meaning of MCBPC is its index in the Recommendation's table.
 use bits::FieldRead;
 use checks::say;
 use checks::say_number;
 use checks::two;
 use h261_words::CoefficientRead;
 use h261_words::WordTables;
+use h263_words::EventRead;
 use libc::STDOUT_FILENO;
 use refusals::Reason;
 use refusals::Refusal;
@@ -16,6 +19,8 @@ ghost use mathlib.Core.Path.{_≡_};
 ghost use Prim.Native.Nat.{_≤_};
 ghost use Rattle.bits.specs.Answer.{Within};
 ghost use Rattle.h261_words.specs.Lookup.{Tables};
+ghost use Rattle.h263_words.specs.Lookup.{Tables as NewerTables};
+ghost use Rattle.test_leaves.specs.Words.{TablesLent};
 
 fn say_refused(r: Refusal) {
     say(b"refused");
@@ -89,8 +94,71 @@ fn ask_word(tables: &WordTables, kind: u8, bytes: &[u8], count: usize, at: usize
     }
 }
 
-fn ask(tables: &WordTables, kind: u8, width: usize, bytes: &[u8], count: usize, at: usize)
-    requires { do ⌜ (Tables (now tables)) × ((← ⟦bytes.len()⟧) ≤ 24) ⌝ }
+// Where the words of a type begin in the Recommendation's table; stuffing, the last, is of none.
+fn first_index(kind: u32, intra: bool) -> u64
+    ensures { λ r. ⌜ r ≤ 20 ⌝ }
+{
+    if intra {
+        return match kind {
+            1 => 0,
+            2 => 4,
+            _ => 8,
+        };
+    }
+    match kind {
+        3 => 0,
+        4 => 4,
+        5 => 8,
+        1 => 12,
+        2 => 16,
+        _ => 20,
+    }
+}
+
+fn say_kind(r: FieldRead, intra: bool) {
+    match r {
+        FieldRead::Got(v, p) => say_got(first_index(v / 4, intra) + (v % 4) as u64, p),
+        FieldRead::Refused(x) => say_refused(x),
+    }
+}
+
+fn say_event(r: EventRead) {
+    match r {
+        EventRead::Event(last, run, code, p) => {
+            say(b"got");
+            say_number(last as u64);
+            say_number(run as u64);
+            say_level(code);
+            say_number(p as u64);
+            say(b"\n");
+        }
+        EventRead::Refused(x) => say_refused(x),
+    }
+}
+
+fn ask_newer_word(tables: &h263_words::WordTables, kind: u8, bytes: &[u8], count: usize, at: usize)
+    requires { ⌜ (NewerTables (now tables)) × (Within (now bytes) count at) ⌝ }
+{
+    match kind {
+        8 => say_kind(h263_words::mcbpc(tables, bytes, count, at, true), true),
+        9 => say_kind(h263_words::mcbpc(tables, bytes, count, at, false), false),
+        10 => say_field(h263_words::cbpy(tables, bytes, count, at)),
+        11 => say_field(h263_words::mvd(tables, bytes, count, at)),
+        12 => say_event(h263_words::event(tables, bytes, count, at)),
+        _ => say_none(),
+    }
+}
+
+fn ask(
+    tables: &WordTables,
+    newer: &h263_words::WordTables,
+    kind: u8,
+    width: usize,
+    bytes: &[u8],
+    count: usize,
+    at: usize,
+)
+    requires { do ⌜ (TablesLent (now tables) (now newer)) × ((← ⟦bytes.len()⟧) ≤ 24) ⌝ }
 {
     if bytes.len() * 8 < count {
         say_none();
@@ -98,6 +166,10 @@ fn ask(tables: &WordTables, kind: u8, width: usize, bytes: &[u8], count: usize, 
     }
     if count < at {
         say_none();
+        return;
+    }
+    if 7 < kind {
+        ask_newer_word(newer, kind, bytes, count, at);
         return;
     }
     if kind == 7 {
@@ -117,8 +189,8 @@ fn wide(x: u8) -> usize
     x as usize
 }
 
-fn answer(tables: &WordTables, record: &[u8; 32])
-    requires { ⌜ Tables (now tables) ⌝ }
+fn answer(tables: &WordTables, newer: &h263_words::WordTables, record: &[u8; 32])
+    requires { ⌜ TablesLent (now tables) (now newer) ⌝ }
 {
     let size = wide(record[6]);
     if 24 < size {
@@ -129,6 +201,7 @@ fn answer(tables: &WordTables, record: &[u8; 32])
     let slice: &[u8] = record;
     ask(
         tables,
+        newer,
         record[0],
         wide(record[1]),
         &slice[8..end],
@@ -138,13 +211,13 @@ fn answer(tables: &WordTables, record: &[u8; 32])
 }
 
 // One record, and whether to go on.
-pub fn one(tables: &WordTables) -> bool
-    requires { ⌜ Tables (now tables) ⌝ }
+pub fn one(tables: &WordTables, newer: &h263_words::WordTables) -> bool
+    requires { ⌜ TablesLent (now tables) (now newer) ⌝ }
 {
     let mut record = [0u8; 32];
     if !checks::fills(&mut record) {
         return false;
     }
-    answer(tables, &record);
+    answer(tables, newer, &record);
     true
 }

@@ -1,16 +1,23 @@
-// Pictures read: a record goes on with N and the slice's length in four bytes each, and the slice. Lines: "accepted DESCRIPTION STORE" with the two checks, "refused NUMBER
-// at PLACE", "refused 8 at PLACE table TABLE", "refused 2"; "two verdicts" where reading and decoding disagree, and "a refusal that changed a buffer".
+// Pictures read: a record goes on with N and the slice's length in four bytes each, and the slice. Lines: "accepted DESCRIPTION STORE reads READS" with the two checks and
+// how many fields and codewords were read, "refused NUMBER at PLACE reads READS", "refused 8 at PLACE table TABLE reads READS", "refused 2 reads 0"; "two verdicts" where
+// reading and decoding disagree, and "a refusal that changed a buffer".
 use crate::BEFORE;
 use checks::part;
 use h261_groups::Format;
 use refusals::Refusal;
 use refusals::Verdict;
 
-fn say_accepted(head: &[u8], macroblocks: &[u8], levels: &[u8], store: &[u8]) {
+fn say_reads(reads: usize) {
+    checks::say(b" reads");
+    checks::say_number(reads as u64);
+    checks::say(b"\n");
+}
+
+fn say_accepted(reads: usize, head: &[u8], macroblocks: &[u8], levels: &[u8], store: &[u8]) {
     checks::say(b"accepted");
     checks::say_number(checks::check_description(head, macroblocks, levels));
     checks::say_check(store);
-    checks::say(b"\n");
+    say_reads(reads);
 }
 
 fn same_refusal(a: Refusal, b: Refusal) -> bool {
@@ -44,6 +51,7 @@ fn unchanged(head: &[u8], macroblocks: &[u8], levels: &[u8], store: &[u8]) -> bo
 
 fn say_verdict(
     verdict: Verdict,
+    reads: usize,
     decoded: Verdict,
     head: &[u8],
     macroblocks: &[u8],
@@ -55,11 +63,11 @@ fn say_verdict(
         return;
     }
     match verdict {
-        Verdict::Accepted => say_accepted(head, macroblocks, levels, store),
+        Verdict::Accepted => say_accepted(reads, head, macroblocks, levels, store),
         Verdict::Refused(why) => {
             if unchanged(head, macroblocks, levels, store) {
                 checks::say_refusal(why);
-                checks::say(b"\n");
+                say_reads(reads);
             } else {
                 checks::say(b"a refusal that changed a buffer\n");
             }
@@ -77,9 +85,18 @@ fn say(
     reference: &[u8],
     store: &mut [u8],
 ) {
-    let verdict = h261_reader::read(bytes, count, format, head, macroblocks, levels);
+    let read = h261_reader::read(bytes, count, format, head, macroblocks, levels);
+    let verdict = read.verdict;
     let decoded = decoder::decode(bytes, count, coding::kind_of(format), reference, store);
-    say_verdict(verdict, decoded, head, macroblocks, levels, store);
+    say_verdict(
+        verdict,
+        read.reads,
+        decoded,
+        head,
+        macroblocks,
+        levels,
+        store,
+    );
 }
 
 fn with_buffers(format: Format, bytes: &[u8], count: usize, pattern: &[u8; 152064]) {

@@ -4,8 +4,8 @@ use crate::BEFORE;
 use checks::Description;
 use checks::part;
 use h261_groups::Format;
-use h261_writer::Written;
 use refusals::Verdict;
+use refusals::Written;
 
 // Whether the bits are read as this description, into lent scratch.
 fn gives(
@@ -19,7 +19,7 @@ fn gives(
     macroblocks_read: &mut [u8],
     levels_read: &mut [u8],
 ) -> bool {
-    let verdict = h261_reader::read(
+    let read = h261_reader::read(
         bytes,
         count,
         format,
@@ -27,6 +27,7 @@ fn gives(
         macroblocks_read,
         levels_read,
     );
+    let verdict = read.verdict;
     match verdict {
         Verdict::Refused(_) => false,
         Verdict::Accepted => {

@@ -26,7 +26,7 @@ pub pair-back : (n : ℕ) → 256 * (n / 256) + n % 256 ≡ n
 pair-back n = omega arith
 
 -- the number of a number's high byte and its two others
-number-back : (n : ℕ) → 65536 * (n / 65536) + (256 * (n % 65536 / 256) + n % 65536 % 256) ≡ n
+pub number-back : (n : ℕ) → 65536 * (n / 65536) + (256 * (n % 65536 / 256) + n % 65536 % 256) ≡ n
 number-back n = omega arith
 
 last-back : (last refresh : Bool) → eqb ((bit last + 2 * bit refresh) % 2) 1 ≡ last
@@ -96,7 +96,7 @@ module _ (header : Header) (payload : List ℕ) (e : length payload ≡ 500) whe
       + getD-past (bodyFor header payload) (twoBytes s) 510 1 0 (body-length header payload e) i)
 
 -- every test passed
-passed : (size : Size) (block : List ℕ) (header : Header) → length block ≡ 512 → sumOf block ≡ checkSumOf block → fieldsFollow size block ≡ true
+pub passed : (size : Size) (block : List ℕ) (header : Header) → length block ≡ 512 → sumOf block ≡ checkSumOf block → fieldsFollow size block ≡ true
     → headerOf block ≡ header → checkOf size block ≡ accepted header
 unfolding checkOf
 passed size block header l s f h = rw (eq-eqb (length block) 512 l, eq-eqb (sumOf block) (checkSumOf block) s, f) (ap accepted h)

@@ -5,3 +5,4 @@ pub mod Cut
 pub mod Judged
 pub mod KeptLaws
 pub mod Made
+pub mod Renewed

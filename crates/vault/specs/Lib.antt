@@ -2,3 +2,4 @@ pub mod Block
 pub mod Parts
 pub mod Collected
 pub mod Before
+pub mod Renewed

@@ -11,6 +11,7 @@ ghost use lib.Seq.{sets, paste};
 ghost use Rattle.laws.specs.Choice.{both};
 ghost use Rattle.refusals.specs.Number.{refusal};
 ghost use Rattle.vault.specs.Block.{pairAt, pictureOf, headerOf, pictures, greatestPart, refreshRule, usedRule, headerRuled as ruledOf, unused, unusedClear, payloadOf, fieldsFollow as followsOf, sumOf, toldChecked, checkOf, judgeOf, marksFor, headBytes, twoBytes, blockFor};
+ghost use Rattle.vault.specs.Renewed.{renewedBlock};
 ghost use Rattle.vault.specs.Parts.{partCount, usedAt, keptByte, payloadAt, headerAt, blocksOf, PartIn, PayloadRoom, BlocksRoom, placedPayload};
 
 // What a block says before its payload.
@@ -389,6 +390,22 @@ pub fn blocks(
         part += 1;
     }
     parts
+}
+
+// The block for another clip, under another number: all between its number and its high byte stays.
+pub fn renew(clip: u16, picture: u32, block: &[u8], out: &mut [u8])
+    requires { ⌜ (length (now block) ≡ 512) × (length (now out) ≡ 512) × (picture < pictures) ⌝ }
+    ensures { λ _. ⌜ now (out .exit) ≡ renewedBlock clip picture (now (block .entry)) ⌝ }
+{
+    let low = picture % 65536;
+    bytes::copy(block, out);
+    out[0] = (clip / 256) as u8;
+    out[1] = (clip % 256) as u8;
+    out[2] = (low / 256) as u8;
+    out[3] = (low % 256) as u8;
+    out[508] = (picture / 65536) as u8;
+    out[509] = 0;
+    write_sum(out);
 }
 
 // ---- putting a part where its picture is collected

@@ -18,6 +18,7 @@ use Rattle.refusals.specs.declared.Reason.the-variants.{Count}
 use Rattle.refusals.specs.Told.{accepted}
 use Rattle.bits.specs.Bits.{Bit, O, I, bitsIn, source}
 use Rattle.bits.specs.Code.{Entry, entry, starts, lookup, word}
+use Rattle.bits.specs.Places.{plain}
 use Rattle.bits.specs.Read.{Read, got, endless, refused, bad}
 use Rattle.bits.specs.Write.{byteFrom, bytesOf, startedBytes, Holds}
 use Rattle.bits.proofs.Tree.{miss}
@@ -35,7 +36,8 @@ use Rattle.fields.specs.Answer.{mapRead}
 use Rattle.h261_layers.specs.Grammar.{picture, reading}
 use Rattle.h261_reader.specs.Described.{described}
 use Rattle.h261_reader.proofs.Verdicts.{accepted-described}
-use Rattle.h261_writer.specs.Output.{pictureBits, writeOf, filledOutput, outputLeft, outputOf}
+use Rattle.bits.specs.Output.{filledOutput, outputLeft}
+use Rattle.h261_writer.specs.Output.{pictureBits, writeOf, outputOf}
 use Rattle.h261_readback.proofs.Exactly.{Unread, fewer-bits, more-bits}
 use Rattle.demand2.proofs.WrittenBack.{writes, written-held, output-holds}
 use Rattle.instances.specs.Uniform.{repeated}
@@ -64,7 +66,7 @@ not-begun (O ∷ w) (suc n) t = not-begun w n t
 not-begun (I ∷ w) zero t = refl
 not-begun (I ∷ w) (suc n) t = refl
 
-none-found : (tab : List Entry) (n at : ℕ) (r : Refusal) → T (eachOne tab) → lookup tab (none n) at (refused r) ≡ refused r
+none-found : (tab : List Entry) (n at : ℕ) (r : Refusal) → T (eachOne tab) → lookup {P = plain} tab (none n) at (refused r) ≡ refused r
 unfolding lookup
 none-found [] n at r t = refl
 none-found (entry w m ∷ tab) n at r t = miss w m tab (none n) at (refused r) (not-begun w n (both-left (hasOne w) (eachOne tab) t)) ∙ none-found tab n at r (both-right (hasOne w) (eachOne tab) t)
@@ -76,7 +78,7 @@ none-unread k = record {
   none = λ at m left p e. never (sym (none-found (table1 .entries) (suc k) at _ tt) ∙ e);
 }
   where
-    never : {r : Refusal} {m : ℕ} {left : List Bit} {p : ℕ} → refused r ≡ got m left p → ⊥
+    never : {r : Refusal} {m : ℕ} {left : List Bit} {p : ℕ} → _≡_ {A = Read ℕ} (refused r) (got m left p) → ⊥
     never e = let z : _≡_ {A = ℕ} 0 1 = cc in omega arith
 
 -- ---- zeros after the bits change no byte
@@ -150,15 +152,15 @@ read-laid f (got p left q) d n e = (p, left, q, refl, cc)
 read-laid f (refused why) d n e = let z : _≡_ {A = ℕ} 0 1 = cc in absurd (omega arith)
 read-laid f endless d n e = let z : _≡_ {A = ℕ} 0 1 = cc in absurd (omega arith)
 
-read-bits : (f : Format) (s : List ℕ) (n : ℕ) (p : Picture) (left : List Bit) (q : ℕ) → reading f s n ≡ got p left q → (picture f (source s n) 0 ≡ got p left q) × (n ≤ 8 * length s)
+read-bits : (f : Format) (s : List ℕ) (n : ℕ) (p : Picture) (left : List Bit) (q : ℕ) → reading f s n ≡ got p left q → (picture {P = plain} f (source s n) 0 ≡ got p left q) × (n ≤ 8 * length s)
 unfolding reading
 read-bits f s n p left q e = go (ltb (8 * length s) n) refl e
   where
-    go : (t : Bool) → ltb (8 * length s) n ≡ t → pick (either t (ltb (limit (sizeOf f)) n)) (bad Count 0) (picture f (source s n) 0) ≡ got p left q → (picture f (source s n) 0 ≡ got p left q) × (n ≤ 8 * length s)
+    go : (t : Bool) → ltb (8 * length s) n ≡ t → pick (either t (ltb (limit (sizeOf f)) n)) (bad Count 0) (picture f (source s n) 0) ≡ got p left q → (picture {P = plain} f (source s n) 0 ≡ got p left q) × (n ≤ 8 * length s)
     go true h e = let z : _≡_ {A = ℕ} 0 1 = cc in absurd (omega arith)
     go false h e = within (ltb (limit (sizeOf f)) n) e
       where
-        within : (t : Bool) → pick t (bad Count 0) (picture f (source s n) 0) ≡ got p left q → (picture f (source s n) 0 ≡ got p left q) × (n ≤ 8 * length s)
+        within : (t : Bool) → pick t (bad Count 0) (picture f (source s n) 0) ≡ got p left q → (picture {P = plain} f (source s n) 0 ≡ got p left q) × (n ≤ 8 * length s)
         within true e = let z : _≡_ {A = ℕ} 0 1 = cc in absurd (omega arith)
         within false e = (e, ltb-false (8 * length s) n h)
 
@@ -217,7 +219,7 @@ module _ (f : Format) (d : Flat) (v : T (valid f d)) (l : length (pictureBits f 
       let same : r .0 ≡ pictureIn d = sym (accepted-described f left-there n (r .0) (r .1) (r .2) (r .3)) ∙ ap pictureIn (r .4) in
       go (r .0) (r .1) (r .2) same (read .0) (read .1) (lt-or-ge n (length bits))
     where
-      go : (p : Picture) (left : List Bit) (q : ℕ) → p ≡ pictureIn d → picture f (source left-there n) 0 ≡ got p left q → n ≤ 8 * length left-there → (n < length bits) ⊎ (length bits ≤ n) → ⊥
+      go : (p : Picture) (left : List Bit) (q : ℕ) → p ≡ pictureIn d → picture {P = plain} f (source left-there n) 0 ≡ got p left q → n ≤ 8 * length left-there → (n < length bits) ⊎ (length bits ≤ n) → ⊥
       go p left q same e i (inl less) =
           fewer-bits f (pictureIn d) (picture-proper f d v) n left q less
           (ap (λ (bs : List Bit). picture f bs 0) (sym (first-bits n (le-of-lt less))) ∙ e ∙ ap (λ (x : Picture). got x left q) same)

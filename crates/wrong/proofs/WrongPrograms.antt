@@ -12,7 +12,7 @@ use Rattle.bits.specs.Bits.{Bit, bitsIn}
 use Rattle.bits.specs.Code.{longer, lookup, word}
 use Rattle.bits.specs.Write.{bytesOf, byteFrom}
 use Rattle.h261_words.specs.Tables.{table1}
-use Rattle.bits.specs.Read.{got, bad, fieldFrom}
+use Rattle.bits.specs.Read.{Read, got, bad, fieldFrom}
 use Rattle.h261_groups.specs.declared.Format.the-variants.{Qcif}
 use Rattle.h261_groups.specs.Format.{sizeOf}
 use Rattle.size.specs.Size.{limit, storeLength, outputLength}
@@ -116,7 +116,7 @@ first-for-all-wrong h =
     let z : _≡_ {A = ℕ} 1 2 = ap (λ (x : Flat). getD (x .head) 0 0) same in
     omega arith
   where
-    got-same : (a b : Flat) → got a [] 110 ≡ got b [] 110 → a ≡ b
+    got-same : (a b : Flat) → _≡_ {A = Read Flat} (got a [] 110) (got b [] 110) → a ≡ b
     got-same a b e = cc
 
 pub refusing-all-wrong : RefusingAllWrong

@@ -1,20 +1,28 @@
 //! Sessions of a receiver: what arrives, call by call.
 
 use reference::bits::Bits;
-use reference::block::{blocks_of, Block, Position, BLOCK_LENGTH, PICTURES};
+use reference::block::{blocks_of, seal, Block, Position, BLOCK_LENGTH, PICTURES};
 use reference::check::check;
-use reference::description::Description;
+use reference::clips::{self, Honesty};
+use reference::coding::Picture;
 use reference::format::Format;
-use reference::maker::{self, Honesty, Style};
+use reference::h263::description::{
+    Description as Description263, INTER_PICTURE, INTRA, INTRA_PICTURE,
+};
+use reference::h263::format::Format as Format263;
+use reference::h263::writer as writer263;
+use reference::kind::{Kind, Standard};
 use reference::random::Random;
-use reference::receiver::{Answer, Lent, Receiver};
+use reference::receiver::{Lent, Receiver};
 use reference::stores::Which;
-use reference::writer::{self, Plain};
 
 use super::made::Made;
 
 /// What every byte of the buffers holds before a session: collection, first store, second store.
 const BEFORE: [u8; 3] = [51, 17, 34];
+
+/// What the receiver is given of a block.
+type See = fn(&[u8]) -> Vec<u8>;
 
 struct Call {
     /// Which buffer is lent without its last byte: 0 none, 1 collection, 2 first store, 3 second store.
@@ -37,26 +45,61 @@ pub fn make(seed: u64, count: usize) -> Made {
         input: Vec::new(),
         expected: Vec::new(),
     };
-    for format in Format::ALL {
-        session(&mut made, format, 0, &[]);
-        for calls in hand_made(&mut random, format) {
-            session(&mut made, format, 7, &calls);
-        }
-        let edges = maker::edge_blocks(format, 7);
-        let calls: Vec<Call> = edges.iter().map(|block| Call::of(block.to_vec())).collect();
-        session(&mut made, format, 7, &calls);
+    for kind in Format::ALL.map(Kind::from) {
+        fixed_sessions(&mut made, &mut random, kind, super::before::h263);
     }
     for number in 0..count {
-        let format = if number % 8 == 7 {
+        let kind = Kind::from(if number % 8 == 7 {
             Format::Cif
         } else {
             Format::Qcif
-        };
+        });
         let clip = random.between(1, 65_535) as u16;
-        let calls = random_calls(&mut random, format, clip);
-        session(&mut made, format, clip, &calls);
+        let honesties = [Honesty::Honest, Honesty::Forged];
+        let calls = random_calls(&mut random, kind, clip, &honesties);
+        session(&mut made, kind, clip, &calls, super::before::h263);
     }
     made
+}
+
+/// Sessions of all five kinds, with blocks of the other standard between.
+pub fn make_of_both(seed: u64, count: usize) -> Made {
+    let mut random = Random::new(seed);
+    let mut made = Made {
+        input: Vec::new(),
+        expected: Vec::new(),
+    };
+    for kind in Kind::ALL {
+        if kind.standard() == Standard::H263 {
+            fixed_sessions(&mut made, &mut random, kind, <[u8]>::to_vec);
+        }
+        for calls in of_both_standards(&mut random, kind) {
+            session(&mut made, kind, 7, &calls, <[u8]>::to_vec);
+        }
+    }
+    for calls in in_one_part() {
+        session(&mut made, SUB_QCIF, 7, &calls, <[u8]>::to_vec);
+    }
+    for number in 0..count {
+        // CIF is rare.
+        let kind = Kind::ALL[[2, 3, 2, 0, 3, 2, 4, 3, 0, 2, 3, 1][number % 12]];
+        let clip = random.between(1, 65_535) as u16;
+        let honesties = [Honesty::Honest, Honesty::Forged, Honesty::Mixed];
+        let calls = random_calls(&mut random, kind, clip, &honesties);
+        session(&mut made, kind, clip, &calls, <[u8]>::to_vec);
+    }
+    made
+}
+
+/// What is the same at every seed but for the pictures' contents.
+fn fixed_sessions(made: &mut Made, random: &mut Random, kind: Kind, see: See) {
+    session(made, kind, 0, &[], see);
+    for calls in hand_made(random, kind) {
+        session(made, kind, 7, &calls, see);
+    }
+    let edges = clips::edge_blocks(kind, 7);
+    let calls: Vec<Call> = edges.iter().map(|block| Call::of(block.to_vec())).collect();
+    session(made, kind, 7, &calls, see);
 }
 
 /// What is expected of these sessions, as `make` writes them.
@@ -68,7 +111,7 @@ pub fn expected(input: &[u8]) -> Option<Vec<u8>> {
     let mut rest = input;
     while !rest.is_empty() {
         let (head, after) = rest.split_at_checked(7)?;
-        let format = *Format::ALL.get(usize::from(head[0]))?;
+        let kind = Kind::from_number(head[0])?;
         let clip = u16::from_be_bytes([head[1], head[2]]);
         let count = u32::from_be_bytes([head[3], head[4], head[5], head[6]]);
         rest = after;
@@ -83,19 +126,19 @@ pub fn expected(input: &[u8]) -> Option<Vec<u8>> {
             });
             rest = after;
         }
-        session(&mut made, format, clip, &calls);
+        session(&mut made, kind, clip, &calls, <[u8]>::to_vec);
     }
     Some(made.expected)
 }
 
-fn random_calls(random: &mut Random, format: Format, clip: u16) -> Vec<Call> {
+fn random_calls(random: &mut Random, kind: Kind, clip: u16, honesties: &[Honesty]) -> Vec<Call> {
     let pictures = random.between(3, 10) as usize;
-    let first = maker::first_number(random, pictures);
-    let sent = maker::clip(random, format, clip, first, pictures);
+    let first = clips::first_number(random, pictures);
+    let sent = clips::clip(random, kind, clip, first, pictures);
     let blocks: Vec<[u8; BLOCK_LENGTH]> = sent.into_iter().flat_map(|one| one.blocks).collect();
-    let honesty = random.pick(&[Honesty::Honest, Honesty::Forged]);
+    let honesty = random.pick(honesties);
     let mut calls = Vec::new();
-    for block in maker::delivery(random, format, &blocks, honesty) {
+    for block in clips::delivery(random, kind, &blocks, honesty) {
         if random.chance(60) {
             calls.push(wrong_length(random, &block));
         }
@@ -115,26 +158,27 @@ fn wrong_length(random: &mut Random, block: &[u8]) -> Call {
 }
 
 /// The receiver's rules one by one.
-fn hand_made(random: &mut Random, format: Format) -> Vec<Vec<Call>> {
-    let bits_of = |description: &Description| writer::picture(description, &mut Plain);
-    let refresh_description = maker::description(random, format, Style::Refresh);
+fn hand_made(random: &mut Random, kind: Kind) -> Vec<Vec<Call>> {
+    let bits_of = |picture: &Picture| picture.write(kind).expect("a picture within the limit");
+    let refresh_description = clips::refresh_description(random, kind, false);
     let refresh = bits_of(&refresh_description);
-    let dense = bits_of(&maker::description(random, format, Style::DenseRefresh));
-    let empty = bits_of(&Description::empty(format));
+    let dense = bits_of(&clips::refresh_description(random, kind, true));
+    let empty = bits_of(&Picture::empty(kind));
     let cut = empty.cut(empty.count - 1);
     let picture = |number: u32, mark: bool, bits: &Bits| -> Vec<Vec<u8>> {
-        blocks_of(7, number, mark, bits)
+        blocks_of(kind.standard(), 7, number, mark, bits)
             .iter()
             .map(|block| block.to_bytes().to_vec())
             .collect()
     };
-    // A picture with this TR: a refresh or an empty one.
+    // A picture with this TR, of 32, or as many times more as there are: a refresh or an empty one.
     let timed = |number: u32, is_refresh: bool, temporal_reference: u8| -> Vec<Vec<u8>> {
-        let mut description = Description::empty(format);
+        let mut description = Picture::empty(kind);
         if is_refresh {
             description = refresh_description.clone();
         }
-        description.temporal_reference = temporal_reference;
+        let times = (kind.tick_modulus() / 32) as u8;
+        description.set_temporal_reference(times * temporal_reference);
         picture(number, is_refresh, &bits_of(&description))
     };
     let sessions: Vec<Vec<Vec<Vec<u8>>>> = vec![
@@ -233,11 +277,11 @@ fn hand_made(random: &mut Random, format: Format) -> Vec<Vec<Call>> {
             timed(2, true, 0),
             timed(3, false, 31),
         ],
-        vec![more_parts(format, false, 4000), picture(1, true, &refresh)],
-        vec![more_parts(format, true, 4000), picture(1, true, &refresh)],
-        vec![more_parts(format, true, 1)],
-        vec![more_parts(format, true, limit_in_last_part(format))],
-        vec![more_parts(format, true, limit_in_last_part(format) + 1)],
+        vec![more_parts(kind, false, 4000), picture(1, true, &refresh)],
+        vec![more_parts(kind, true, 4000), picture(1, true, &refresh)],
+        vec![more_parts(kind, true, 1)],
+        vec![more_parts(kind, true, limit_in_last_part(kind))],
+        vec![more_parts(kind, true, limit_in_last_part(kind) + 1)],
     ];
     sessions
         .into_iter()
@@ -245,16 +289,144 @@ fn hand_made(random: &mut Random, format: Format) -> Vec<Vec<Call>> {
         .collect()
 }
 
-fn limit_in_last_part(format: Format) -> usize {
-    format.bit_limit() - 4000 * usize::from(format.last_part())
+/// Blocks of the other standard change nothing, however the receiver stands; 1, 21, 22 and 23 come before.
+fn of_both_standards(random: &mut Random, kind: Kind) -> Vec<Vec<Call>> {
+    let refresh = clips::refresh_description(random, kind, true);
+    let refresh = refresh.write(kind).expect("a picture within the limit");
+    let empty = Picture::empty(kind).write(kind).expect("a small picture");
+    let blocks = |clip: u16, number: u32, mark: bool, bits: &Bits| -> Vec<[u8; BLOCK_LENGTH]> {
+        let made = blocks_of(kind.standard(), clip, number, mark, bits);
+        made.iter().map(Block::to_bytes).collect()
+    };
+    let changed = |block: &[u8; BLOCK_LENGTH], at: usize, bits: u8| {
+        let mut other = *block;
+        other[at] ^= bits;
+        seal(&mut other);
+        Call::of(other.to_vec())
+    };
+    let other = |block: &[u8; BLOCK_LENGTH]| Call::of(clips::other_standards(block));
+    let plain = |block: &[u8; BLOCK_LENGTH]| Call::of(block.to_vec());
+    let first = blocks(7, 0, true, &refresh);
+    let second = blocks(7, 1, false, &empty);
+    let after = blocks(7, 3, true, &refresh);
+    // Before, between and after a picture's own blocks; then lost, catching, and in step again.
+    let mut everywhere = Vec::new();
+    for block in first
+        .iter()
+        .chain(&second)
+        .chain(&blocks(7, 3, false, &empty))
+    {
+        everywhere.extend([other(block), plain(block), other(block)]);
+    }
+    for block in after.iter().chain(&blocks(7, 4, false, &empty)) {
+        everywhere.extend([other(block), plain(block)]);
+    }
+    // Another clip's, against a rule, under a wrong sum, of another length, and with a short buffer.
+    let mut wrong_sum = first[0];
+    wrong_sum[5] ^= 4;
+    let mut short = other(&second[0]);
+    short.block.pop();
+    let mut with_short_buffer = other(&second[0]);
+    with_short_buffer.length_kind = 2;
+    let mut in_order: Vec<Call> = first.iter().map(plain).collect();
+    in_order.extend([
+        other(&blocks(8, 1, false, &empty)[0]),
+        changed(&second[0], 5, 4 + 2),
+        changed(&second[0], 5, 4 + 8),
+        changed(&second[0], 5, 8),
+        changed(&second[0], 5, 128),
+        changed(&second[0], 4, 255),
+        Call::of(wrong_sum.to_vec()),
+        short,
+        with_short_buffer,
+        other(&second[0]),
+        plain(&second[0]),
+    ]);
+    vec![everywhere, in_order]
 }
 
-/// All parts that a format allows, of zeros.
-fn more_parts(format: Format, is_last: bool, used: usize) -> Vec<Vec<u8>> {
-    let last_part = format.last_part();
+const SUB_QCIF: Kind = Kind::H263(Format263::SubQcif);
+
+/// H.263 sub-QCIF, where a refresh fits one part: it jumps ahead of a receiver in step. Type INTER with INTRA
+/// macroblocks alone is no refresh. TR differences of 0, 1 and 255.
+fn in_one_part() -> Vec<Vec<Call>> {
+    let bits = |picture_type: u8, is_sent: bool, temporal_reference: u8| -> Bits {
+        let mut description = Description263::empty(Format263::SubQcif);
+        description.picture_type = picture_type;
+        description.temporal_reference = temporal_reference;
+        if is_sent {
+            for (number, macroblock) in (1..).zip(&mut description.macroblocks) {
+                macroblock.kind = INTRA;
+                macroblock.levels = [[0; 64]; 6];
+                for block in &mut macroblock.levels {
+                    block[0] = number;
+                }
+            }
+        }
+        writer263::picture(&description, &mut writer263::Plain)
+    };
+    let call = |number: u32, mark: bool, bits: &Bits| {
+        let blocks = blocks_of(Standard::H263, 7, number, mark, bits);
+        assert_eq!(blocks.len(), 1);
+        Call::of(blocks[0].to_bytes().to_vec())
+    };
+    let refresh = |number: u32, time: u8| call(number, true, &bits(INTRA_PICTURE, true, time));
+    let empty = |number: u32, time: u8| call(number, false, &bits(INTER_PICTURE, false, time));
+    let sent = |number: u32, mark: bool| call(number, mark, &bits(INTER_PICTURE, true, 9));
+    vec![
+        vec![
+            refresh(0, 0),
+            empty(1, 1),
+            refresh(5, 1),
+            empty(6, 0),
+            refresh(7, 255),
+            refresh(7, 255),
+            empty(9, 0),
+            refresh(9, 3),
+        ],
+        vec![
+            refresh(0, 255),
+            empty(1, 255),
+            empty(2, 254),
+            empty(3, 0),
+            sent(4, false),
+            sent(5, true),
+            refresh(6, 8),
+            sent(7, false),
+            call(8, false, &bits(INTRA_PICTURE, true, 10)),
+            empty(9, 11),
+            refresh(10, 12),
+        ],
+        vec![
+            sent(0, true),
+            sent(1, false),
+            refresh(2, 200),
+            empty(3, 199),
+        ],
+        // The longest way that a tick can go, many times.
+        (0..300)
+            .map(|number| {
+                if number == 0 {
+                    refresh(0, 7)
+                } else {
+                    empty(number, 7)
+                }
+            })
+            .collect(),
+    ]
+}
+
+fn limit_in_last_part(kind: Kind) -> usize {
+    kind.bit_limit() - 4000 * usize::from(kind.last_part())
+}
+
+/// All parts that a size allows, of zeros.
+fn more_parts(kind: Kind, is_last: bool, used: usize) -> Vec<Vec<u8>> {
+    let last_part = kind.last_part();
     (0..=last_part)
         .map(|part| {
             let block = Block {
+                standard: kind.standard(),
                 clip: 7,
                 position: Position { picture: 0, part },
                 is_last: is_last && part == last_part,
@@ -267,11 +439,11 @@ fn more_parts(format: Format, is_last: bool, used: usize) -> Vec<Vec<u8>> {
         .collect()
 }
 
-fn session(made: &mut Made, format: Format, clip: u16, calls: &[Call]) {
-    made.input.push(format.number());
+fn session(made: &mut Made, kind: Kind, clip: u16, calls: &[Call], see: See) {
+    made.input.push(kind.number());
     super::put16(&mut made.input, usize::from(clip));
     super::put32(&mut made.input, calls.len());
-    let mut receiver = match Receiver::open(format, clip) {
+    let mut receiver = match Receiver::open(kind, clip) {
         Ok(receiver) => receiver,
         Err(refusal) => {
             made.expected.extend(format!("{refusal}\n").bytes());
@@ -279,9 +451,9 @@ fn session(made: &mut Made, format: Format, clip: u16, calls: &[Call]) {
         }
     };
     made.expected.extend(b"opened\n");
-    let mut collection = vec![BEFORE[0]; format.collection_length()];
-    let mut first = vec![BEFORE[1]; format.store_length()];
-    let mut second = vec![BEFORE[2]; format.store_length()];
+    let mut collection = vec![BEFORE[0]; kind.collection_length()];
+    let mut first = vec![BEFORE[1]; kind.store_length()];
+    let mut second = vec![BEFORE[2]; kind.store_length()];
     for call in calls {
         made.input.push(call.length_kind);
         super::put16(&mut made.input, call.block.len());
@@ -295,29 +467,20 @@ fn session(made: &mut Made, format: Format, clip: u16, calls: &[Call]) {
             first: &mut first[..first_length],
             second: &mut second[..second_length],
         };
-        let answer = receiver.receive(&call.block, &mut lent);
+        let (answer, read) = receiver.receive_counting(&see(&call.block), &mut lent);
         let shown = match receiver.shown(&answer) {
             Some(Which::First) => "first",
             Some(Which::Second) => "second",
             None => "none",
         };
         let mut line = format!("{answer}, {}, {shown}", receiver.stand());
-        if was_read(&answer) {
+        if read.is_some() {
             line.push_str(&format!(", {}", checks(&collection, &first, &second)));
         }
         made.expected.extend(format!("{line}\n").bytes());
     }
     let end = format!("end {}\n", checks(&collection, &first, &second));
     made.expected.extend(end.bytes());
-}
-
-/// Whether a last part was read.
-fn was_read(answer: &Answer) -> bool {
-    match answer {
-        Answer::Finished(..) => true,
-        Answer::Refused(refusal) => matches!(refusal.number, 2..=13 | 24),
-        _ => false,
-    }
 }
 
 fn checks(collection: &[u8], first: &[u8], second: &[u8]) -> String {

@@ -3,10 +3,11 @@
 use std::ops::Range;
 
 use reference::block::{blocks_of, BLOCK_LENGTH, PICTURES};
+use reference::clips::{self, Honesty};
 use reference::description::{Description, INTRA};
 use reference::format::Format;
+use reference::kind::{Kind, Standard};
 use reference::lister::list;
-use reference::maker::{self, Honesty};
 use reference::random::Random;
 use reference::writer::{self, Plain};
 
@@ -23,7 +24,7 @@ pub fn files(seed: u64, count: usize) -> Vec<File> {
         // Ends catching, and lost.
         example()[..BLOCK_LENGTH].to_vec(),
         example()[BLOCK_LENGTH..2 * BLOCK_LENGTH].to_vec(),
-        maker::edge_blocks(Format::Qcif, 7).concat(),
+        clips::edge_blocks(Format::Qcif, 7).concat(),
         // All of 4,100 pictures; past 65,535; up to the last one, and what is none.
         numbered(0..4_100),
         numbered(65_530..65_540),
@@ -36,7 +37,7 @@ pub fn files(seed: u64, count: usize) -> Vec<File> {
         .into_iter()
         .enumerate()
         .flat_map(|(number, input)| {
-            let expected = list(&input).into_bytes();
+            let expected = list(Format::Qcif, &super::before::h263(&input)).into_bytes();
             [
                 (format!("list-{number}.input"), input),
                 (format!("list-{number}.expected"), expected),
@@ -60,7 +61,7 @@ fn grey() -> Description {
 /// Picture 0 of clip 7 in two parts, the first part again.
 fn example() -> Vec<u8> {
     let bits = writer::picture(&grey(), &mut Plain);
-    let blocks: Vec<_> = blocks_of(7, 0, true, &bits)
+    let blocks: Vec<_> = blocks_of(Standard::H261, 7, 0, true, &bits)
         .iter()
         .map(|block| block.to_bytes())
         .collect();
@@ -75,19 +76,33 @@ fn numbered(numbers: Range<u32>) -> Vec<u8> {
     let pictures = numbers.map(|number| (number, number == first));
     pictures
         .chain([(first, true)])
-        .flat_map(|(number, mark)| blocks_of(7, number, mark, if mark { &refresh } else { &empty }))
+        .flat_map(|(number, mark)| {
+            let bits = if mark { &refresh } else { &empty };
+            blocks_of(Standard::H261, 7, number, mark, bits)
+        })
         .flat_map(|block| block.to_bytes())
         .collect()
 }
 
 fn vault(random: &mut Random) -> Vec<u8> {
+    let honesties = [Honesty::Honest, Honesty::Forged];
+    let input = arrived(random, Format::Qcif.into(), &honesties);
+    with_odd_ends(random, input)
+}
+
+/// What arrives of a clip of this kind.
+pub fn arrived(random: &mut Random, kind: Kind, honesties: &[Honesty]) -> Vec<u8> {
     let clip = random.between(1, 65_535) as u16;
     let pictures = random.between(2, 12) as usize;
-    let first = maker::first_number(random, pictures);
-    let sent = maker::clip(random, Format::Qcif, clip, first, pictures);
+    let first = clips::first_number(random, pictures);
+    let sent = clips::clip(random, kind, clip, first, pictures);
     let blocks: Vec<[u8; BLOCK_LENGTH]> = sent.into_iter().flat_map(|one| one.blocks).collect();
-    let honesty = random.pick(&[Honesty::Honest, Honesty::Forged]);
-    let mut input = maker::delivery(random, Format::Qcif, &blocks, honesty).concat();
+    let honesty = random.pick(honesties);
+    clips::delivery(random, kind, &blocks, honesty).concat()
+}
+
+/// Now and then noise before it and a short block behind.
+pub fn with_odd_ends(random: &mut Random, mut input: Vec<u8>) -> Vec<u8> {
     if random.chance(3) {
         // Something before the clip is found.
         let mut noise = random.bytes(BLOCK_LENGTH);

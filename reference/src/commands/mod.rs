@@ -1,6 +1,7 @@
 //! What each subcommand makes.
 
 pub mod annex_a;
+pub mod before;
 pub mod blocks;
 pub mod captures;
 pub mod deliver;
@@ -11,6 +12,7 @@ pub mod made;
 pub mod packs;
 pub mod pictures;
 pub mod render;
+pub mod salvages;
 pub mod send;
 pub mod streams;
 pub mod words;
@@ -29,7 +31,7 @@ fn put32(bytes: &mut Vec<u8>, number: usize) {
 
 /// The three slices of a description, which tests may cut.
 #[derive(Clone)]
-struct Slices {
+pub struct Slices {
     head: Vec<u8>,
     macroblocks: Vec<u8>,
     levels: Vec<u8>,

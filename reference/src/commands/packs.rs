@@ -27,8 +27,8 @@ pub fn files(seed: u64, count: usize) -> Vec<File> {
         } else {
             rough_stream(&mut random, format)
         };
-        let packed = pack(format, CLIP, &raw.bytes).expect("a clip that isn't 0");
-        let shown = frames(format, &packed.blocks, Frames::Each);
+        let packed = pack(format.into(), CLIP, &raw.bytes).expect("a clip that isn't 0");
+        let shown = frames(format.into(), &packed.blocks, Frames::Each);
         files.extend([
             (format!("pack-{name}-{number}.input"), raw.bytes),
             (format!("pack-{name}-{number}.expected"), packed.blocks),

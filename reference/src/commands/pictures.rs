@@ -6,7 +6,7 @@ use reference::edges::edges;
 use reference::format::Format;
 use reference::maker::{self, Style};
 use reference::random::Random;
-use reference::reader::read;
+use reference::reader::read_listed;
 use reference::reconstruction::reconstruct;
 use reference::writer::{self, Plain};
 
@@ -35,7 +35,8 @@ impl Collector {
         super::put32(&mut self.input, count);
         super::put32(&mut self.input, bytes.len());
         self.input.extend(bytes);
-        let line = match read(bytes, count, opened) {
+        let reading = read_listed(bytes, count, opened);
+        let line = match reading.answer {
             Ok(description) => {
                 let reference = &self.references[usize::from(opened.number())];
                 let store = reconstruct(&description, reference);
@@ -47,8 +48,8 @@ impl Collector {
             }
             Err(refusal) => refusal.to_string(),
         };
-        self.expected.push_str(&line);
-        self.expected.push('\n');
+        let reads = reading.reads.len();
+        self.expected.push_str(&format!("{line} reads {reads}\n"));
     }
 
     fn push_bits(&mut self, opened: Format, bits: &Bits) {

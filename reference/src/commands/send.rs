@@ -2,8 +2,10 @@
 
 use reference::block::PICTURES;
 use reference::check::check;
+use reference::clips;
 use reference::description::Description;
 use reference::format::Format;
+use reference::kind::Kind;
 use reference::maker::{self, Style};
 use reference::random::Random;
 use reference::sender::Sender;
@@ -18,19 +20,30 @@ const BEFORE: [u8; 3] = [165, 17, 34];
 /// Which buffer is lent without its last byte: none, first store, second store, output.
 const LENGTH_KINDS: u8 = 4;
 
-struct Call {
-    times: usize,
-    length_kind: u8,
-    slices: Slices,
+pub struct Call {
+    pub times: usize,
+    pub length_kind: u8,
+    pub slices: Slices,
 }
 
 impl Call {
-    fn once(description: &Description) -> Call {
+    pub fn once(slices: Slices) -> Call {
         Call {
             times: 1,
             length_kind: 0,
-            slices: Slices::of(description),
+            slices,
         }
+    }
+
+    /// Now and then a buffer or a slice hasn't its length.
+    pub fn with_lengths(mut self, random: &mut Random) -> Call {
+        if random.chance(8) {
+            self.length_kind = 1 + random.below(usize::from(LENGTH_KINDS) - 1) as u8;
+        }
+        if random.chance(20) {
+            self.slices.levels.pop();
+        }
+        self
     }
 }
 
@@ -40,18 +53,18 @@ pub fn make(seed: u64, count: usize) -> Made {
         input: Vec::new(),
         expected: Vec::new(),
     };
-    session(&mut made, Format::Qcif, 0, 0, &[]);
-    session(&mut made, Format::Cif, 0, 0, &[]);
+    session(&mut made, Format::Qcif.into(), 0, 0, &[]);
+    session(&mut made, Format::Cif.into(), 0, 0, &[]);
     // All of 4,100 pictures; past 65,535; to the last one, and from a state past it.
     let calls = many_pictures(&mut random, Format::Qcif, 4_099);
-    session(&mut made, Format::Qcif, 65_535, 0, &calls);
+    session(&mut made, Format::Qcif.into(), 65_535, 0, &calls);
     for format in Format::ALL {
         let calls = many_pictures(&mut random, format, 2);
-        session(&mut made, format, 7, 65_534, &calls);
-        session(&mut made, format, 7, PICTURES - 3, &calls);
-        session(&mut made, format, 7, PICTURES, &calls);
+        session(&mut made, format.into(), 7, 65_534, &calls);
+        session(&mut made, format.into(), 7, PICTURES - 3, &calls);
+        session(&mut made, format.into(), 7, PICTURES, &calls);
     }
-    session(&mut made, Format::Qcif, 1, u32::MAX, &calls);
+    session(&mut made, Format::Qcif.into(), 1, u32::MAX, &calls);
     for number in 0..count {
         let format = if number % 4 == 3 {
             Format::Cif
@@ -60,8 +73,8 @@ pub fn make(seed: u64, count: usize) -> Made {
         };
         let clip = random.between(1, 65_535) as u16;
         let calls = random_calls(&mut random, format);
-        let next = maker::first_number(&mut random, calls.len());
-        session(&mut made, format, clip, next, &calls);
+        let next = clips::first_number(&mut random, calls.len());
+        session(&mut made, format.into(), clip, next, &calls);
     }
     made
 }
@@ -70,17 +83,22 @@ pub fn make(seed: u64, count: usize) -> Made {
 fn many_pictures(random: &mut Random, format: Format, times: usize) -> Vec<Call> {
     let refresh = maker::description(random, format, Style::Refresh);
     let empty = Description::empty(format);
-    let mut many = Call::once(&empty);
-    many.times = times;
     let mut invalid = empty.clone();
     invalid.temporal_reference = 32;
-    let mut short = Call::once(&empty);
+    let [refresh, empty, invalid] = [&refresh, &empty, &invalid].map(Slices::of);
+    in_turn(refresh, empty, invalid, times)
+}
+
+pub fn in_turn(refresh: Slices, empty: Slices, invalid: Slices, times: usize) -> Vec<Call> {
+    let mut many = Call::once(empty.clone());
+    many.times = times;
+    let mut short = Call::once(empty.clone());
     short.length_kind = 3;
     vec![
-        Call::once(&refresh),
+        Call::once(refresh),
         many,
-        Call::once(&empty),
-        Call::once(&invalid),
+        Call::once(empty),
+        Call::once(invalid),
         short,
     ]
 }
@@ -102,24 +120,18 @@ fn random_calls(random: &mut Random, format: Format) -> Vec<Call> {
             2 => description = Description::empty(random.pick(&Format::ALL)),
             _ => {}
         }
-        let mut call = Call::once(&description);
-        if random.chance(8) {
-            call.length_kind = 1 + random.below(usize::from(LENGTH_KINDS) - 1) as u8;
-        }
-        if random.chance(20) {
-            call.slices.levels.pop();
-        }
-        calls.push(call);
+        let call = Call::once(Slices::of(&description));
+        calls.push(call.with_lengths(random));
     }
     calls
 }
 
-fn session(made: &mut Made, format: Format, clip: u16, next: u32, calls: &[Call]) {
-    made.input.push(format.number());
+pub fn session(made: &mut Made, kind: Kind, clip: u16, next: u32, calls: &[Call]) {
+    made.input.push(kind.number());
     super::put16(&mut made.input, usize::from(clip));
     super::put32(&mut made.input, calls.len());
     super::put32(&mut made.input, next as usize);
-    let mut sender = match Sender::open(format, clip) {
+    let mut sender = match Sender::open(kind, clip) {
         Ok(sender) => sender.before(next),
         Err(refusal) => {
             made.expected.extend(format!("{refusal}\n").bytes());
@@ -127,9 +139,9 @@ fn session(made: &mut Made, format: Format, clip: u16, next: u32, calls: &[Call]
         }
     };
     made.expected.extend(b"opened\n");
-    let mut out = vec![BEFORE[0]; format.sent_length()];
-    let mut first = vec![BEFORE[1]; format.store_length()];
-    let mut second = vec![BEFORE[2]; format.store_length()];
+    let mut out = vec![BEFORE[0]; kind.sent_length()];
+    let mut first = vec![BEFORE[1]; kind.store_length()];
+    let mut second = vec![BEFORE[2]; kind.store_length()];
     for call in calls {
         super::put16(&mut made.input, call.times);
         made.input.push(call.length_kind);

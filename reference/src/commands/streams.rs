@@ -1,14 +1,16 @@
 //! Raw streams into blocks, blocks into frames, and the comparison with another decoder.
 
 use reference::block::BLOCK_LENGTH;
+use reference::coding::Picture;
 use reference::format::Format;
+use reference::h263;
+use reference::kind::{Kind, Size};
 use reference::lister::Vault;
 use reference::receiver::Answer;
 use reference::reconstruction::reconstruct;
+use reference::refusal::Refusal;
 use reference::sender::Sender;
 use reference::stream::pictures;
-
-use super::Slices;
 
 /// The blocks of a packed stream, and the lines on standard error: what stands before the first picture, each refused picture, how many were recorded.
 pub struct Packed {
@@ -16,29 +18,55 @@ pub struct Packed {
     pub errors: String,
 }
 
+/// A picture of a stream: the byte in which its start code begins, and what the reader says.
+struct Found {
+    byte: usize,
+    answer: Result<Picture, Refusal>,
+}
+
+fn found_in(raw: &[u8], kind: Kind) -> Vec<Found> {
+    match kind {
+        Kind::H261(format) => pictures(raw, format)
+            .into_iter()
+            .map(|picture| Found {
+                byte: picture.place / 8,
+                answer: picture.answer.map(Picture::H261),
+            })
+            .collect(),
+        Kind::H263(format) => h263::stream::pictures(raw, format)
+            .into_iter()
+            .map(|picture| Found {
+                byte: picture.byte,
+                answer: picture.answer.map(Picture::H263),
+            })
+            .collect(),
+    }
+}
+
 /// Each picture of the stream under the next number.
-pub fn pack(format: Format, clip: u16, raw: &[u8]) -> Result<Packed, String> {
-    let mut sender = Sender::open(format, clip).map_err(|refusal| refusal.to_string())?;
-    let mut first = vec![0; format.store_length()];
-    let mut second = vec![0; format.store_length()];
-    let mut out = vec![0; format.sent_length()];
+pub fn pack(kind: Kind, clip: u16, raw: &[u8]) -> Result<Packed, String> {
+    let mut sender = Sender::open(kind, clip).map_err(|refusal| refusal.to_string())?;
+    let mut first = vec![0; kind.store_length()];
+    let mut second = vec![0; kind.store_length()];
+    let mut out = vec![0; kind.sent_length()];
     let mut packed = Packed {
         blocks: Vec::new(),
         errors: String::new(),
     };
-    let found = pictures(raw, format);
+    let found = found_in(raw, kind);
     match found.first() {
         None => packed.errors = format!("no picture in {} bytes\n", raw.len()),
-        Some(first) if first.place >= 8 => {
-            packed.errors = format!("{} bytes before the first picture\n", first.place / 8);
+        Some(first) if first.byte > 0 => {
+            packed.errors = format!("{} bytes before the first picture\n", first.byte);
         }
         Some(_) => {}
     }
     let (any, mut recorded) = (!found.is_empty(), 0);
     for picture in found {
         let answer = picture.answer.and_then(|description| {
-            let slices = Slices::of(&description);
-            sender.send(slices.lent(), &mut first, &mut second, &mut out)
+            let [head, macroblocks, levels] = &description.slices();
+            let slices = (&head[..], &macroblocks[..], &levels[..]);
+            sender.send(slices, &mut first, &mut second, &mut out)
         });
         match answer {
             Ok(sent) => {
@@ -46,7 +74,7 @@ pub fn pack(format: Format, clip: u16, raw: &[u8]) -> Result<Packed, String> {
                 recorded += 1;
             }
             Err(refusal) => {
-                let line = format!("byte {}: {refusal}\n", picture.place / 8);
+                let line = format!("byte {}: {refusal}\n", picture.byte);
                 packed.errors.push_str(&line);
             }
         }
@@ -76,15 +104,16 @@ struct Standing {
 }
 
 /// YUV4MPEG2 of the pictures finished in step.
-pub fn frames(format: Format, blocks: &[u8], how: Frames) -> Vec<u8> {
-    // 4:3 over 352 by 288 makes a sample 12:11; chroma lies in the middle of four Y samples.
+pub fn frames(size: Size, blocks: &[u8], how: Frames) -> Vec<u8> {
+    let format = size.of_h263();
+    // 4:3 over 352 by 288 makes a sample 12:11, in all sizes; chroma lies in the middle of four Y samples.
     let header = format!(
         "YUV4MPEG2 W{} H{} F30000:1001 Ip A12:11 C420jpeg\n",
         format.width(),
         format.height()
     );
     let mut output = header.into_bytes();
-    let mut vault = Vault::new(format);
+    let mut vault = Vault::new(size);
     let mut last: Option<Standing> = None;
     let grey = vec![128; format.store_length()];
     for block in blocks.chunks_exact(BLOCK_LENGTH) {

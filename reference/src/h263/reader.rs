@@ -2,12 +2,13 @@
 
 use crate::bits::digits;
 use crate::description::Vector;
+use crate::reads::Read;
 
 use super::description::{
     Description, Macroblock, INTER, INTER_PICTURE, INTER_Q, INTRA, INTRA_PICTURE, INTRA_Q,
 };
 use super::format::Format;
-use super::reads::{Read, Reads};
+use super::reads::Reads;
 use super::refusal::Refusal;
 use super::tables::{self, Mcbpc};
 use super::vectors;

@@ -1,19 +1,10 @@
 //! Fields and codewords, read one after another from a row of bits, and the list of these reads (T-13).
 
 use crate::bits::bit_of;
+use crate::reads::Read;
 
 use super::refusal::Refusal;
 use super::words::Words;
-
-/// One field or codeword: where it begins and how many bits it has. Of one that failed (3 or 8) no bits
-/// count.
-#[derive(Clone, Copy, PartialEq, Eq, Debug)]
-pub struct Read {
-    pub place: usize,
-    pub width: usize,
-    /// 6 to 10 for a codeword (T-06), 0 for a field.
-    pub table: u8,
-}
 
 /// Exactly the picture's bits, the place of the next one, and what was read before it.
 pub struct Reads {

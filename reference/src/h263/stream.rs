@@ -7,7 +7,7 @@ use super::format::Format;
 use super::reader::{read, PICTURE_START_CODE};
 use super::refusal::Refusal;
 
-const END_OF_SEQUENCE: &str = "0000 0000 0000 0000 1 11111";
+pub const END_OF_SEQUENCE: &str = "0000 0000 0000 0000 1 11111";
 
 /// A picture of the stream: the byte where it begins, how many bits it has, and what the reader says.
 pub struct StreamPicture {
@@ -16,9 +16,10 @@ pub struct StreamPicture {
     pub answer: Result<Description, Refusal>,
 }
 
-/// The bytes at which a picture start code begins: "all picture start codes shall be byte aligned".
-pub fn start_codes(bytes: &[u8]) -> Vec<usize> {
-    let code = digits(PICTURE_START_CODE);
+/// The bytes at which a code begins: "all picture start codes shall and GOB and EOS start codes may be byte
+/// aligned".
+fn bytes_with(code: &str, bytes: &[u8]) -> Vec<usize> {
+    let code = digits(code);
     let stands = |at: usize| {
         let mut places = 8 * at..8 * at + code.len();
         8 * bytes.len() >= places.end
@@ -27,39 +28,44 @@ pub fn start_codes(bytes: &[u8]) -> Vec<usize> {
     (0..bytes.len()).filter(|&at| stands(at)).collect()
 }
 
+/// "Pictures begin at bytes, at their PSC, and end before the next PSC or end code": one that stands at a
+/// byte here, and one at any bit right after the last macroblock in `read_stretch`. What stands between an end
+/// code and the next PSC is nobody's.
 pub fn pictures(bytes: &[u8], opened: Format) -> Vec<StreamPicture> {
-    let starts = start_codes(bytes);
-    let ends = starts.iter().copied().skip(1).chain([bytes.len()]);
+    let starts = bytes_with(PICTURE_START_CODE, bytes);
+    let ends = bytes_with(END_OF_SEQUENCE, bytes);
+    let end_of = |start: usize| {
+        let codes = starts.iter().chain(&ends).copied();
+        let after = codes.filter(|&code| code > start).min();
+        after.unwrap_or(bytes.len())
+    };
     starts
         .iter()
-        .zip(ends)
-        .map(|(&start, end)| read_stretch(&bytes[start..end], start, opened))
+        .map(|&start| read_stretch(&bytes[start..end_of(start)], start, opened))
         .collect()
 }
 
-/// A picture and what stands between it and the next one. The place of 13 says where the picture ends.
+/// A picture and what stands between it and the next code. The place of 13 says where it ends; what is dropped
+/// after it doesn't count towards the limit.
 fn read_stretch(stretch: &[u8], byte: usize, opened: Format) -> StreamPicture {
     let all = 8 * stretch.len();
-    // What is dropped after the picture doesn't count towards the limit.
-    let mut count = all;
-    if count > opened.bit_limit() && is_dropped(stretch, opened.bit_limit()) {
-        count = opened.bit_limit();
-    }
-    let mut answer = read(stretch, count, opened);
-    if let Err(refusal) = answer {
-        if refusal.number == 13 && is_dropped(stretch, refusal.place) {
-            count = refusal.place;
-            answer = read(stretch, count, opened);
-        }
-    }
+    let seen = all.min(opened.bit_limit());
+    let end = match read(stretch, seen, opened) {
+        Ok(_) => Some(seen),
+        Err(Refusal {
+            number: 13, place, ..
+        }) => Some(place),
+        Err(_) => None,
+    };
+    let count = end.filter(|&end| is_dropped(stretch, end)).unwrap_or(all);
     StreamPicture {
         byte,
         count,
-        answer,
+        answer: read(stretch, count, opened),
     }
 }
 
-/// Whether what stands from this place on is PSTUF, or ESTUF, an end code and PSTUF.
+/// Whether what stands from this place on is fill, or after fill an end code and whatever.
 fn is_dropped(stretch: &[u8], from: usize) -> bool {
     let row = |from: usize, to: usize| -> Vec<bool> {
         (from..to).map(|place| bit_of(stretch, place)).collect()
@@ -69,11 +75,8 @@ fn is_dropped(stretch: &[u8], from: usize) -> bool {
     let code = digits(END_OF_SEQUENCE);
     is_fill(&rest)
         || (0..8).any(|fill| {
-            let after = fill + code.len();
-            rest.len() >= after
-                && is_fill(&rest[..fill])
-                && rest[fill..after] == code
-                && is_fill(&rest[after..])
+            let begun = rest.get(..fill).is_some_and(is_fill);
+            begun && rest[fill..].starts_with(&code)
         })
 }
 
@@ -104,11 +107,15 @@ mod tests {
                 let mut bits = write_picture(&description, format).unwrap();
                 sent.push((bits.count, description));
                 if number % 3 == 0 {
-                    // An end code right after the picture or, with ESTUF, from a byte on.
+                    // An end code right after the picture or, with ESTUF, from a byte on; now and then
+                    // something after it.
                     while number % 2 == 0 && !bits.count.is_multiple_of(8) {
                         bits.push(false);
                     }
                     bits.word(END_OF_SEQUENCE);
+                    if number % 4 == 0 {
+                        bits.word("1010 1010 1010 1010");
+                    }
                 }
                 append(&mut stream, &bits);
             }
@@ -118,5 +125,39 @@ mod tests {
                 .collect();
             assert!(read == sent);
         }
+    }
+
+    /// Up to seven zeros are no part of a picture, an eighth is 13; a picture that is cut by a code is 3.
+    #[test]
+    fn more_zeros_and_cut_pictures() {
+        let format = Format::SubQcif;
+        let description = Description::empty(format);
+        let picture = write_picture(&description, format).unwrap();
+        // 98 bits; with 6 zeros they end at a byte.
+        assert_eq!(picture.count, 98);
+        for (zeros, code, answer) in [
+            (6, "", Ok(description.clone())),
+            (14, "", Err(Refusal::at(13, 98))),
+            (6, END_OF_SEQUENCE, Ok(description.clone())),
+            (14, END_OF_SEQUENCE, Err(Refusal::at(13, 98))),
+            (5, END_OF_SEQUENCE, Ok(description.clone())),
+            (7, END_OF_SEQUENCE, Ok(description.clone())),
+        ] {
+            let mut stream = picture.clone();
+            stream.word(&"0".repeat(zeros));
+            stream.word(code);
+            let found = pictures(&stream.bytes, format);
+            assert_eq!((found.len(), &found[0].answer), (1, &answer), "{zeros}");
+        }
+        let mut stream = picture.cut(64);
+        stream.word(END_OF_SEQUENCE);
+        let found = pictures(&stream.bytes, format);
+        assert_eq!(found[0].answer, Err(Refusal::at(3, 64)));
+        let mut stream = picture.cut(64);
+        stream.append(&picture);
+        let found = pictures(&stream.bytes, format);
+        assert_eq!((found.len(), found[1].byte, found[1].count), (2, 8, 98));
+        assert_eq!(found[0].answer, Err(Refusal::at(3, 64)));
+        assert_eq!(found[1].answer, Ok(description));
     }
 }

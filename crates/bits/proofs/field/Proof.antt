@@ -4,6 +4,7 @@ use mathlib.Core.List.{List}
 use Prim.Native.Nat.{ℕ, _+_, _-_, _/_, _^_, _≤_}
 use native.Mathlib.Omega.{arith}
 use Rattle.bits.specs.Bits.{value, bitsLeft}
+use Rattle.bits.specs.Places.{plain}
 use Rattle.bits.specs.Read.{got, field}
 use Rattle.bits.proofs.Value.{window-first}
 use Rattle.bits.proofs.Fields.{field-at, field-short}
@@ -11,7 +12,7 @@ use borrow.Author.Needs.{needs}
 use Rattle.bits.proofs.field.Statement.{statement}
 use Rattle.bits.proofs.field.Tie as tie
 
-got-is : (s : List ℕ) (n at k w : ℕ) → k ≤ 24 → k ≤ n - at → w ≡ value s at 24 → got (w / 2 ^ (24 - k)) (bitsLeft s n (at + k)) (at + k) ≡ field k (bitsLeft s n at) at
+got-is : (s : List ℕ) (n at k w : ℕ) → k ≤ 24 → k ≤ n - at → w ≡ value s at 24 → got (w / 2 ^ (24 - k)) (bitsLeft s n (at + k)) (at + k) ≡ field {P = plain} k (bitsLeft s n at) at
 got-is s n at k w h l e = ap (λ (x : ℕ). got x (bitsLeft s n (at + k)) (at + k)) (window-first s at w k e h) ∙ sym (field-at s n at k l)
 
 returns : tie.Need-returns

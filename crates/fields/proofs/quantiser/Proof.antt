@@ -1,7 +1,8 @@
 -- `fields::quantiser` meets its contract: the field is refused, or it is 0, or it is the quantiser.
 use mathlib.Core.Path.{ap}
 use Rattle.bits.specs.Read.{refused}
-use Rattle.bits.proofs.Told.{no-field, is-field}
+use Rattle.bits.proofs.Once.{once-field}
+use Rattle.fields.proofs.Told.{no-number, is-number, number-once}
 use Rattle.fields.proofs.RuleTurn.{quantiser-yes, quantiser-no}
 use borrow.Author.Needs.{needs}
 use Rattle.fields.proofs.quantiser.Statement.{statement}
@@ -9,16 +10,26 @@ use Rattle.fields.proofs.quantiser.Tie as tie
 
 returns : tie.Need-returns
 returns c =
-    let at-field = c .before .before .before in
-    rw (no-field _ _ (at-field .field .result) (c .before .before .match .keys2) (at-field .field .ensures)) (ap refused (c .field-refusal .ensures))
+    let at-once = c .before .before .before in
+    let read = number-once (once-field 5) _ _ _ (at-once .before .field .result) (at-once .once .ensures) (at-once .before .field .ensures) in
+    rw (no-number _ _ (at-once .once .result) (c .before .before .match .keys2) read) (ap refused (c .number-stopped .ensures))
 
 returns-2 : tie.Need-returns-2
-returns-2 c = let at-read = c .before .before in quantiser-no _ _ _ _ _ (is-field _ _ _ _ _ (at-read .before .before .field .ensures) (at-read .read .given .1)) (c .if1 .taken)
+returns-2 c =
+    let at-read = c .before .before in
+    let at-once = at-read .before .before in
+    let read = number-once (once-field 5) _ _ _ (at-once .before .field .result) (at-once .once .ensures) (at-once .before .field .ensures) in
+    quantiser-no _ _ _ _ _ (is-number _ _ _ _ _ read (at-read .read .given .1)) (c .if1 .taken)
 
 returns-3 : tie.Need-returns-3
-returns-3 c = let at-read = c .before .before in quantiser-yes _ _ _ _ _ (is-field _ _ _ _ _ (at-read .before .before .field .ensures) (at-read .read .given .1)) (c .if1 .left)
+returns-3 c =
+    let at-read = c .before .before in
+    let at-once = at-read .before .before in
+    let read = number-once (once-field 5) _ _ _ (at-once .before .field .result) (at-once .once .ensures) (at-once .before .field .ensures) in
+    quantiser-yes _ _ _ _ _ (is-number _ _ _ _ _ read (at-read .read .given .1)) (c .if1 .left)
 
 pub quantiser-spec : {M : Type 1} → statement M
 quantiser-spec =
     tie.close
-    (tie.spec (λ c κs. search needs) (λ c. search needs) (λ c. search needs) (λ c κs. search needs) returns returns-2 returns-3)
+    (tie.spec (λ c κs. search needs) (λ c κs. search needs) (λ c. search needs) (λ c. search needs) (λ c κs. search needs) returns returns-2
+    returns-3)

@@ -38,7 +38,7 @@ returns-2 c =
     let at-lengths = c .before .before .before .before .before .before .before .before .before .before .before .before .before in
     let start = c .before .before .before .before .before .before .before .before .before .before .before .before .before .before .before .before .before .before .before .before .before in
     fit (start .args .format) (start .args .bytes .now) (start .args .count) (flat (start .args .head .now) (start .args .macroblocks .now) (start .args .levels .now))
-    (at-lengths .lengths .ensures) (not-false _ (at-if1 .if1 .left)) (at-format .enum-told .given .1) (at-call .read-qcif .result) (at-call .read-qcif .ensures .0) (at-call .read-qcif .ensures .1)
+    (at-lengths .lengths .ensures) (not-false _ (at-if1 .if1 .left)) (at-format .enum-told .given .1) (at-call .read-qcif .result) (at-call .read-qcif .ensures .0) (at-call .read-qcif .ensures .1 .0) (at-call .read-qcif .ensures .1 .1)
 
 returns-3 : tie.Need-returns-3
 returns-3 c =
@@ -48,7 +48,7 @@ returns-3 c =
     let at-lengths = c .before .before .before .before .before .before .before .before .before .before .before .before .before in
     let start = c .before .before .before .before .before .before .before .before .before .before .before .before .before .before .before .before .before .before .before .before .before in
     fit (start .args .format) (start .args .bytes .now) (start .args .count) (flat (start .args .head .now) (start .args .macroblocks .now) (start .args .levels .now))
-    (at-lengths .lengths .ensures) (not-false _ (at-if1 .if1 .left)) (at-format .enum-told2 .given .1) (at-call .read-cif .result) (at-call .read-cif .ensures .0) (at-call .read-cif .ensures .1)
+    (at-lengths .lengths .ensures) (not-false _ (at-if1 .if1 .left)) (at-format .enum-told2 .given .1) (at-call .read-cif .result) (at-call .read-cif .ensures .0) (at-call .read-cif .ensures .1 .0) (at-call .read-cif .ensures .1 .1)
 
 pub read-spec : {M : Type 1} → statement M
 read-spec =

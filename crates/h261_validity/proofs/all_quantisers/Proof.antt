@@ -5,7 +5,7 @@ use borrow.Author.Needs.{needs}
 use borrow.Author.Tests.{not-true, not-false}
 use lib.ListN.{length, drop}
 use Rattle.layout.specs.Numbers.{all, isQuantiser}
-use Rattle.h261_validity.proofs.Steps.{AllSoFar, all-first, all-no, all-more, all-done}
+use Rattle.layout.proofs.Turns.{AllSoFar, all-first, all-no, all-more, all-done}
 use Rattle.h261_validity.proofs.all_quantisers.Statement.{statement}
 use Rattle.h261_validity.proofs.all_quantisers.Tie as tie
 

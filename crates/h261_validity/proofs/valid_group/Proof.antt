@@ -3,19 +3,19 @@ use Prim.Native.Nat.{_-_, _*_}
 use native.Mathlib.Omega.{arith}
 use borrow.Author.Needs.{needs}
 use borrow.Author.Tests.{not-true, not-false}
-use Rattle.h261_description.specs.Valid.{validMacroblocks}
-use Rattle.h261_validity.proofs.Steps.{GroupSoFar, group-begin, group-no, group-more, group-done, piece-length}
+use Rattle.h261_description.specs.Valid.{validMacroblock, validMacroblocks}
+use Rattle.layout.proofs.Turns.{GroupSoFar, group-begin, group-no, group-more, group-done, piece-length}
 use Rattle.h261_validity.proofs.valid_group.Statement.{statement}
 use Rattle.h261_validity.proofs.valid_group.Tie as tie
 
 abbrev Inv-loop : tie.InvT-loop
-Inv-loop format number fields levels k₀ k = GroupSoFar (validMacroblocks 33 format number 1 fields levels) format number fields levels k
+Inv-loop format number fields levels k₀ k = GroupSoFar 33 (validMacroblock format number) (validMacroblocks 33 format number 1 fields levels) fields levels k
 
 abbrev μ-loop : tie.MeasureT-loop
 μ-loop format number fields levels k₀ k = 33 - k
 
 loop-holds : tie.Need-loop-holds Inv-loop μ-loop
-loop-holds c = group-begin _ _ _ _
+loop-holds c = group-begin 33 _ _ _
 
 valid-macroblock-requires : tie.Need-valid-macroblock-requires Inv-loop μ-loop
 valid-macroblock-requires c κs =

@@ -5,14 +5,15 @@ use native.Mathlib.Omega.{arith}
 use borrow.Author.Needs.{needs}
 use borrow.Author.Tests.{not-true, not-false}
 use Rattle.h261_groups.specs.Format.{groupNumbers, groupCount}
-use Rattle.h261_groups.proofs.Room.{number-within}
-use Rattle.h261_description.specs.Valid.{validGroups}
-use Rattle.h261_validity.proofs.Steps.{GroupsSoFar, groups-begin, groups-no, groups-more, groups-done, group-part, part-length, GroupFits, group-fits}
+use Rattle.h261_groups.proofs.Room.{groups-listed, number-within}
+use Rattle.h261_description.specs.Valid.{validMacroblock, validGroups}
+use Rattle.layout.proofs.Turns.{GroupsSoFar, groups-begin, groups-no, groups-more, groups-done, group-part, part-length}
+use Rattle.h261_validity.proofs.Steps.{GroupFits, group-fits}
 use Rattle.h261_validity.proofs.valid_groups.Statement.{statement}
 use Rattle.h261_validity.proofs.valid_groups.Tie as tie
 
 abbrev Inv-loop : tie.InvT-loop
-Inv-loop format fields levels count g₀ g = (count ≡ groupCount format) × GroupsSoFar (validGroups format (groupNumbers format) fields levels) format fields levels g
+Inv-loop format fields levels count g₀ g = (count ≡ groupCount format) × GroupsSoFar 33 (validMacroblock format) (groupNumbers format) (validGroups format (groupNumbers format) fields levels) fields levels g
 
 abbrev μ-loop : tie.MeasureT-loop
 μ-loop format fields levels count g₀ g = count - g
@@ -22,7 +23,7 @@ fits : (s : tie.Start Inv-loop μ-loop) {g count : ℕ} → count ≡ groupCount
 fits s e h = group-fits (s .args .format) (s .pre .0) (s .pre .1) e h
 
 loop-holds : tie.Need-loop-holds Inv-loop μ-loop
-loop-holds c = (c .group-count .ensures, groups-begin _ _ _)
+loop-holds c = (c .group-count .ensures, groups-begin 33 _ _ _ _)
 
 group-number-requires : tie.Need-group-number-requires Inv-loop μ-loop
 group-number-requires c κs = omega (arith, c .before .loop .inv .0, c .loop-test .taken)
@@ -96,8 +97,8 @@ returns c =
     let at-group-number = c .before .before .before .before in
     let at-loop = at-group-number .before .before in
     let start = at-loop .before .before .before .before in
-    groups-no (at-loop .loop .inv .1) (omega (arith, at-loop .loop .inv .0, at-group-number .before .loop-test .taken)) _
-    (group-part (start .args .format) (start .args .fields .now) (start .args .levels .now) (at-loop .loop .g) _ _ (at-group-number .group-number .ensures)
+    groups-no (at-loop .loop .inv .1) (omega (arith, at-loop .loop .inv .0, at-group-number .before .loop-test .taken, groups-listed (start .args .format))) _
+    (group-part 33 (validMacroblock (start .args .format)) (start .args .fields .now) (start .args .levels .now) _ _ _ _ _ (at-group-number .group-number .ensures)
     (c .before .valid-group .ensures))
     (not-true _ (c .if1 .taken))
 
@@ -107,14 +108,15 @@ loop-again c =
     let at-loop = at-group-number .before .before in
     let start = at-loop .before .before .before .before in (
       at-loop .loop .inv .0,
-      groups-more (at-loop .loop .inv .1) (omega (arith, at-loop .loop .inv .0, at-group-number .before .loop-test .taken)) _
-          (group-part (start .args .format) (start .args .fields .now) (start .args .levels .now) (at-loop .loop .g) _ _ (at-group-number .group-number .ensures)
+      groups-more (at-loop .loop .inv .1) (omega (arith, at-loop .loop .inv .0, at-group-number .before .loop-test .taken, groups-listed (start .args .format))) _
+          (group-part 33 (validMacroblock (start .args .format)) (start .args .fields .now) (start .args .levels .now) _ _ _ _ _ (at-group-number .group-number .ensures)
           (c .before .valid-group .ensures))
           (not-false _ (c .if1 .left)),
     )
 
 returns-2 : tie.Need-returns-2 Inv-loop μ-loop
-returns-2 c = groups-done (c .before .loop .inv .1) (omega (arith, c .before .loop .inv .0, c .loop-test .left))
+returns-2 c =
+    groups-done (c .before .loop .inv .1) (omega (arith, c .before .loop .inv .0, c .loop-test .left, groups-listed (c .before .before .before .before .before .args .format)))
 
 pub valid-groups-spec : {M : Type 1} → statement M
 valid-groups-spec =

@@ -3,13 +3,13 @@ use borrow.Author.Needs.{needs}
 use Rattle.h261_words.specs.Tables.{table4}
 use Rattle.h261_words.specs.Lookup.{cbpWordsAt}
 use Rattle.h261_words.proofs.Back.{has-cbp}
-use Rattle.h261_words.proofs.Codewords.{entry-writes}
+use Rattle.bits.proofs.Codewords.{entry-writes}
 use Rattle.h261_words.proofs.cbp_codeword.Statement.{statement}
 use Rattle.h261_words.proofs.cbp_codeword.Tie as tie
 
 returns : tie.Need-returns
 returns c =
-    let s = c .before in entry-writes (s .args .tables .now) cbpWordsAt 64 (table4 .entries) (s .pre .tables .cbpWords) (s .args .pattern) _ _ (search needs) (has-cbp _ (s .pre .some) (s .pre .known)) (c .spelt .ensures .0) (c .spelt .ensures .1)
+    let s = c .before .before in entry-writes (s .args .tables .now) cbpWordsAt 64 (table4 .entries) (s .pre .tables .cbpWords) (s .args .pattern) (search needs) (has-cbp _ (s .pre .some) (s .pre .known)) (c .spelt .ensures)
 
 pub cbp-codeword-spec : {M : Type 1} → statement M
 cbp-codeword-spec = tie.close (tie.spec (λ c. search needs) (λ c κs. search needs) returns)

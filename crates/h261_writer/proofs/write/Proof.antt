@@ -1,9 +1,21 @@
 -- `h261_writer::write` meets its contract: the judgements in their order, then what the bits leave. Assumes nothing.
 use mathlib.Core.Path.{sym, _∙_}
+use mathlib.Core.Bool.{Bool}
+use mathlib.Core.List.{List}
+use Prim.Native.Nat.{ℕ}
 use borrow.Author.Needs.{needs}
 use borrow.Author.Tests.{not-true, not-false}
-use Rattle.h261_writer.proofs.WriteSteps.{refuses, short, unfit, invalid, above, below}
+use lib.ListN.{length}
+use Rattle.laws.specs.Choice.{either}
 use Rattle.laws.proofs.Choice.{true-T}
+use Rattle.size.specs.Size.{limit, outputLength}
+use Rattle.bits.proofs.Output.{Answered, unnamed, unfit, invalid, above, below}
+use Rattle.h261_groups.specs.Format.{sizeOf}
+use Rattle.h261_groups.specs.declared.Format.the-variants.{Qcif, Cif}
+use Rattle.layout.specs.Flat.{Flat, flat}
+use Rattle.h261_description.specs.Valid.{lengthsOf, valid}
+use Rattle.h261_writer.specs.Output.{pictureBits, writeOf}
+use Rattle.h261_writer.proofs.WriteSteps.{write-answered}
 use Rattle.h261_writer.proofs.write.Statement.{statement}
 use Rattle.h261_writer.proofs.write.Tie as tie
 
@@ -23,23 +35,27 @@ at-valid c = c .before .before .before
 abbrev at-written : tie.After-limit → tie.After-write-valid
 at-written c = c .before .before .before
 
+abbrev description : tie.Start → Flat
+description s = flat (s .args .head .now) (s .args .macroblocks .now) (s .args .levels .now)
+
+answered : (s : tie.Start) → Answered (either (lengthsOf Qcif (description s)) (lengthsOf Cif (description s))) (valid (s .args .format) (description s))
+    (outputLength (sizeOf (s .args .format))) (limit (sizeOf (s .args .format))) (pictureBits (s .args .format) (description s)) (s .args .out .now)
+    (writeOf (s .args .format) (description s) (length (s .args .out .now)))
+answered s = write-answered (s .args .format) (description s) (s .args .out .now)
+
 returns : tie.Need-returns
-returns c =
-    let o = c .before .before in let a = start o .args in
-    refuses (a .format) (a .head .now) (a .macroblocks .now) (a .levels .now) (a .out .now) _ _ (c .refused .ensures)
-    (short (a .format) (a .head .now) (a .macroblocks .now) (a .levels .now) (a .out .now) _ (o .one-format .ensures) (not-true _ (c .before .if1 .taken)))
+returns c = let o = c .before .before in unnamed (answered (start o)) (o .one-format .ensures) (not-true _ (c .before .if1 .taken)) (c .not-written .ensures)
 
 returns-2 : tie.Need-returns-2
 returns-2 c =
-    let n = c .before .before in let o = at-format n in let a = start o .args in
-    refuses (a .format) (a .head .now) (a .macroblocks .now) (a .levels .now) (a .out .now) _ _ (c .refused2 .ensures)
-    (unfit (a .format) (a .head .now) (a .macroblocks .now) (a .levels .now) (a .out .now) _ (o .one-format .ensures) (not-false _ (n .before .if1 .left)) _ (n .output-length .ensures) (c .before .if2 .taken))
+    let n = c .before .before in let o = at-format n in
+    unfit (answered (start o)) (o .one-format .ensures) (not-false _ (n .before .if1 .left)) (n .output-length .ensures) (c .before .if2 .taken) (c .not-written2 .ensures)
 
 returns-3 : tie.Need-returns-3
 returns-3 c =
-    let v = c .before .before in let n = at-length v in let o = at-format n in let a = start o .args in
-    refuses (a .format) (a .head .now) (a .macroblocks .now) (a .levels .now) (a .out .now) _ _ (c .refused3 .ensures)
-    (invalid (a .format) (a .head .now) (a .macroblocks .now) (a .levels .now) (a .out .now) _ (o .one-format .ensures) (not-false _ (n .before .if1 .left)) _ (n .output-length .ensures) (v .before .if2 .left) _ (v .valid .ensures) (not-true _ (c .before .if3 .taken)))
+    let v = c .before .before in let n = at-length v in let o = at-format n in
+    invalid (answered (start o)) (o .one-format .ensures) (not-false _ (n .before .if1 .left)) (n .output-length .ensures) (v .before .if2 .left) (v .valid .ensures)
+    (not-true _ (c .before .if3 .taken)) (c .not-written3 .ensures)
 
 write-valid-requires : tie.Need-write-valid-requires
 write-valid-requires c κs =
@@ -48,15 +64,15 @@ write-valid-requires c κs =
 
 returns-4 : tie.Need-returns-4
 returns-4 c =
-    let m = c .before .before in let w = at-written m in let v = at-valid w in let n = at-length v in let o = at-format n in let a = start o .args in
-    above (a .format) (a .head .now) (a .macroblocks .now) (a .levels .now) (a .out .now) _ (o .one-format .ensures) (not-false _ (n .before .if1 .left)) _ (n .output-length .ensures) (v .before .if2 .left) _ (v .valid .ensures) (not-false _ (w .before .before .if3 .left)) _ (w .write-valid .ensures .0) _ (m .limit .ensures)
-    (c .before .if4 .taken) _ _ (c .refused4 .ensures) (w .write-valid .ensures .1)
+    let m = c .before .before in let w = at-written m in let v = at-valid w in let n = at-length v in let o = at-format n in
+    above (answered (start o)) (o .one-format .ensures) (not-false _ (n .before .if1 .left)) (n .output-length .ensures) (v .before .if2 .left) (v .valid .ensures)
+    (not-false _ (w .before .before .if3 .left)) (w .write-valid .ensures .0) (m .limit .ensures) (c .before .if4 .taken) (c .not-written4 .ensures) (w .write-valid .ensures .1)
 
 returns-5 : tie.Need-returns-5
 returns-5 c =
-    let m = c .before in let w = at-written m in let v = at-valid w in let n = at-length v in let o = at-format n in let a = start o .args in
-    below (a .format) (a .head .now) (a .macroblocks .now) (a .levels .now) (a .out .now) _ (o .one-format .ensures) (not-false _ (n .before .if1 .left)) _ (n .output-length .ensures) (v .before .if2 .left) _ (v .valid .ensures) (not-false _ (w .before .before .if3 .left)) _ (w .write-valid .ensures .0) _ (m .limit .ensures)
-    (c .if4 .left) _ (w .write-valid .ensures .1)
+    let m = c .before in let w = at-written m in let v = at-valid w in let n = at-length v in let o = at-format n in
+    below (answered (start o)) (o .one-format .ensures) (not-false _ (n .before .if1 .left)) (n .output-length .ensures) (v .before .if2 .left) (v .valid .ensures)
+    (not-false _ (w .before .before .if3 .left)) (w .write-valid .ensures .0) (m .limit .ensures) (c .if4 .left) (w .write-valid .ensures .1)
 
 pub write-spec : {M : Type 1} → statement M
 write-spec =

@@ -7,14 +7,14 @@ use denote.Enum.Declared.{tagOf}
 use types.Run.{OneOf, miss}
 use Rattle.refusals.proofs.Reason.{the-type}
 use Rattle.refusals.specs.declared.Reason.{Reason}
-use Rattle.refusals.specs.declared.Reason.the-variants.{Length, Count, BitsEnd, NoStartCode, OtherFormat, OtherGroup, QuantiserZero, NoCodeword, AddressPast, Forbidden, CoefficientPast, VectorOut, StartCodeLast, BlockCheck, BlockField, OtherClip, UntrueMark, Invalid, AboveLimit, NotRefresh, AllSent, NoLock}
+use Rattle.refusals.specs.declared.Reason.the-variants.{Length, Count, BitsEnd, NoStartCode, OtherFormat, OtherGroup, QuantiserZero, NoCodeword, AddressPast, Forbidden, CoefficientPast, VectorOut, AfterLast, OptionalMode, BlockCheck, BlockField, OtherClip, UntrueMark, Invalid, AboveLimit, NotRefresh, AllSent, NoneKept, NoLock}
 use Rattle.refusals.specs.Number.{readTable}
 use Rattle.refusals.proofs.table_of.Statement.{statement}
 use Rattle.refusals.proofs.table_of.Tie as tie
 
 -- the tags of the other reasons
 abbrev others : List ℕ
-others = 0 ∷ 1 ∷ 2 ∷ 3 ∷ 4 ∷ 5 ∷ 6 ∷ 8 ∷ 9 ∷ 10 ∷ 11 ∷ 12 ∷ 13 ∷ 14 ∷ 15 ∷ 16 ∷ 17 ∷ 18 ∷ 19 ∷ 20 ∷ 21 ∷ []
+others = 0 ∷ 1 ∷ 2 ∷ 3 ∷ 4 ∷ 5 ∷ 6 ∷ 8 ∷ 9 ∷ 10 ∷ 11 ∷ 12 ∷ 13 ∷ 14 ∷ 15 ∷ 16 ∷ 17 ∷ 18 ∷ 19 ∷ 20 ∷ 21 ∷ 22 ∷ 23 ∷ []
 
 none : (reason : Reason) → OneOf others (tagOf the-type reason) → 0 ≡ readTable reason
 unfolding readTable
@@ -30,7 +30,8 @@ none AddressPast o = refl
 none Forbidden o = refl
 none CoefficientPast o = refl
 none VectorOut o = refl
-none StartCodeLast o = refl
+none AfterLast o = refl
+none OptionalMode o = refl
 none BlockCheck o = refl
 none BlockField o = refl
 none OtherClip o = refl
@@ -39,6 +40,7 @@ none Invalid o = refl
 none AboveLimit o = refl
 none NotRefresh o = refl
 none AllSent o = refl
+none NoneKept o = refl
 none NoLock o = refl
 
 returns : tie.Need-returns

@@ -9,14 +9,14 @@ use denote.Enum.Declared.{tagOf}
 use types.Run.{OneOf, miss}
 use Rattle.refusals.proofs.Reason.{the-type}
 use Rattle.refusals.specs.declared.Reason.{Reason}
-use Rattle.refusals.specs.declared.Reason.the-variants.{Length, Count, BitsEnd, NoStartCode, OtherFormat, OtherGroup, QuantiserZero, NoCodeword, AddressPast, Forbidden, CoefficientPast, VectorOut, StartCodeLast, BlockCheck, BlockField, OtherClip, UntrueMark, Invalid, AboveLimit, NotRefresh, AllSent, NoLock}
+use Rattle.refusals.specs.declared.Reason.the-variants.{Length, Count, BitsEnd, NoStartCode, OtherFormat, OtherGroup, QuantiserZero, NoCodeword, AddressPast, Forbidden, CoefficientPast, VectorOut, AfterLast, OptionalMode, BlockCheck, BlockField, OtherClip, UntrueMark, Invalid, AboveLimit, NotRefresh, AllSent, NoneKept, NoLock}
 use Rattle.refusals.specs.Number.{number}
 use Rattle.standing.proofs.is_length.Statement.{statement}
 use Rattle.standing.proofs.is_length.Tie as tie
 
 -- the tags of the other reasons
 abbrev others : List ℕ
-others = 1 ∷ 2 ∷ 3 ∷ 4 ∷ 5 ∷ 6 ∷ 7 ∷ 8 ∷ 9 ∷ 10 ∷ 11 ∷ 12 ∷ 13 ∷ 14 ∷ 15 ∷ 16 ∷ 17 ∷ 18 ∷ 19 ∷ 20 ∷ 21 ∷ []
+others = 1 ∷ 2 ∷ 3 ∷ 4 ∷ 5 ∷ 6 ∷ 7 ∷ 8 ∷ 9 ∷ 10 ∷ 11 ∷ 12 ∷ 13 ∷ 14 ∷ 15 ∷ 16 ∷ 17 ∷ 18 ∷ 19 ∷ 20 ∷ 21 ∷ 22 ∷ 23 ∷ []
 
 not-one : (reason : Reason) → OneOf others (tagOf the-type reason) → false ≡ eqb (number reason) 1
 unfolding number
@@ -32,7 +32,8 @@ not-one AddressPast o = refl
 not-one Forbidden o = refl
 not-one CoefficientPast o = refl
 not-one VectorOut o = refl
-not-one StartCodeLast o = refl
+not-one AfterLast o = refl
+not-one OptionalMode o = refl
 not-one BlockCheck o = refl
 not-one BlockField o = refl
 not-one OtherClip o = refl
@@ -41,6 +42,7 @@ not-one Invalid o = refl
 not-one AboveLimit o = refl
 not-one NotRefresh o = refl
 not-one AllSent o = refl
+not-one NoneKept o = refl
 not-one NoLock o = refl
 
 is-one : {reason : Reason} → reason ≡ Length → true ≡ eqb (number reason) 1

@@ -21,7 +21,7 @@ returns-2 c =
     let at-ends-filled = at-if1 .before in
     let start = at-ends-filled .before .before .before .before .before in
     let a = start .args in
-    filled-once (at-ends-filled .ends-filled .ensures (not-false _ (at-if1 .if1 .left))) (flat (a .head .now) (a .macroblocks .now) (a .levels .now)) (at-read .read .ensures)
+    filled-once (at-ends-filled .ends-filled .ensures (not-false _ (at-if1 .if1 .left))) (flat (a .head .now) (a .macroblocks .now) (a .levels .now)) (at-read .read .ensures .0, at-read .read .ensures .1 .0)
     (ap toldVerdict (c .enum-told .given .1))
 
 returns-3 : tie.Need-returns-3
@@ -33,7 +33,7 @@ returns-3 c =
     let at-ends-filled = at-if1 .before in
     let start = at-ends-filled .before .before .before .before .before in
     let a = start .args in
-    filled-again (at-ends-filled .ends-filled .ensures (not-false _ (at-if1 .if1 .left))) (flat (a .head .now) (a .macroblocks .now) (a .levels .now)) (at-read .read .ensures)
+    filled-again (at-ends-filled .ends-filled .ensures (not-false _ (at-if1 .if1 .left))) (flat (a .head .now) (a .macroblocks .now) (a .levels .now)) (at-read .read .ensures .0, at-read .read .ensures .1 .0)
     (ap toldVerdict (at-verdict .verdict .given .1)) (at-read-whole .read-whole2 .ensures)
 
 pub read-spec : {M : Type 1} → statement M

@@ -19,7 +19,7 @@ returns-2 c =
     let start = at-among-zeros .before .before .before .before .before in
     let a = start .args in
     whole (a .format) (a .bytes .now) (a .ones) (flat (a .head .now) (a .macroblocks .now) (a .levels .now)) _ (at-among-zeros .among-zeros .ensures)
-    (not-false _ (at-if1 .if1 .left)) (at-read .read .ensures) (ap toldVerdict (c .enum-told .given .1))
+    (not-false _ (at-if1 .if1 .left)) (at-read .read .ensures .0, at-read .read .ensures .1 .0) (ap toldVerdict (c .enum-told .given .1))
 
 returns-3 : tie.Need-returns-3
 returns-3 c =
@@ -29,7 +29,7 @@ returns-3 c =
     let start = at-among-zeros .before .before .before .before .before in
     let a = start .args in
     broken (a .format) (a .bytes .now) (a .ones) (flat (a .head .now) (a .macroblocks .now) (a .levels .now)) _ (at-among-zeros .among-zeros .ensures)
-    (not-false _ (at-if1 .if1 .left)) (at-read .read .ensures) (ap toldVerdict (c .before .verdict .given .1))
+    (not-false _ (at-if1 .if1 .left)) (at-read .read .ensures .0, at-read .read .ensures .1 .0) (ap toldVerdict (c .before .verdict .given .1))
 
 pub read-unfilled-spec : {M : Type 1} → statement M
 read-unfilled-spec =

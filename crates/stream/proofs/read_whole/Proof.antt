@@ -18,7 +18,7 @@ returns c =
     let a = start .args in
     at-once (a .format) (a .bytes .now) (a .ones) (flat (a .head .now) (a .macroblocks .now) (a .levels .now)) (a .count)
     (at-smaller .smaller .ensures ∙ ap (λ (m : ℕ). min (a .count) m) (at-larger .larger .ensures ∙ ap (λ (l : ℕ). max l (a .ones)) (at-limit .limit .ensures)))
-    (at-read .read .ensures) (ap toldVerdict (c .enum-told .given .1))
+    (at-read .read .ensures .0, at-read .read .ensures .1 .0) (ap toldVerdict (c .enum-told .given .1))
 
 returns-2 : tie.Need-returns-2
 returns-2 c =
@@ -32,7 +32,7 @@ returns-2 c =
     let a = start .args in
     again (a .format) (a .bytes .now) (a .ones) (flat (a .head .now) (a .macroblocks .now) (a .levels .now)) (a .count)
     (at-smaller .smaller .ensures ∙ ap (λ (m : ℕ). min (a .count) m) (at-larger .larger .ensures ∙ ap (λ (l : ℕ). max l (a .ones)) (at-limit .limit .ensures)))
-    (at-read .read .ensures) (ap toldVerdict (at-verdict .verdict .given .1)) (at-read-unfilled .read-unfilled .ensures)
+    (at-read .read .ensures .0, at-read .read .ensures .1 .0) (ap toldVerdict (at-verdict .verdict .given .1)) (at-read-unfilled .read-unfilled .ensures)
 
 pub read-whole-spec : {M : Type 1} → statement M
 read-whole-spec =

@@ -5,10 +5,10 @@ use Rattle.test_leaves.proofs.all.Statement.{statement}
 use Rattle.test_leaves.proofs.all.Tie as tie
 
 abbrev Inv-loop : tie.InvT-loop
-Inv-loop case tables n₀ n = n ≤ 100000000
+Inv-loop case tables newer n₀ n = n ≤ 100000000
 
 abbrev μ-loop : tie.MeasureT-loop
-μ-loop case tables n₀ n = 100000000 - n
+μ-loop case tables newer n₀ n = 100000000 - n
 
 pub all-spec : {M : Type 1} → statement M
 all-spec =

@@ -1,7 +1,10 @@
 //! What the subcommands make of H.263.
 
+pub mod lists;
+pub mod packs;
 pub mod pictures;
 pub mod render;
+pub mod send;
 pub mod streams;
 pub mod words;
 pub mod write;

@@ -74,7 +74,7 @@ fn item(random: &mut Random, number: usize) -> (Format, Slices, usize) {
 }
 
 /// At the limit or somewhat above it.
-fn near_limit(random: &mut Random, format: Format) -> Description {
+pub fn near_limit(random: &mut Random, format: Format) -> Description {
     if random.chance(3) {
         return maker::unlimited_description(random, format, Style::DenseRefresh);
     }
@@ -85,7 +85,7 @@ fn near_limit(random: &mut Random, format: Format) -> Description {
 }
 
 /// Changes one field to anything; mostly that makes the description invalid.
-fn spoil(random: &mut Random, description: &mut Description) {
+pub fn spoil(random: &mut Random, description: &mut Description) {
     let any = random.byte();
     let index = random.below(description.macroblocks.len());
     let group = random.below(description.group_quantisers.len());

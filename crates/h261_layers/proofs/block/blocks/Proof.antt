@@ -16,21 +16,21 @@ use Rattle.h261_layers.proofs.block.blocks.Statement.{statement}
 use Rattle.h261_layers.proofs.block.blocks.Tie as tie
 
 abbrev Inv-loop : tie.InvT-loop
-Inv-loop tables bytes count at intra pattern levels₀ base place₀ b₀ levels place b =
-    BlocksSoFar (mapRead (putBlocks levels₀ base) (blocksRead intra (bitsOf 6 pattern) (bitsLeft bytes count at) at)) (length levels₀) bytes count intra pattern base
+Inv-loop tables bytes count intra pattern levels₀ base at b₀ levels place b =
+    BlocksSoFar (mapRead (putBlocks levels₀ base) (blocksRead intra (bitsOf 6 pattern) (bitsLeft bytes count (at .bit)) at)) (length levels₀) bytes count intra pattern base
     levels b place
 
 abbrev μ-loop : tie.MeasureT-loop
-μ-loop tables bytes count at intra pattern levels₀ base place₀ b₀ levels place b = 6 - b
+μ-loop tables bytes count intra pattern levels₀ base at b₀ levels place b = 6 - b
 
 loop-holds : tie.Need-loop-holds Inv-loop μ-loop
-loop-holds c = blocks-first _ _ _ _ _ _ _ (c .before .before .pre .0 .within .inside)
+loop-holds c = blocks-first _ _ _ _ _ _ _ (c .before .before .pre .0 .placed)
 
 one-block-requires : tie.Need-one-block-requires Inv-loop μ-loop
 one-block-requires c κs =
     let at-loop = c .before .before .before in
     let start = at-loop .before .before .before in (
-      record { tabled = start .pre .0 .tabled; within = record { lent = start .pre .0 .within .lent; inside = at-loop .loop .inv .inside } },
+      record { tabled = start .pre .0 .tabled; placed = at-loop .loop .inv .placed },
       omega (arith, at-loop .loop .inv .long, start .pre .1),
     )
 
@@ -44,7 +44,7 @@ returns c =
     let at-one-block = c .before .before .before .before .before in
     let at-if1 = at-one-block .before .before in
     let at-test = at-if1 .before in
-    ap refused (c .place-refusal .ensures)
+    ap refused (c .place-stopped .ensures)
     ∙ blocks-refused (at-test .before .loop .inv) (at-test .loop-test .taken) (at-if1 .if1 .taken) _
     (sym (no-place _ _ _ (at-one-block .one-block .result) (c .before .before .match .keys2) (at-one-block .one-block .ensures)))
 

@@ -4,9 +4,11 @@ use Prim.Native.Nat.{ℕ}
 use Rattle.refusals.specs.declared.Reason.the-variants.{OtherGroup}
 use Rattle.refusals.specs.Number.{number}
 use Rattle.bits.specs.Bits.{bitsLeft}
-use Rattle.bits.specs.Read.{Reader, _>>=_, done}
+use Rattle.bits.specs.Places.{counted}
+use Rattle.bits.specs.Read.{ReaderIn, _>>=_, done}
+use Rattle.bits.specs.declared.Place.{Place}
 use Rattle.fields.specs.Rules.{expect, quantiser, spares}
-use Rattle.fields.proofs.Row.{Row, row-done, row-place, row-no-place, row-field, row-no-field}
+use Rattle.fields.proofs.Row.{Row, row-done, row-place, row-no-place, row-number, row-no-number}
 use Rattle.fields.proofs.RuleReads.{expect-reads, quantiser-reads, spares-reads}
 use Rattle.h261_layers.specs.Grammar.{groupHead}
 use Rattle.h261_layers.proofs.HeaderSteps.{group-begun, afterNumber, afterQuantiser}
@@ -14,8 +16,8 @@ use Rattle.h261_layers.proofs.head.group_head.Statement.{statement}
 use Rattle.h261_layers.proofs.head.group_head.Tie as tie
 
 -- ---- the head is the rest of it, from the place after each read
-abbrev To : tie.Start → Reader ℕ → ℕ → Type 0
-To s rest p = Row (groupHead (s .args .number) (bitsLeft (s .args .bytes .now) (s .args .count) (s .args .at)) (s .args .at)) (s .args .bytes .now) (s .args .count) rest p
+abbrev To : tie.Start → ReaderIn counted ℕ → Place → Type 0
+To s rest p = Row (groupHead (s .args .number) (bitsLeft (s .args .bytes .now) (s .args .count) (s .args .at .bit)) (s .args .at)) (s .args .bytes .now) (s .args .count) rest p
 
 begun : (s : tie.Start) → To s (expect 4 (s .args .number) OtherGroup >>= λ gn. afterNumber) (s .args .at)
 begun s = group-begun (s .args .number) (s .args .bytes .now) (s .args .count) (s .args .at) (s .pre)
@@ -25,41 +27,41 @@ unfolding number
 named c =
     let at-expect = c .before .before .before in
     let start = at-expect .before .before in
-    row-place (expect 4 (start .args .number) OtherGroup) (λ gn. afterNumber) (begun start) (start .args .number) (expect-reads 4 (start .args .number) OtherGroup tt) (at-expect .expect .ensures) (c .before .named .given .1)
+    row-place (λ P. expect 4 (start .args .number) OtherGroup) (λ gn. afterNumber) (begun start) (start .args .number) (expect-reads 4 (start .args .number) OtherGroup tt tt) (at-expect .expect .ensures) (c .before .named .given .1)
 
 quantised : (c : tie.After-known-told2) → To (c .before .before .before .before .before .before .before .before .before) (afterQuantiser (c .before .quantised .given .0 .0)) (c .before .quantised .given .0 .1 .0)
 quantised c =
     let at-quantiser = c .before .before .before in
-    row-field quantiser afterQuantiser (named (at-quantiser .before)) quantiser-reads (at-quantiser .quantiser .ensures) (c .before .quantised .given .1)
+    row-number (λ P. quantiser) afterQuantiser (named (at-quantiser .before)) quantiser-reads (at-quantiser .quantiser .ensures) (c .before .quantised .given .1)
 
 -- ---- the needs
 returns : tie.Need-returns
 returns c =
     let at-expect = c .before .before .before in
     let start = at-expect .before .before in
-    row-no-place (expect 4 (start .args .number) OtherGroup) (λ gn. afterNumber) (begun start) (start .args .number) (at-expect .expect .result) (c .before .before .match .keys2) (at-expect .expect .ensures) (c .place-refusal .ensures)
+    row-no-place (λ P. expect 4 (start .args .number) OtherGroup) (λ gn. afterNumber) (begun start) (start .args .number) (at-expect .expect .result) (c .before .before .match .keys2) (at-expect .expect .ensures) (c .place-stopped .ensures)
 
 quantiser-requires : tie.Need-quantiser-requires
-quantiser-requires c κs = named c .within
+quantiser-requires c κs = named c .placed
 
 returns-2 : tie.Need-returns-2
 returns-2 c =
     let at-quantiser = c .before .before .before in
-    row-no-field quantiser afterQuantiser (named (at-quantiser .before)) (at-quantiser .quantiser .result) (c .before .before .match2 .keys2) (at-quantiser .quantiser .ensures) (c .field-refusal .ensures)
+    row-no-number (λ P. quantiser) afterQuantiser (named (at-quantiser .before)) (at-quantiser .quantiser .result) (c .before .before .match2 .keys2) (at-quantiser .quantiser .ensures) (c .number-stopped .ensures)
 
 spares-requires : tie.Need-spares-requires
-spares-requires c κs = quantised c .within
+spares-requires c κs = quantised c .placed
 
 returns-3 : tie.Need-returns-3
 returns-3 c =
     let at-spares = c .before .before .before in
     let quantised-so = quantised (at-spares .before) in
-    row-no-field spares (λ dropped. done _) quantised-so (at-spares .spares .result) (c .before .before .match3 .keys2) (at-spares .spares .ensures) (c .field-refusal2 .ensures)
+    row-no-place (λ P. spares) (λ dropped. done _) quantised-so 0 (at-spares .spares .result) (c .before .before .match3 .keys2) (at-spares .spares .ensures) (c .place-stopped2 .ensures)
 
 returns-4 : tie.Need-returns-4
 returns-4 c =
     let at-spares = c .before .before .before in
-    row-done (row-field spares (λ dropped. done _) (quantised (at-spares .before)) spares-reads (at-spares .spares .ensures) (c .before .dropped .given .1))
+    row-done (row-place (λ P. spares) (λ dropped. done _) (quantised (at-spares .before)) 0 spares-reads (at-spares .spares .ensures) (c .before .dropped .given .1))
 
 pub group-head-spec : {M : Type 1} → statement M
 group-head-spec =

@@ -3,7 +3,9 @@ use native.Mathlib.Omega.{arith}
 use borrow.Author.Needs.{needs}
 use Prim.Native.Nat.{ℕ}
 use Rattle.bits.specs.Bits.{bitsLeft}
-use Rattle.bits.specs.Read.{Reader, _>>=_, done}
+use Rattle.bits.specs.Places.{counted}
+use Rattle.bits.specs.Read.{ReaderIn, _>>=_, done}
+use Rattle.bits.specs.declared.Place.{Place}
 use Rattle.fields.proofs.Row.{Row, row-done}
 use Rattle.layout.specs.Value.{Vector}
 use Rattle.h261_layers.specs.Answer.{componentOf, vectorOf}
@@ -18,18 +20,18 @@ use Rattle.h261_layers.proofs.vector.vector.Tie as tie
 abbrev preceding : tie.Start → Vector
 preceding s = vectorOf (s .args .horizontal) (s .args .vertical)
 
-abbrev To : tie.Start → Reader Vector → ℕ → Type 0
-To s rest p = Row (componentsRead (preceding s) (bitsLeft (s .args .bytes .now) (s .args .count) (s .args .at)) (s .args .at)) (s .args .bytes .now) (s .args .count) rest p
+abbrev To : tie.Start → ReaderIn counted Vector → Place → Type 0
+To s rest p = Row (componentsRead (preceding s) (bitsLeft (s .args .bytes .now) (s .args .count) (s .args .at .bit)) (s .args .at)) (s .args .bytes .now) (s .args .count) rest p
 
 begun : (s : tie.Start) → To s (componentRead (componentOf (s .args .horizontal)) >>= afterFirst (preceding s)) (s .args .at)
-begun s = components-begun (preceding s) (s .args .bytes .now) (s .args .count) (s .args .at) (s .pre .0 .within)
+begun s = components-begun (preceding s) (s .args .bytes .now) (s .args .count) (s .args .at) (s .pre .0 .placed)
 
 abbrev start₁ : tie.After-known-told → tie.Start
 start₁ c = c .before .before .before .before .before
 
 first : (c : tie.After-known-told) → To (start₁ c) (afterFirst (preceding (start₁ c)) (componentOf (c .before .first .given .0 .0))) (c .before .first .given .0 .1 .0)
 first c =
-    row-component (componentRead (componentOf (start₁ c .args .horizontal))) (afterFirst (preceding (start₁ c))) (begun (start₁ c)) (component-reads _)
+    row-component (λ P. componentRead (componentOf (start₁ c .args .horizontal))) (afterFirst (preceding (start₁ c))) (begun (start₁ c)) (component-reads _)
     (c .before .before .before .component .ensures) (c .before .first .given .1)
 
 -- ---- both were got
@@ -48,11 +50,11 @@ module _ (c : tie.After-known-told2) where
 
   both : BothRead (preceding start) (start .args .bytes .now) (start .args .count) (start .args .at) across down (c .before .second .given .0 .1 .0)
   both = record {
-    both = row-done (row-component (componentRead (componentOf (start .args .vertical))) (λ v. done (record { horizontal = componentOf across; vertical = v })) (first at-first) (component-reads _)
+    both = row-done (row-component (λ P. componentRead (componentOf (start .args .vertical))) (λ v. done (record { horizontal = componentOf across; vertical = v })) (first at-first) (component-reads _)
         (c .before .before .before .component2 .ensures) (c .before .second .given .1));
     kept = record {
-      horizontally = component-kept _ _ _ _ _ _ (start .pre .0 .within .inside) (is-component _ _ _ _ _ (at-first .before .before .before .component .ensures) (at-first .before .first .given .1));
-      vertically = component-kept _ _ _ _ _ _ (first at-first .within .inside) (is-component _ _ _ _ _ (c .before .before .before .component2 .ensures) (c .before .second .given .1));
+      horizontally = component-kept _ _ _ _ _ _ (start .pre .0 .placed .within .inside) (is-component _ _ _ _ _ (at-first .before .before .before .component .ensures) (at-first .before .first .given .1));
+      vertically = component-kept _ _ _ _ _ _ (first at-first .placed .within .inside) (is-component _ _ _ _ _ (c .before .before .before .component2 .ensures) (c .before .second .given .1));
     };
   }
 
@@ -65,11 +67,11 @@ returns c =
     let at-component = c .before .before .before in
     let s = at-component .before .before in
     vector-refused (s .args .format) (s .args .number) (s .args .address) (preceding s) _ _ _
-    (row-no-component (componentRead (componentOf (s .args .horizontal))) (afterFirst (preceding s)) (begun s) (at-component .component .result) (c .before .before .match .keys2)
-    (at-component .component .ensures) (c .field-refusal .ensures))
+    (row-no-component (λ P. componentRead (componentOf (s .args .horizontal))) (afterFirst (preceding s)) (begun s) (at-component .component .result) (c .before .before .match .keys2)
+    (at-component .component .ensures) (c .number-stopped .ensures))
 
 component-requires-2 : tie.Need-component-requires-2
-component-requires-2 c κs = (record { tabled = start₁ c .pre .0 .tabled; within = first c .within }, start₁ c .pre .1 .vertically)
+component-requires-2 c κs = (record { tabled = start₁ c .pre .0 .tabled; placed = first c .placed }, start₁ c .pre .1 .vertically)
 
 returns-2 : tie.Need-returns-2
 returns-2 c =
@@ -77,8 +79,8 @@ returns-2 c =
     let read = at-component .before in
     let s = start₁ read in
     vector-refused (s .args .format) (s .args .number) (s .args .address) (preceding s) _ _ _
-    (row-no-component (componentRead (componentOf (s .args .vertical))) (λ v. done (record { horizontal = componentOf (read .before .first .given .0 .0); vertical = v })) (first read)
-    (at-component .component2 .result) (c .before .before .match2 .keys2) (at-component .component2 .ensures) (c .field-refusal2 .ensures))
+    (row-no-component (λ P. componentRead (componentOf (s .args .vertical))) (λ v. done (record { horizontal = componentOf (read .before .first .given .0 .0); vertical = v })) (first read)
+    (at-component .component2 .result) (c .before .before .match2 .keys2) (at-component .component2 .ensures) (c .number-stopped2 .ensures))
 
 column-requires : tie.Need-column-requires
 column-requires c κs = start c .pre .1 .addressed
@@ -111,11 +113,11 @@ returns-6 c =
     vector-below (start read .args .format) (start read .args .number) (start read .args .address) (both read)
     (omega (arith, at-row .row .ensures, c .before .height .ensures, c .if4 .taken))
 
-cast-t25 : tie.Need-cast-t25
-cast-t25 c = omega (arith, both (c .before .before .before .before .before .before .before .before) .kept .horizontally .high)
-
 cast-t26 : tie.Need-cast-t26
-cast-t26 c = omega (arith, both (c .before .before .before .before .before .before .before .before) .kept .vertically .high)
+cast-t26 c = omega (arith, both (c .before .before .before .before .before .before .before .before) .kept .horizontally .high)
+
+cast-t27 : tie.Need-cast-t27
+cast-t27 c = omega (arith, both (c .before .before .before .before .before .before .before .before) .kept .vertically .high)
 
 returns-7 : tie.Need-returns-7
 returns-7 c =
@@ -135,4 +137,4 @@ vector-spec =
     (tie.spec component-requires (λ c. search needs) (λ c. search needs) (λ c κs. search needs) returns component-requires-2
     (λ c. search needs) (λ c. search needs) (λ c κs. search needs) returns-2 column-requires (λ c. search needs) (λ c. search needs)
     row-requires (λ c. search needs) (λ c. search needs) returns-3 (λ c κs. search needs) returns-4 returns-5 (λ c κs. search needs)
-    returns-6 cast-t25 cast-t26 returns-7)
+    returns-6 cast-t26 cast-t27 returns-7)

@@ -5,11 +5,13 @@ use borrow.Author.Needs.{needs}
 use lib.Dec.{T}
 use lib.ListN.{drop}
 use Rattle.bits.proofs.Appended.{wrote-long}
-use Rattle.h261_words.proofs.Codewords.{word-ready, word-wrote}
+use Rattle.bits.proofs.Codewords.{word-ready, word-wrote}
 use Rattle.layout.specs.Flat.{gather}
 use Rattle.layout.specs.Numbers.{all, isZero}
+use Rattle.layout.proofs.Gathered.{zeros-on}
+use Rattle.levels.proofs.Zeros.{zeros-within}
 use Rattle.h261_writer.specs.Sound.{codedBits}
-use Rattle.h261_writer.proofs.BlockTurn.{zeros-on, CodedSoFar, coded-begin, coded-zero, coded-sendable, coded-counts, coded-more, coded-none, end-counts, coded-end}
+use Rattle.h261_writer.proofs.BlockTurn.{CodedSoFar, coded-begin, coded-zero, coded-sendable, coded-counts, coded-more, coded-none, end-counts, coded-end}
 use Rattle.h261_writer.proofs.block.coefficients.Statement.{statement}
 use Rattle.h261_writer.proofs.block.coefficients.Tie as tie
 
@@ -24,11 +26,11 @@ abbrev start : tie.At-loop Inv-loop μ-loop → tie.Start Inv-loop μ-loop
 start c = c .before .before .before .before
 
 -- every level from there on is zero
-abbrev ends : (c : tie.At-loop Inv-loop μ-loop) → c .before .zeros-from .result ≤ 64
-ends c = c .before .zeros-from .ensures .0
+ends : (c : tie.At-loop Inv-loop μ-loop) → (c .before .zeros-from .result ≤ 64) × T (all isZero (drop (c .before .zeros-from .result) (start c .args .levels .now)))
+ends c = zeros-within (start c .args .levels .now) (start c .pre .long) (c .before .zeros-from .ensures)
 
-abbrev zeros : (c : tie.At-loop Inv-loop μ-loop) → c .before .zeros-from .result ≤ c .loop .k → T (all isZero (drop (c .loop .k) (start c .args .levels .now)))
-zeros c l = zeros-on (start c .args .levels .now) (c .before .zeros-from .result) (c .loop .k) l (c .before .zeros-from .ensures .1)
+zeros : (c : tie.At-loop Inv-loop μ-loop) → c .before .zeros-from .result ≤ c .loop .k → T (all isZero (drop (c .loop .k) (start c .args .levels .now)))
+zeros c l = zeros-on (start c .args .levels .now) (c .before .zeros-from .result) (c .loop .k) l (ends c .1)
 
 -- where a turn has found a level, and where one has found a coefficient
 abbrev at-loop : tie.Else1 Inv-loop μ-loop → tie.At-loop Inv-loop μ-loop
@@ -38,27 +40,27 @@ loop-holds : tie.Need-loop-holds Inv-loop μ-loop
 loop-holds c = coded-begin _ _ _ _ _ (c .before .before .before .pre .near)
 
 shared-slice-read-code : tie.Need-shared-slice-read-code Inv-loop μ-loop
-shared-slice-read-code c = omega (arith, start (c .before .before) .pre .long, c .before .loop-test .taken, ends (c .before .before))
+shared-slice-read-code c = omega (arith, start (c .before .before) .pre .long, c .before .loop-test .taken, ends (c .before .before) .0)
 
 add-run : tie.Need-add-run Inv-loop μ-loop
-add-run c = omega (arith, c .before .before .before .loop .inv .low, c .before .before .loop-test .taken, ends (c .before .before .before))
+add-run c = omega (arith, c .before .before .before .loop .inv .low, c .before .before .loop-test .taken, ends (c .before .before .before) .0)
 
 loop-again : tie.Need-loop-again Inv-loop μ-loop
-loop-again c = let l = c .before .before .before in coded-zero (l .loop .inv) (start l .pre .long) (omega (arith, c .before .before .loop-test .taken, ends l)) (c .if1 .taken)
+loop-again c = let l = c .before .before .before in coded-zero (l .loop .inv) (start l .pre .long) (omega (arith, c .before .before .loop-test .taken, ends l .0)) (c .if1 .taken)
 
 coefficient-codeword-requires : tie.Need-coefficient-codeword-requires Inv-loop μ-loop
 coefficient-codeword-requires c κs =
-    let l = at-loop c in (start l .pre .tables, coded-sendable (l .loop .inv) (start l .pre .long) (omega (arith, c .before .before .loop-test .taken, ends l)) (c .if1 .left) (start l .pre .allowed))
+    let l = at-loop c in (start l .pre .tables, coded-sendable (l .loop .inv) (start l .pre .long) (omega (arith, c .before .before .loop-test .taken, ends l .0)) (c .if1 .left) (start l .pre .allowed))
 
 append-requires : tie.Need-append-requires Inv-loop μ-loop
 append-requires c κs =
     let e = c .before .before in let l = at-loop e in
-    word-ready (c .before .coefficient-codeword .ensures) (coded-counts (l .loop .inv) (start l .pre .long) (omega (arith, e .before .before .loop-test .taken, ends l)) (e .if1 .left) (start l .pre .counts))
+    word-ready (c .before .coefficient-codeword .ensures) (coded-counts (l .loop .inv) (start l .pre .long) (omega (arith, e .before .before .loop-test .taken, ends l .0)) (e .if1 .left) (start l .pre .counts))
 
 loop-again-2 : tie.Need-loop-again-2 Inv-loop μ-loop
 loop-again-2 c =
     let w = c .before .before .before .before in let e = w .before in let l = at-loop e in
-    coded-more (l .loop .inv) (start l .pre .long) (omega (arith, e .before .before .loop-test .taken, ends l)) (e .if1 .left) (word-wrote (w .coefficient-codeword .ensures) (c .before .before .append .ensures))
+    coded-more (l .loop .inv) (start l .pre .long) (omega (arith, e .before .before .loop-test .taken, ends l .0)) (e .if1 .left) (word-wrote (w .coefficient-codeword .ensures) (c .before .before .append .ensures))
 
 same-length : tie.Need-same-length Inv-loop μ-loop
 same-length c = wrote-long (c .before .before .loop .inv .wrote)

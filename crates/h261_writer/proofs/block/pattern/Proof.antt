@@ -3,7 +3,7 @@ use native.Mathlib.Omega.{arith}
 use borrow.Author.Needs.{needs}
 use Prim.Native.Nat.{_≤_}
 use Rattle.layout.specs.Flat.{gathers}
-use Rattle.h261_writer.specs.Write.{patternOf}
+use Rattle.layout.specs.Pattern.{patternOf}
 use Rattle.h261_writer.proofs.BlockTurn.{pattern-low, pattern-is}
 use Rattle.h261_writer.proofs.block.pattern.Statement.{statement}
 use Rattle.h261_writer.proofs.block.pattern.Tie as tie

@@ -1,7 +1,7 @@
 -- `group::group` meets its contract: the fields one after another, then the macroblocks.
 use native.Mathlib.Omega.{arith}
-use Rattle.bits.proofs.Appended.{wrote-long, first-part, second-part, third-part, fourth-part, fifth-part}
-use Rattle.h261_writer.proofs.GroupTurn.{group-parts, number-fits, gquant-fits, fixed-fits, macroblocks-asked, group-whole}
+use Rattle.bits.proofs.Appended.{wrote-long, first-part, second-part, third-part, fourth-part, fifth-part, fixed-fits}
+use Rattle.h261_writer.proofs.GroupTurn.{group-parts, number-fits, gquant-fits, macroblocks-asked, group-whole}
 use Rattle.h261_writer.proofs.group.group.Statement.{statement}
 use Rattle.h261_writer.proofs.group.group.Tie as tie
 

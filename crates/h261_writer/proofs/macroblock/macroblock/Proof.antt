@@ -2,7 +2,7 @@
 use native.Mathlib.Omega.{arith}
 use borrow.Author.Needs.{needs}
 use Rattle.bits.proofs.Appended.{wrote-long, first-part, second-part, third-part, fourth-part, fifth-part, sixth-part}
-use Rattle.h261_words.proofs.Codewords.{word-ready, word-wrote}
+use Rattle.bits.proofs.Codewords.{word-ready, word-wrote}
 use Rattle.h261_writer.proofs.MacroblockSteps.{macroblock-parts, address-asked, type-asked, vector-asked, pattern-asked, blocks-asked, macroblock-whole}
 use Rattle.h261_writer.proofs.macroblock.macroblock.Statement.{statement}
 use Rattle.h261_writer.proofs.macroblock.macroblock.Tie as tie

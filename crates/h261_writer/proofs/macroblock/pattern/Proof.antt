@@ -3,13 +3,13 @@ use mathlib.Core.Path.{_≡_, sym, ap, _∙_}
 use mathlib.Core.Bool.{true}
 use borrow.Author.Needs.{needs}
 use Rattle.bits.specs.Code.{wordOf}
-use Rattle.bits.proofs.Appended.{wrote-as}
+use Rattle.bits.proofs.Appended.{wrote-as, left-out, sent-wrote}
 use Rattle.h261_words.specs.Tables.{table4}
 use Rattle.h261_words.specs.Words.{hasCBP}
-use Rattle.h261_words.proofs.Codewords.{word-ready, word-wrote}
+use Rattle.bits.proofs.Codewords.{word-ready, word-wrote}
 use Rattle.layout.specs.Flat.{gathers}
-use Rattle.h261_writer.specs.Write.{patternOf}
-use Rattle.h261_writer.proofs.MacroblockSteps.{left-out, sent-wrote, pattern-word-asked, pattern-counts}
+use Rattle.layout.specs.Pattern.{patternOf}
+use Rattle.h261_writer.proofs.MacroblockSteps.{pattern-word-asked, pattern-counts}
 use Rattle.h261_writer.proofs.macroblock.pattern.Statement.{statement}
 use Rattle.h261_writer.proofs.macroblock.pattern.Tie as tie
 

@@ -2,7 +2,8 @@
 use mathlib.Core.Path.{sym, _∙_}
 use borrow.Author.Needs.{needs}
 use Rattle.bits.specs.Bits.{bitsOf}
-use Rattle.h261_writer.proofs.MacroblockSteps.{left-out, sent-counts, sent-wrote, quantiser-fits}
+use Rattle.bits.proofs.Appended.{left-out, sent-counts, sent-wrote}
+use Rattle.h261_writer.proofs.MacroblockSteps.{quantiser-fits}
 use Rattle.h261_writer.proofs.macroblock.quantiser.Statement.{statement}
 use Rattle.h261_writer.proofs.macroblock.quantiser.Tie as tie
 

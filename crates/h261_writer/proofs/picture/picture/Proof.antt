@@ -2,8 +2,8 @@
 use mathlib.Core.Path.{refl}
 use native.Mathlib.Omega.{arith}
 use borrow.Author.Needs.{needs}
-use Rattle.bits.proofs.Appended.{wrote-long, first-part, second-part, third-part, fourth-part, fifth-part}
-use Rattle.h261_writer.proofs.GroupTurn.{Described, valid-has, format-bit, fixed-fits, head-fits, ptype-fits, picture-parts, picture-whole}
+use Rattle.bits.proofs.Appended.{wrote-long, first-part, second-part, third-part, fourth-part, fifth-part, fixed-fits}
+use Rattle.h261_writer.proofs.GroupTurn.{Described, valid-has, format-bit, head-fits, ptype-fits, picture-parts, picture-whole}
 use Rattle.h261_writer.proofs.picture.picture.Statement.{statement}
 use Rattle.h261_writer.proofs.picture.picture.Tie as tie
 

@@ -5,7 +5,7 @@ use borrow.Author.Needs.{needs}
 use Rattle.bits.specs.Code.{wordOf}
 use Rattle.bits.proofs.Appended.{wrote-as}
 use Rattle.h261_words.specs.Tables.{table3}
-use Rattle.h261_words.proofs.Codewords.{word-ready, word-wrote}
+use Rattle.bits.proofs.Codewords.{word-ready, word-wrote}
 use Rattle.h261_writer.proofs.MacroblockSteps.{difference, difference-counts}
 use Rattle.h261_writer.proofs.vector.component.Statement.{statement}
 use Rattle.h261_writer.proofs.vector.component.Tie as tie

@@ -8,7 +8,8 @@ use Rattle.layout.specs.Flat.{byteVector}
 use Rattle.h261_description.specs.Vector.{preceding}
 use Rattle.h261_writer.specs.Write.{vectorBits}
 use Rattle.h261_writer.specs.Sound.{beforeIn}
-use Rattle.h261_writer.proofs.MacroblockSteps.{left-out, zero-asked, own-asked, zero-wrote, own-wrote}
+use Rattle.bits.proofs.Appended.{left-out}
+use Rattle.h261_writer.proofs.MacroblockSteps.{zero-asked, own-asked, zero-wrote, own-wrote}
 use Rattle.h261_writer.proofs.vector.vector.Statement.{statement}
 use Rattle.h261_writer.proofs.vector.vector.Tie as tie
 

@@ -1,0 +1,14 @@
+pub mod Groups
+pub mod OneOf
+pub mod Parts
+pub mod Levels
+pub mod Moved
+pub mod ValidAt
+pub mod Quantiser
+pub mod Described
+pub mod LaidOut
+pub mod Pictured
+pub mod Relaid
+pub mod Landing
+pub mod Predictor
+pub mod Kept

@@ -1,0 +1,10 @@
+pub mod Vector
+pub mod Landing
+pub mod Value
+pub mod Fields
+pub mod Valid
+pub mod Proper
+pub mod Pictured
+pub mod Relaid
+pub mod Moved
+pub mod Kept

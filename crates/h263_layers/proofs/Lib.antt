@@ -1,0 +1,5 @@
+pub mod StartLaws
+pub mod Layers
+pub mod EventsTurn
+pub mod BlockSteps
+pub mod BlocksTurn

@@ -1,0 +1,5 @@
+pub mod Vector
+pub mod Start
+pub mod Grammar
+pub mod Answer
+pub mod Ready

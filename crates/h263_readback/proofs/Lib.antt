@@ -1,0 +1,12 @@
+pub mod Words
+pub mod Blocks
+pub mod Vectors
+pub mod Macroblocks
+pub mod Slots
+pub mod Rows
+pub mod Pictures
+pub mod ReadBack
+pub mod Logic
+pub mod Layers
+pub mod Verdicts
+pub mod Range

@@ -1,0 +1,5 @@
+pub mod Place
+pub mod Predicted
+pub mod Picture
+pub mod Rendered
+pub mod Reference

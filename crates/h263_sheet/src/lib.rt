@@ -1,0 +1,1 @@
+// Theorems alone: the proof sheet of H.263. Assumes nothing.

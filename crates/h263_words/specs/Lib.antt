@@ -1,0 +1,5 @@
+pub mod Tables
+pub mod Words
+pub mod Answer
+pub mod Lookup
+pub mod Asked

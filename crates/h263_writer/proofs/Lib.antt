@@ -1,0 +1,6 @@
+pub mod Longest
+pub mod BlockTurn
+pub mod MacroblockSteps
+pub mod RowTurn
+pub mod GroupTurn
+pub mod WriteSteps

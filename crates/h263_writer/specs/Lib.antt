@@ -1,0 +1,4 @@
+pub mod Write
+pub mod Sound
+pub mod Asked
+pub mod Output

@@ -1,0 +1,289 @@
+// Says how much reading the pictures of the blocks on standard input cause: `reads SIZE` or `reads SIZE CLIP`, with SIZE qcif or cif and CLIP from 1 to 65535.
+//
+// A line for each picture that was read, with the number of the block that ended it, the picture or its refusal, its bits and how many fields and codewords were read of
+// them; a short last block's line, and how the clip's receiver stands at the end, as the lister has them. A picture of N bits causes at most N + 1 reads. Without a clip the
+// first good block chooses it, and standard error says which; with one, another clip's blocks are refused by 23. The status is the lister's.
+//
+//     ./pagesorrel reads qcif 7 < clip.blocks
+use account::End;
+use account::blocks::Met;
+use arguments::ClipWord;
+use arguments::FormatWord;
+use coding::Kind;
+use counting::Ending;
+use libc::STDERR_FILENO;
+use libc::STDOUT_FILENO;
+use listing::Clip;
+use standing::Answer;
+use standing::Opened;
+
+// Whether there is more to do, and if not, why.
+enum Going {
+    On,
+    Ended,
+    Unread,
+    Unwritten,
+}
+
+// After a turn: whether there is more to do, the clip, and what was met so far.
+struct Turn {
+    going: Going,
+    clip: Clip,
+    met: Met,
+}
+
+// ---- what is said
+
+fn say_chosen(n: u64, clip: u16) {
+    let mut text = [0u8; 128];
+    let count = account::remarks::chosen(n, clip, &mut text);
+    io::write_all(STDERR_FILENO, &text[..count]);
+}
+
+// Where no clip was asked for, the block that chose it.
+fn choose(n: u64, before: Clip, after: Clip) {
+    match before {
+        Clip::Known(_) => {}
+        Clip::Unknown => match after {
+            Clip::Known(receiver) => say_chosen(n, receiver.clip),
+            Clip::Unknown => {}
+        },
+    }
+}
+
+// Where the block ended a picture, its line; whether it was written.
+fn say(n: u64, kind: Kind, answer: Answer, ending: Ending, collection: &[u8]) -> bool {
+    match ending {
+        Ending::Nothing => true,
+        Ending::Picture(bits) => {
+            let reads = counting::reads(kind, collection, bits);
+            let mut text = [0u8; 256];
+            let count = counting::line(n, answer, bits, reads, &mut text);
+            io::write_all(STDOUT_FILENO, &text[..count])
+        }
+    }
+}
+
+// ---- a block
+
+fn written(all: bool, clip: Clip, met: Met) -> Turn {
+    if all {
+        return Turn {
+            going: Going::On,
+            clip,
+            met,
+        };
+    }
+    Turn {
+        going: Going::Unwritten,
+        clip,
+        met,
+    }
+}
+
+fn whole(
+    n: u64,
+    kind: Kind,
+    clip: Clip,
+    met: Met,
+    block: &[u8; 512],
+    collection: &mut [u8],
+    first: &mut [u8],
+    second: &mut [u8],
+) -> Turn {
+    let ending = counting::ended(kind, clip, block, collection, first, second);
+    let listed = listing::list(kind, clip, block, collection, first, second);
+    let answer = listed.answer;
+    let next = listed.next;
+    choose(n, clip, next);
+    let all = say(n, kind, answer, ending, collection);
+    written(all, next, account::blocks::after(met, answer))
+}
+
+fn short(n: u64, clip: Clip, met: Met) -> Turn {
+    let mut text = [0u8; 128];
+    let count = listing::short(n, &mut text);
+    if io::write_all(STDOUT_FILENO, &text[..count]) {
+        return Turn {
+            going: Going::Ended,
+            clip,
+            met: account::blocks::short(met),
+        };
+    }
+    Turn {
+        going: Going::Unwritten,
+        clip,
+        met,
+    }
+}
+
+fn one(
+    n: u64,
+    kind: Kind,
+    clip: Clip,
+    met: Met,
+    collection: &mut [u8],
+    first: &mut [u8],
+    second: &mut [u8],
+) -> Turn {
+    let mut block = [0u8; 512];
+    let filled = account::input::fill(&mut block);
+    if filled.failed {
+        return Turn {
+            going: Going::Unread,
+            clip,
+            met,
+        };
+    }
+    if filled.count == 512 {
+        return whole(n, kind, clip, met, &block, collection, first, second);
+    }
+    if 0 < filled.count {
+        return short(n, clip, met);
+    }
+    Turn {
+        going: Going::Ended,
+        clip,
+        met,
+    }
+}
+
+// ---- the end
+
+fn unread() -> End {
+    os::fail(b"reads: the input could not be read");
+    End::Unread
+}
+
+fn unwritten() -> End {
+    os::fail(b"reads: a line could not be written");
+    End::Unwritten
+}
+
+fn end(clip: Clip, met: Met) -> End {
+    let mut text = [0u8; 128];
+    let count = listing::end(clip, &mut text);
+    if io::write_all(STDOUT_FILENO, &text[..count]) {
+        return account::blocks::end(met);
+    }
+    unwritten()
+}
+
+fn finish(going: Going, clip: Clip, met: Met) -> End {
+    match going {
+        Going::Unread => unread(),
+        Going::Unwritten => unwritten(),
+        _ => end(clip, met),
+    }
+}
+
+fn goes_on(going: Going) -> bool {
+    match going {
+        Going::On => true,
+        _ => false,
+    }
+}
+
+// Nothing says that the input ends, so the loop counts its turns.
+fn all(
+    kind: Kind,
+    opened: Clip,
+    collection: &mut [u8],
+    first: &mut [u8],
+    second: &mut [u8],
+) -> End {
+    let mut clip = opened;
+    let mut met = account::blocks::open();
+    let mut going = Going::On;
+    let mut n: u64 = 0;
+    while n < 18446744073709551615 && goes_on(going) {
+        let turn = one(n, kind, clip, met, collection, first, second);
+        clip = turn.clip;
+        met = turn.met;
+        going = turn.going;
+        n += 1;
+    }
+    finish(going, clip, met)
+}
+
+fn qcif(clip: Clip) -> End {
+    let mut collection = [0u8; 8500];
+    let mut first = [0u8; 38016];
+    let mut second = [0u8; 38016];
+    all(
+        Kind::H261Qcif,
+        clip,
+        &mut collection,
+        &mut first,
+        &mut second,
+    )
+}
+
+fn cif(clip: Clip) -> End {
+    let mut collection = [0u8; 33000];
+    let mut first = [0u8; 152064];
+    let mut second = [0u8; 152064];
+    all(
+        Kind::H261Cif,
+        clip,
+        &mut collection,
+        &mut first,
+        &mut second,
+    )
+}
+
+// ---- the words
+
+fn usage() -> End {
+    io::write_all(
+        STDERR_FILENO,
+        b"usage: reads qcif|cif [CLIP] < BLOCKS, with CLIP from 1 to 65535\n",
+    );
+    End::Misnamed
+}
+
+fn run(kind: Kind, clip: Clip) -> End {
+    match kind {
+        Kind::H261Qcif => qcif(clip),
+        Kind::H261Cif => cif(clip),
+    }
+}
+
+fn of_clip(kind: Kind, word: &[u8]) -> End {
+    match arguments::clip_named(word) {
+        ClipWord::Names(clip) => match standing::open(clip, kind) {
+            Opened::Open(receiver) => run(kind, Clip::Known(receiver)),
+            Opened::Refused(_) => usage(),
+        },
+        ClipWord::Other => usage(),
+    }
+}
+
+fn of_size(count: usize, size: &[u8], clip: &[u8]) -> End {
+    match arguments::format_named(size) {
+        FormatWord::Names(format) => {
+            let kind = coding::kind_of(format);
+            if count == 2 {
+                return run(kind, Clip::Unknown);
+            }
+            of_clip(kind, clip)
+        }
+        FormatWord::Other => usage(),
+    }
+}
+
+// How many words there are, the program's own name among them, and the two after it.
+fn of_words(count: usize, size: &[u8], clip: &[u8]) -> End {
+    if 2 <= count && count <= 3 {
+        return of_size(count, size, clip);
+    }
+    usage()
+}
+
+fn main() {
+    let mut size = [0u8; 16];
+    let mut clip = [0u8; 16];
+    let sizes = os::arg(1, &mut size);
+    let clips = os::arg(2, &mut clip);
+    account::tell(of_words(os::arg_count(), &size[..sizes], &clip[..clips]));
+}
