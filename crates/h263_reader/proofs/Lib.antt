@@ -1,3 +1,4 @@
 pub mod Vectors
 pub mod RowTurn
 pub mod PictureTurn
+pub mod ParseSteps

@@ -5,12 +5,12 @@ use mathlib.Core.Bool.{Bool, true, false}
 use mathlib.Core.List.{List, [], _++_}
 use native.Mathlib.Omega.{arith}
 use native.Mathlib.Nat.{le-antisymm}
-use lib.Dec.{T, leb, eqb, leb→le, eqb→eq, lit≤}
+use lib.Dec.{leb, leb→le, lit≤}
 use lib.ListN.{length, set, replicate, drop, length-set, length-replicate, drop-of-length-le}
 use lib.Seq.{sets, length-sets}
 use denote.Enum.Declared.{tagOf}
-use Rattle.laws.specs.Choice.{pick, either}
 use Rattle.laws.proofs.Choice.{both-right}
+use Rattle.laws.proofs.Rows.{rows-in}
 use Rattle.bits.specs.Bits.{bitsLeft}
 use Rattle.bits.specs.Places.{counted}
 use Rattle.bits.specs.Read.{ReadIn, got, refused}
@@ -24,11 +24,11 @@ use Rattle.fields.proofs.PlaceRead.{the-type as place-type}
 use Rattle.fields.proofs.Meaning.{was-got, was-refused, onward}
 use Rattle.fields.proofs.Told.{within-next, no-place, is-place}
 use Rattle.size.specs.declared.Size.{Size}
+use Rattle.size.specs.declared.Size.the-variants.{SubQcif, Qcif, Cif}
 use Rattle.size.specs.Place.{macroblocksAcross, macroblocksDown}
 use Rattle.layout.specs.Value.{Vector, zeroVector, Macroblock}
 use Rattle.layout.specs.Flat.{Flat, flat, index, fieldsOf, putBlocks, putGroups}
-use Rattle.layout.specs.Numbers.{within}
-use Rattle.h263_words.specs.Words.{isIntra, typeIn}
+use Rattle.h263_words.specs.Words.{typeIn}
 use Rattle.h263_description.specs.declared.predicted.Kept.{Kept}
 use Rattle.h263_description.specs.Vector.{vectorsOf, predictor}
 use Rattle.h263_description.specs.Value.{shape, groupNumbers, headLength, macroblocksLength, levelsLength}
@@ -36,6 +36,7 @@ use Rattle.h263_description.specs.Fields.{stands}
 use Rattle.h263_description.specs.Kept.{keptVector, vectorsIn, firstVectors, PredictorAsked}
 use Rattle.h263_description.specs.Proper.{ProperGquant, ProperMacroblock}
 use Rattle.h263_description.proofs.Groups.{groups-listed}
+use Rattle.h263_description.proofs.Parts.{intra-type}
 use Rattle.h263_layers.specs.Answer.{vectorKept, openedOf, asOpened, Sent, sentIn, putSent}
 use Rattle.h263_layers.specs.Ready.{MacroblockReady}
 use Rattle.h263_layers.specs.Grammar.{unsent, coded, macroblock, Opened, opened, groupsRead}
@@ -56,18 +57,31 @@ gquant-low zero gquant h = omega arith
 gquant-low (suc number) gquant h = h
 
 -- a kind whose type may stand is below 24
+type-low : (intra : Bool) (type : ℕ) → Typed intra type → type ≤ 4
+type-low true type t = let l = intra-type type t .1 in omega arith
+type-low false type t = leb→le type 4 (both-right (leb 1 type) (leb type 4) t)
+
 kind-low : (intra : Bool) (kind : ℕ) → Typed intra (typeIn kind) → kind ≤ 23
-kind-low true kind t = from (eqb (typeIn kind) 1) (eqb (typeIn kind) 2) (eqb→eq (typeIn kind) 1) (eqb→eq (typeIn kind) 2) t
-  where
-    from : (a b : Bool) → (T a → typeIn kind ≡ 1) → (T b → typeIn kind ≡ 2) → T (either a b) → kind ≤ 23
-    from true b f g h = let e = f tt in omega arith
-    from false true f g h = let e = g tt in omega arith
-    from false false f g h = absurd h
-kind-low false kind t = let l = leb→le (typeIn kind) 4 (both-right (leb 1 (typeIn kind)) (leb (typeIn kind) 4) t) in omega arith
+kind-low intra kind t = let l = type-low intra (typeIn kind) t in omega arith
 
 -- the number of the macroblock in a column of a row
 abbrev numberIn : Size → ℕ → ℕ → ℕ
 numberIn size number column = number * macroblocksAcross size + column
+
+count-most : (size : Size) → macroblocksDown size * macroblocksAcross size ≤ 396
+count-most SubQcif = lit≤ tt
+count-most Qcif = lit≤ tt
+count-most Cif = lit≤ tt
+
+-- the code's own numbers of the size
+pub below : (k all c : ℕ) → k < all → all ≡ c → k < c
+below k all c l e = omega arith
+
+pub number-low : (size : Size) (number column across : ℕ) → number < macroblocksDown size → column < macroblocksAcross size → across ≡ macroblocksAcross size → number * across + column < 396
+number-low size number column across l c e =
+    let inside = rows-in (macroblocksDown size) (macroblocksAcross size) number column l c in
+    let same : number * across ≡ number * macroblocksAcross size = ap (λ (w : ℕ). number * w) e in
+    omega (arith, count-most size)
 
 -- ---- inside a group: the columns from this one on are to come
 pub record InRow (start : ReadIn counted Flat) (s : List ℕ) (n : ℕ) (size : Size) (intra : Bool) (number : ℕ) (head ms ls : List ℕ) (gquant column : ℕ) (p : Place) : Type 0 where
@@ -124,18 +138,21 @@ module _ {start : ReadIn counted Flat} {s : List ℕ} {n : ℕ} {size : Size} {i
               ∙ ap (λ (vs : List Vector). rowOn size intra number (some .0) (column + 1 + 1) q (flat head ms ls) vs (bitsLeft s n (z .bit)) z) (vectors-unsent (h .laid) following);
         }
 
-    -- ---- one that is sent
-    module _ (q kind : ℕ) (z : Place) (e : r ≡ Coded q kind z) (l : number < macroblocksDown size) where
+    -- ---- one that is sent; the code has its own number of macroblocks across
+    module _ (q kind : ℕ) (z : Place) (e : r ≡ Coded q kind z) (l : number < macroblocksDown size) {across : ℕ} (ae : across ≡ macroblocksAcross size) where
       led : Placed s n z × OpenedGood intra number (openedOf q (coded kind))
       led = slot-led (openedOf q (coded kind)) z (is-found (Coded q kind z) e)
 
       pub slot-placed : Placed s n z
       slot-placed = led .0
 
-      pub row-asked : PredictorAsked ms (macroblocksAcross size) (numberIn size number column) column
-      row-asked = predictor-asked (h .laid) number column refl l c
+      pub row-asked : PredictorAsked ms across (number * across + column) column
+      row-asked = subst (λ (w : ℕ). PredictorAsked ms w (number * w + column) column) (sym ae) (predictor-asked (h .laid) number column refl l c)
 
-      module _ (headed : Bool) (he : headed ≡ stands q) (predicted : Kept) (is : predicted ≡ keptVector (predictor (macroblocksAcross size) headed (vectorsIn ms) (numberIn size number column))) where
+      module _ (headed : Bool) (he : headed ≡ stands q) (predicted : Kept) (kept : predicted ≡ keptVector (predictor across headed (vectorsIn ms) (number * across + column))) where
+        is : predicted ≡ keptVector (predictor (macroblocksAcross size) headed (vectorsIn ms) (numberIn size number column))
+        is = kept ∙ ap (λ (w : ℕ). keptVector (predictor w headed (vectorsIn ms) (number * w + column))) ae
+
         pub macroblock-ready : MacroblockReady size number (column + 1) predicted kind ms ls
         macroblock-ready =
             let low = predicted-low (h .laid) number column refl l c headed is in
@@ -273,7 +290,9 @@ module _ {start : ReadIn counted Flat} {s : List ℕ} {n : ℕ} {size : Size} {i
 
   pub picture-done : macroblocksDown size ≤ number → got (flat head ms ls) (bitsLeft s n (p .bit)) p ≡ start
   picture-done l =
-      sym (h .same ∙ groups-none size intra number (flat head ms ls) (firstVectors ms (number * macroblocksAcross size)) (bitsLeft s n (p .bit)) p (drop-of-length-le (groupNumbers size) (omega (arith, groups-listed size))))
+      let all : length (groupNumbers size) ≤ number = omega (arith, groups-listed size) in
+      let past : drop number (groupNumbers size) ≡ [] = drop-of-length-le (groupNumbers size) all in
+      sym (h .same ∙ groups-none size intra number (flat head ms ls) (firstVectors ms (number * macroblocksAcross size)) (bitsLeft s n (p .bit)) p past)
 
 -- ---- where the ways out meet: a refusal with groups left, or all groups
 pub record Left (start : ReadIn counted Flat) (s : List ℕ) (n : ℕ) (size : Size) (number : ℕ) (head₀ ms₀ ls₀ head ms ls : List ℕ) (p : Place) (r : Stopped) : Type 0 where

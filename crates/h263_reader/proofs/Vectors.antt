@@ -6,9 +6,9 @@ use mathlib.Core.Logic.{_⊎_, inl, inr}
 use mathlib.Core.List.{List, [], _∷_, _++_}
 use native.Mathlib.Omega.{arith}
 use native.Mathlib.Nat.{mod-eq-of-lt, mul-add-mod-self-right}
+use lib.Dec.{lit<}
 use lib.ListN.{length, getD, set, replicate, length-set}
 use lib.Seq.{sets, getD-set-same, getD-set-other, length-sets}
-use lib.IntN.{ℤ}
 use Rattle.laws.proofs.Rows.{lt-or-ge, rows-less}
 use Rattle.size.specs.declared.Size.{Size}
 use Rattle.size.specs.Place.{macroblocksAcross, macroblocksDown}
@@ -35,7 +35,7 @@ pub record LaidSoFar (size : Size) (ms ls : List ℕ) (n : ℕ) : Type 0 where
   pub ranged : (k : ℕ) → Ranged (vectorsIn ms k)
   pub later : (k : ℕ) → n ≤ k → vectorsIn ms k ≡ zeroVector
 
-zeros-at : (m k : ℕ) → getD (replicate m 0) k 0 ≡ 0
+zeros-at : (m k : ℕ) → getD {A = ℕ} (replicate m 0) k 0 ≡ 0
 zeros-at zero k = refl
 zeros-at (suc m) zero = refl
 zeros-at (suc m) (suc k) = zeros-at m k
@@ -53,39 +53,60 @@ laid-none size ms ls e lm ll = record {
   later = λ k h. blank-vector ms (macroblocksLength size) k e;
 }
 
--- ---- a macroblock's four bytes, stored
+-- ---- four bytes, stored one after the other
+module _ (l : List ℕ) (i a b c d : ℕ) where
+  abbrev one : List ℕ
+  one = set l i a
+
+  abbrev two : List ℕ
+  two = set one (suc i) b
+
+  abbrev three : List ℕ
+  three = set two (suc (suc i)) c
+
+  two-long : length two ≡ length l
+  two-long = length-set one (suc i) b ∙ length-set l i a
+
+  three-long : length three ≡ length l
+  three-long = length-set two (suc (suc i)) c ∙ two-long
+
+  other-byte : (j : ℕ) → (j ≡ i → ⊥) → (j ≡ suc i → ⊥) → (j ≡ suc (suc i) → ⊥) → (j ≡ suc (suc (suc i)) → ⊥) → getD (sets l i (a ∷ b ∷ c ∷ d ∷ [])) j 0 ≡ getD l j 0
+  other-byte j e f g h =
+      getD-set-other three (suc (suc (suc i))) j d 0 h ∙ getD-set-other two (suc (suc i)) j c 0 g ∙ getD-set-other one (suc i) j b 0 f ∙ getD-set-other l i j a 0 e
+
+  third-byte : i + 4 ≤ length l → getD (sets l i (a ∷ b ∷ c ∷ d ∷ [])) (suc (suc i)) 0 ≡ c
+  third-byte room =
+      getD-set-other three (suc (suc (suc i))) (suc (suc i)) d 0 (λ e. omega arith) ∙ getD-set-same two (suc (suc i)) c 0 (omega (arith, two-long))
+
+  fourth-byte : i + 4 ≤ length l → getD (sets l i (a ∷ b ∷ c ∷ d ∷ [])) (suc (suc (suc i))) 0 ≡ d
+  fourth-byte room = getD-set-same three (suc (suc (suc i))) d 0 (omega (arith, three-long))
+
+-- ---- a macroblock's
 module _ (ms : List ℕ) (n : ℕ) (m : Macroblock) where
   abbrev stored : List ℕ
   stored = sets ms (n * 4) (fieldsOf m)
 
-  other-byte : (j : ℕ) → (j ≡ n * 4 → ⊥) → (j ≡ suc (n * 4) → ⊥) → (j ≡ suc (suc (n * 4)) → ⊥) → (j ≡ suc (suc (suc (n * 4))) → ⊥) → getD stored j 0 ≡ getD ms j 0
-  other-byte j a b c d =
-      getD-set-other _ (suc (suc (suc (n * 4)))) j _ 0 d ∙ getD-set-other _ (suc (suc (n * 4))) j _ 0 c ∙ getD-set-other _ (suc (n * 4)) j _ 0 b ∙ getD-set-other ms (n * 4) j _ 0 a
-
   pub vector-other : (k : ℕ) → (k ≡ n → ⊥) → vectorsIn stored k ≡ vectorsIn ms k
-  vector-other k f =
-      let far : (j a b : ℕ) → a < 4 → b < 4 → k * 4 + a ≡ n * 4 + b → ⊥ = λ j a b la lb e. f (omega arith) in
-      let h = other-byte (k * 4 + 2) (λ e. far 0 2 0 (omega arith) (omega arith) (omega arith)) (λ e. far 0 2 1 (omega arith) (omega arith) (omega arith))
-      (λ e. far 0 2 2 (omega arith) (omega arith) (omega arith)) (λ e. far 0 2 3 (omega arith) (omega arith) (omega arith)) in
-      let v = other-byte (k * 4 + 3) (λ e. far 0 3 0 (omega arith) (omega arith) (omega arith)) (λ e. far 0 3 1 (omega arith) (omega arith) (omega arith))
-      (λ e. far 0 3 2 (omega arith) (omega arith) (omega arith)) (λ e. far 0 3 3 (omega arith) (omega arith) (omega arith)) in
-      λ i. record { horizontal = numberOf (h i); vertical = numberOf (v i) }
+  vector-other k f = λ i. record { horizontal = numberOf (at 2 (lit< tt) i); vertical = numberOf (at 3 (lit< tt) i) }
+    where
+      far : (j b : ℕ) → j < 4 → b < 4 → k * 4 + j ≡ n * 4 + b → ⊥
+      far j b l h e = f (omega arith)
+
+      at : (j : ℕ) → j < 4 → getD stored (k * 4 + j) 0 ≡ getD ms (k * 4 + j) 0
+      at j l =
+          other-byte ms (n * 4) (m .type) (m .quant) (byteOf (m .vector .horizontal)) (byteOf (m .vector .vertical)) (k * 4 + j) (λ e. far j 0 l (lit< tt) (omega arith))
+          (λ e. far j 1 l (lit< tt) (omega arith)) (λ e. far j 2 l (lit< tt) (omega arith)) (λ e. far j 3 l (lit< tt) (omega arith))
 
   module _ (room : n * 4 + 4 ≤ length ms) where
     across-byte : getD stored (n * 4 + 2) 0 ≡ byteOf (m .vector .horizontal)
     across-byte =
         let at : n * 4 + 2 ≡ suc (suc (n * 4)) = omega arith in
-        let before : List ℕ = set (set ms (n * 4) (m .type)) (suc (n * 4)) (m .quant) in
-        let long : length before ≡ length ms = length-set _ (suc (n * 4)) (m .quant) ∙ length-set ms (n * 4) (m .type) in
-        ap (λ (j : ℕ). getD stored j 0) at ∙ getD-set-other _ (suc (suc (suc (n * 4)))) (suc (suc (n * 4))) _ 0 (λ e. omega arith)
-        ∙ getD-set-same before (suc (suc (n * 4))) _ 0 (omega arith)
+        ap (λ (j : ℕ). getD stored j 0) at ∙ third-byte ms (n * 4) (m .type) (m .quant) (byteOf (m .vector .horizontal)) (byteOf (m .vector .vertical)) room
 
     down-byte : getD stored (n * 4 + 3) 0 ≡ byteOf (m .vector .vertical)
     down-byte =
         let at : n * 4 + 3 ≡ suc (suc (suc (n * 4))) = omega arith in
-        let before : List ℕ = set (set (set ms (n * 4) (m .type)) (suc (n * 4)) (m .quant)) (suc (suc (n * 4))) (byteOf (m .vector .horizontal)) in
-        let long : length before ≡ length ms = length-set _ (suc (suc (n * 4))) _ ∙ length-set _ (suc (n * 4)) (m .quant) ∙ length-set ms (n * 4) (m .type) in
-        ap (λ (j : ℕ). getD stored j 0) at ∙ getD-set-same before (suc (suc (suc (n * 4)))) _ 0 (omega arith)
+        ap (λ (j : ℕ). getD stored j 0) at ∙ fourth-byte ms (n * 4) (m .type) (m .quant) (byteOf (m .vector .horizontal)) (byteOf (m .vector .vertical)) room
 
     module _ (size : Size) (intra : Bool) (number : ℕ) (p : ProperMacroblock size intra number m) where
       pub vector-own : vectorsIn stored n ≡ m .vector
@@ -155,12 +176,14 @@ module _ {size : Size} {ms ls : List ℕ} {n : ℕ} (h : LaidSoFar size ms ls n)
 
       pub predicted-low : (predicted .horizontal ≤ 63) × (predicted .vertical ≤ 63)
       predicted-low =
-          let a = residue-low _ (vector-ranged .horizontally) in
-          let b = residue-low _ (vector-ranged .vertically) in
+          let v = predictor across headed (vectorsIn ms) n in
+          let a = residue-low (v .horizontal) (vector-ranged .horizontally) in
+          let b = residue-low (v .vertical) (vector-ranged .vertically) in
           (omega (arith, a, ap (λ (k : Kept). k .horizontal) is), omega (arith, b, ap (λ (k : Kept). k .vertical) is))
 
       pub predicted-is : vectorKept predicted ≡ predictor across headed (vectorsOf (firstVectors ms n)) (length (firstVectors ms n))
       predicted-is =
+          let v = predictor across headed (vectorsIn ms) n in
           ap vectorKept is
-          ∙ (λ i. record { horizontal = component-residue _ (vector-ranged .horizontally) i; vertical = component-residue _ (vector-ranged .vertically) i })
+          ∙ (λ i. record { horizontal = component-residue (v .horizontal) (vector-ranged .horizontally) i; vertical = component-residue (v .vertical) (vector-ranged .vertically) i })
           ∙ sym (predictor-first across headed ms n (some-across size))
