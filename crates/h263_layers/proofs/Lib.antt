@@ -3,3 +3,4 @@ pub mod Layers
 pub mod EventsTurn
 pub mod BlockSteps
 pub mod BlocksTurn
+pub mod MacroblockSteps

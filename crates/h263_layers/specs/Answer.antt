@@ -61,7 +61,7 @@ asFound s n (CodedFound kind p) = got (slot (coded kind)) (bitsLeft s n (p .bit)
 asFound s n (NoFound r) = refused r
 
 abbrev pub openedOf : ℕ → Slot → Opened
-openedOf gquant slot = record { gquant = gquant; slot = slot }
+openedOf gquant s = record { gquant = gquant; slot = s }
 
 abbrev pub asOpened : List ℕ → ℕ → OpenedRead → ReadIn counted Opened
 asOpened s n (UnsentOpened gquant p) = got (openedOf gquant unsent) (bitsLeft s n (p .bit)) p

@@ -68,11 +68,15 @@ blocksRead intra (b ∷ pattern) = do
   done (block ∷ rest)
 
 -- ---- macroblocks
+-- DQUANT, in a byte of two's complement
+abbrev pub dquantRead : {P : Places} → ReaderIn P ℕ
+dquantRead = field 2 >>= λ x. done (dquantIn x)
+
 -- "Order: COD (INTER pictures), MCBPC, CBPY, DQUANT, MVD, blocks." COD and MCBPC are read; the pattern is CBPY's four bits, then CBPC's two
 unfoldable pub macroblock : {P : Places} → Size → ℕ → ℕ → Vector → ℕ → ReaderIn P Macroblock
 macroblock size number address predicted kind = do
   luminance ← word cbpy
-  dquant ← optional (hasDQUANT (typeIn kind)) 0 (field 2 >>= λ x. done (dquantIn x))
+  dquant ← optional (hasDQUANT (typeIn kind)) 0 dquantRead
   vector ← optional (isInter (typeIn kind)) zeroVector (vectorRead size number address predicted)
   blocks ← blocksRead (isIntra (typeIn kind)) (bitsOf 6 (turned (isIntra (typeIn kind)) luminance * 4 + chromaIn kind))
   done (record { address = address; type = typeIn kind; quant = dquant; vector = vector; blocks = blocks })
