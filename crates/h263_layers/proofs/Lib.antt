@@ -3,3 +3,5 @@ pub mod Layers
 pub mod EventsTurn
 pub mod BlockSteps
 pub mod BlocksTurn
+pub mod Told
+pub mod VectorSteps
