@@ -4,3 +4,5 @@ pub mod EventsTurn
 pub mod BlockSteps
 pub mod BlocksTurn
 pub mod MacroblockSteps
+pub mod Told
+pub mod VectorSteps

@@ -42,15 +42,18 @@ eventStopped reads (Event last run code p) = record { refusal = refusal BitsEnd 
 eventStopped reads (NoEvent r) = record { refusal = r; reads = reads }
 
 -- ---- vectors: the code keeps a component as 32 more than it is
+abbrev pub vectorOf : ℕ → ℕ → Vector
+vectorOf h v = record { horizontal = componentOf h; vertical = componentOf v }
+
 abbrev pub vectorKept : Kept → Vector
-vectorKept k = record { horizontal = componentOf (k .horizontal); vertical = componentOf (k .vertical) }
+vectorKept k = vectorOf (k .horizontal) (k .vertical)
 
 abbrev pub asComponent : List ℕ → ℕ → NumberRead → ReadIn counted ℤ
 asComponent s n (GotNumber x p) = got (componentOf x) (bitsLeft s n (p .bit)) p
 asComponent s n (NoNumber r) = refused r
 
 abbrev pub asVector : List ℕ → ℕ → PairRead → ReadIn counted Vector
-asVector s n (GotPair h v p) = got (record { horizontal = componentOf h; vertical = componentOf v }) (bitsLeft s n (p .bit)) p
+asVector s n (GotPair h v p) = got (vectorOf h v) (bitsLeft s n (p .bit)) p
 asVector s n (NoPair r) = refused r
 
 -- ---- macroblocks
