@@ -6,3 +6,5 @@ pub mod BlocksTurn
 pub mod MacroblockSteps
 pub mod Told
 pub mod VectorSteps
+pub mod OpenedTurn
+pub mod MacroblockWhole

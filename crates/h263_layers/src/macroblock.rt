@@ -156,14 +156,11 @@ pub fn opened(
     }
 }
 
-// DQUANT in a byte of two's complement, where the type has it; else 0.
-fn dquant(bytes: &[u8], count: usize, at: Place, kind: u8) -> NumberRead
+// DQUANT: the difference, in a byte of two's complement.
+fn difference(bytes: &[u8], count: usize, at: Place) -> NumberRead
     requires { ⌜ Placed (now bytes) count at ⌝ }
-    ensures { λ r. ⌜ asNumber (now (bytes .entry)) count r ≡ optional (hasDQUANT kind) 0 dquantRead (bitsLeft (now (bytes .entry)) count (at .bit)) at ⌝ }
+    ensures { λ r. ⌜ asNumber (now (bytes .entry)) count r ≡ dquantRead (bitsLeft (now (bytes .entry)) count (at .bit)) at ⌝ }
 {
-    if !has_dquant(kind) {
-        return NumberRead::Got(0, at);
-    }
     let read = once(at, field(bytes, count, at.bit, 2));
     let NumberRead::Got(code, next) = read else {
         return NumberRead::Refused(number_stopped(read));
@@ -172,6 +169,17 @@ fn dquant(bytes: &[u8], count: usize, at: Place, kind: u8) -> NumberRead
         return NumberRead::Got(255 - code, next);
     }
     NumberRead::Got(code - 1, next)
+}
+
+// DQUANT, where the type has it; else 0.
+fn dquant(bytes: &[u8], count: usize, at: Place, kind: u8) -> NumberRead
+    requires { ⌜ Placed (now bytes) count at ⌝ }
+    ensures { λ r. ⌜ asNumber (now (bytes .entry)) count r ≡ optional (hasDQUANT kind) 0 dquantRead (bitsLeft (now (bytes .entry)) count (at .bit)) at ⌝ }
+{
+    if has_dquant(kind) {
+        return difference(bytes, count, at);
+    }
+    NumberRead::Got(0, at)
 }
 
 // The vector, where the type is INTER; else zero, kept as 32.
