@@ -253,7 +253,7 @@ head-after-reads : {bound : ℕ} (number : ℕ) (a : Ahead) → Reads bound 0 (�
 unfolding Rattle.refusals.specs.Number.number
 head-after-reads number (stands zero) = reads-weaker (head-fields-reads number) zero-le (λ q left t. leb→le q 31 (both-right (leb 1 q) (leb q 31) t))
 head-after-reads number (stands (suc gstuf)) =
-    reads-any (reads-then (reads-field (suc gstuf) tt)
+    reads-any (reads-then (reads-field (suc gstuf) (le→leb 1 (suc gstuf) (omega arith)))
     (λ dropped left g. reads-weaker (head-fields-reads number) zero-le (λ q left t. leb→le q 31 (both-right (leb 1 q) (leb q 31) t))))
 head-after-reads number absent = reads-done (λ left. lit≤ tt)
 head-after-reads number cutOff = reads-failed BitsEnd tt
