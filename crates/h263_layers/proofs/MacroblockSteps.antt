@@ -2,7 +2,7 @@
 use mathlib.Core.Path.{_≡_, refl, sym, ap, _∙_}
 use mathlib.Core.Bool.{Bool, true, false}
 use mathlib.Core.List.{List}
-use Prim.Native.Nat.{ℕ, zero, suc, _+_, _-_, _*_, _/_, _<_}
+use Prim.Native.Nat.{ℕ, zero, suc, _+_, _-_, _*_, _/_, _≤_, _<_}
 use native.Mathlib.Omega.{arith}
 use borrow.Author.Tests.{eq-eqb, ne-eqb, lt-ltb}
 use lib.Dec.{ltb, eqb}
@@ -92,12 +92,12 @@ dquant-down zero l = refl
 dquant-down (suc zero) l = refl
 dquant-down (suc (suc v)) l = absurd (omega arith)
 
-pub dquant-up : (v : ℕ) → (v < 2 → ⊥) → v < 4 → v - 1 ≡ dquantIn v
-dquant-up zero n l = absurd (n (omega arith))
-dquant-up (suc zero) n l = absurd (n (omega arith))
-dquant-up (suc (suc zero)) n l = refl
-dquant-up (suc (suc (suc zero))) n l = refl
-dquant-up (suc (suc (suc (suc v)))) n l = absurd (omega arith)
+pub dquant-up : (v : ℕ) → 2 ≤ v → v < 4 → v - 1 ≡ dquantIn v
+dquant-up zero m l = absurd (omega arith)
+dquant-up (suc zero) m l = absurd (omega arith)
+dquant-up (suc (suc zero)) m l = refl
+dquant-up (suc (suc (suc zero))) m l = refl
+dquant-up (suc (suc (suc (suc v)))) m l = absurd (omega arith)
 
 -- ---- the pattern
 module _ (intra : Bool) (luminance kind : ℕ) where
