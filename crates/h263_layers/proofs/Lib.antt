@@ -5,3 +5,5 @@ pub mod BlockSteps
 pub mod BlocksTurn
 pub mod Told
 pub mod VectorSteps
+pub mod HeadSteps
+pub mod HeaderOf
