@@ -52,21 +52,21 @@ module _ {x : Ahead} where
   told-stands r k e w = sym (ap asAhead w) ∙ e
 
 module _ (number : ℕ) (bs : List Bit) (at : Place) where
-  by-ahead : {a : Ahead} → a ≡ ahead bs (at .bit) → headAfter {P = counted} number a bs at ≡ groupHead number bs at
+  by-ahead : {a : Ahead} → a ≡ ahead bs (at .bit) → headAfter {P = counted} number a bs at ≡ groupHead {P = counted} number bs at
   unfolding groupHead
   by-ahead e = ap (λ (a : Ahead). headAfter {P = counted} number a bs at) e
 
-  pub head-absent : absent ≡ ahead bs (at .bit) → got 0 bs at ≡ groupHead number bs at
+  pub head-absent : absent ≡ ahead bs (at .bit) → got 0 bs at ≡ groupHead {P = counted} number bs at
   head-absent e = by-ahead e
 
-  pub head-cut : cutOff ≡ ahead bs (at .bit) → _≡_ {A = ReadIn counted ℕ} (refused (record { refusal = refusal BitsEnd (at .bit); reads = at .reads + 1 })) (groupHead number bs at)
+  pub head-cut : cutOff ≡ ahead bs (at .bit) → _≡_ {A = ReadIn counted ℕ} (refused (record { refusal = refusal BitsEnd (at .bit); reads = at .reads + 1 })) (groupHead {P = counted} number bs at)
   head-cut e = by-ahead e
 
-  pub head-alone : (k : ℕ) → stands k ≡ ahead bs (at .bit) → k ≡ 0 → headFields number bs at ≡ groupHead number bs at
+  pub head-alone : (k : ℕ) → stands k ≡ ahead bs (at .bit) → k ≡ 0 → headFields {P = counted} number bs at ≡ groupHead {P = counted} number bs at
   head-alone zero e z = by-ahead e
   head-alone (suc k) e z = absurd (omega arith)
 
-  pub head-stuffed : (k : ℕ) → stands k ≡ ahead bs (at .bit) → (k ≡ 0 → ⊥) → (field {P = counted} k >>= λ dropped. headFields number) bs at ≡ groupHead number bs at
+  pub head-stuffed : (k : ℕ) → stands k ≡ ahead bs (at .bit) → (k ≡ 0 → ⊥) → (field {P = counted} k >>= λ dropped. headFields number) bs at ≡ groupHead {P = counted} number bs at
   head-stuffed zero e z = absurd (z refl)
   head-stuffed (suc k) e z = by-ahead e
 

@@ -113,7 +113,7 @@ mode-low x = by (eqb (x / 8 % 2) 1) (eqb (x / 4 % 2) 1) (eqb (x / 2 % 2) 1)
 pub below-got : {m v p : ℕ} (x : FieldRead) → Below m x → x ≡ GotField v p → v < m
 below-got {m} x b e = subst (λ (z : FieldRead). Below m z) e b
 
-pub spans-got : (k : ℕ) {v p w q : ℕ} (x y : FieldRead) → Spans k x y → x ≡ GotField v p → y ≡ GotField w q → p + k ≤ q
+pub spans-got : (k : ℕ) {v p w q : ℕ} (x y : FieldRead) → Spans k x y → x ≡ GotField v p → y ≡ GotField w q → p + k < 18446744073709551616
 spans-got k {v} {p} x y s e f = subst (λ (z : FieldRead). Spans k (GotField v p) z) f (subst (λ (z : FieldRead). Spans k z y) e s)
 
 -- ---- what is left of the header
@@ -260,10 +260,13 @@ field-below s n p k (GotField v q) w e = field-got s n p k v q (bitsLeft s n q) 
 field-below s n p k (NoField y) w e = tt
 
 -- and takes k bits from where the one before it ended
-pub field-spans : (s : List ℕ) (n k : ℕ) (x y : FieldRead) → Within s n (placeAfter n x) → asField s n y ≡ field k (bitsLeft s n (placeAfter n x)) (placeAfter n x) → Spans k x y
-field-spans s n k (GotField v p) (GotField u q) w e = let g = field-got s n p k u q (bitsLeft s n q) (w .inside) (sym e) in omega (arith, g .next)
-field-spans s n k (GotField v p) (NoField r) w e = tt
-field-spans s n k (NoField r) y w e = tt
+pub field-spans : (s : List ℕ) (n k : ℕ) (x y : FieldRead) → n < 18446744073709551616 → Within s n (placeAfter n x)
+    → asField s n y ≡ field k (bitsLeft s n (placeAfter n x)) (placeAfter n x) → Spans k x y
+field-spans s n k (GotField v p) (GotField u q) l w e =
+    let g : FieldGot s n p k u q = field-got s n p k u q (bitsLeft s n q) (w .inside) (sym e) in
+    omega (arith, l, g .next, g .in-source)
+field-spans s n k (GotField v p) (NoField r) l w e = tt
+field-spans s n k (NoField r) y l w e = tt
 
 -- five reads may be made before the spares: PSC has 22 bits, or the bits have ended
 pub spare-placed : (s : List ℕ) (n p place : ℕ) (psc : FieldRead) → Placed s n (placeOf p 0) → asField s n psc ≡ field 22 (bitsLeft s n p) p → placeAfter n psc ≤ place → Within s n place

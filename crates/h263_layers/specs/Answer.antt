@@ -1,5 +1,5 @@
 -- The code's answers as the grammar's. A layer writes the description as it reads: its answer is the place where it ended, or the refusal. Assumes nothing.
-use Prim.Native.Nat.{ℕ, _+_, _*_, _%_, _≤_, _<_}
+use Prim.Native.Nat.{ℕ, _+_, _*_, _%_, _<_}
 use mathlib.Core.List.{List}
 use lib.Dec.{eqb}
 use lib.IntN.{ℤ}
@@ -107,13 +107,13 @@ abbrev pub Below : ℕ → FieldRead → Type 0
 Below m (GotField x p) = x < m
 Below m (NoField r) = Unit {0}
 
--- the k bits before the place after a field have places
+-- where the next field was got too, the k bits after a field have numbers
 abbrev pub Spans : ℕ → FieldRead → FieldRead → Type 0
-Spans k (GotField x p) (GotField y q) = p + k ≤ q
+Spans k (GotField x p) (GotField y q) = p + k < 18446744073709551616
 Spans k (GotField x p) (NoField r) = Unit {0}
 Spans k (NoField r) y = Unit {0}
 
--- what is asked of a header's fields: TR has 8 bits and PQUANT 5, and PTYPE 13 after TR
+-- what is asked of a header's fields: TR has 8 bits, PTYPE 13 after it, and PQUANT 5
 pub record HeaderAsked (tr ptype pquant : FieldRead) : Type 0 where
   pub reference : Below 256 tr
   pub information : Spans 13 tr ptype

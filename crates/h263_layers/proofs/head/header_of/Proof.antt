@@ -1,235 +1,180 @@
+-- `h263_layers::head::header_of` meets its contract: each read in turn was refused, or is against its rule, or was got, and then the next.
+use mathlib.Core.Path.{sym, ap, _∙_}
+use native.Mathlib.Omega.{arith}
 use borrow.Author.Needs.{needs}
+use Prim.Native.Nat.{ℕ, _+_}
+use Rattle.refusals.specs.declared.Reason.the-variants.{OptionalMode}
+use Rattle.h263_layers.specs.Answer.{againstAt}
+use Rattle.h263_layers.proofs.HeaderOf.{no-psc, bad-psc, no-tr, no-ptype, other-start, other-format, mode-set, mode-low, no-pquant, zero-pquant, no-cpm, set-cpm, no-spare, header-got, below-got, spans-got}
 use Rattle.h263_layers.proofs.head.header_of.Statement.{statement}
 use Rattle.h263_layers.proofs.head.header_of.Tie as tie
-use Rattle.h263_layers.proofs.head.header_of.Reads as reads
-use Rattle.h263_layers.proofs.head.header_of.Lts as lts
-use Rattle.fields.proofs.place_stopped.Reads as place-stopped-reads
-use Rattle.h263_description.proofs.format_code.Reads as format-code-reads
-use Rattle.h263_layers.proofs.head.against.Reads as against-reads
-use Rattle.h263_layers.proofs.head.mode_bit.Reads as mode-bit-reads
-use Rattle.h263_layers.proofs.head.refused.Reads as refused-reads
 
--- src/head.rt:125:24
-enum-known-psc : tie.Need-enum-known-psc
-enum-known-psc c = search needs
+-- where each field was got: from the last one back to the start
+abbrev start : tie.After-known-told → tie.Start
+start c = c .before .before .before
 
--- src/head.rt:126:36
-enum-told : tie.Need-enum-told
-enum-told c = search needs
+abbrev psc-kept : tie.After-known-told2 → tie.Else1
+psc-kept c = c .before .before .before
 
--- src/head.rt:126:36
-refused-requires : tie.Need-refused-requires
-refused-requires c κs = search needs
+abbrev tr-got : tie.After-known-told3 → tie.After-known-told2
+tr-got c = c .before .before .before
 
--- src/head.rt:126:9
+abbrev ptype-kept : tie.After-known-told4 → tie.Else4
+ptype-kept c = c .before .before .before
+
+abbrev pquant-kept : tie.After-known-told5 → tie.Else5
+pquant-kept c = c .before .before .before
+
 returns : tie.Need-returns
-returns c = ?
+returns c = no-psc _ _ _ _ _ _ _ _ _ (c .before .before .match .keys2) (c .refused .ensures)
 
--- src/head.rt:129:9
-against-requires : tie.Need-against-requires
-against-requires c κs = search needs
-
--- src/head.rt:129:9
 returns-2 : tie.Need-returns-2
-returns-2 c = ?
+returns-2 c = c .against .ensures ∙ bad-psc _ _ _ _ _ _ _ _ (c .before .before .before .psc .given .1) (c .before .if1 .taken)
 
--- src/head.rt:131:24
-enum-known-tr : tie.Need-enum-known-tr
-enum-known-tr c = search needs
-
--- src/head.rt:132:36
-enum-told-2 : tie.Need-enum-told-2
-enum-told-2 c = search needs
-
--- src/head.rt:132:36
-refused-requires-2 : tie.Need-refused-requires-2
-refused-requires-2 c κs = search needs
-
--- src/head.rt:132:9
 returns-3 : tie.Need-returns-3
-returns-3 c = ?
+returns-3 c =
+    let at-psc = c .before .before .before in
+    no-tr _ _ _ _ _ _ _ _ (at-psc .before .before .psc .given .1) (at-psc .if1 .left) _ (c .before .before .match2 .keys2) (c .refused2 .ensures)
 
--- src/head.rt:134:24
-enum-known-ptype : tie.Need-enum-known-ptype
-enum-known-ptype c = search needs
-
--- src/head.rt:135:36
-enum-told-3 : tie.Need-enum-told-3
-enum-told-3 c = search needs
-
--- src/head.rt:135:36
-refused-requires-3 : tie.Need-refused-requires-3
-refused-requires-3 c κs = search needs
-
--- src/head.rt:135:9
 returns-4 : tie.Need-returns-4
-returns-4 c = ?
+returns-4 c =
+    let at-tr = c .before .before .before in
+    let at-psc = psc-kept at-tr in
+    no-ptype _ _ _ _ _ _ _ _ (at-psc .before .before .psc .given .1) (at-psc .if1 .left) (at-tr .before .tr .given .1) _ (c .before .before .match3 .keys2) (c .refused3 .ensures)
 
--- src/head.rt:138:9
-against-requires-2 : tie.Need-against-requires-2
-against-requires-2 c κs = search needs
-
--- src/head.rt:138:9
 returns-5 : tie.Need-returns-5
-returns-5 c = ?
+returns-5 c =
+    let at-ptype = c .before .before in
+    let at-tr = tr-got at-ptype in
+    let at-psc = psc-kept at-tr in
+    c .against2 .ensures
+    ∙ other-start _ _ _ _ _ _ _ _ (at-psc .before .before .psc .given .1) (at-psc .if1 .left) (at-tr .before .tr .given .1) (at-ptype .before .ptype .given .1) (c .before .if2 .taken)
 
--- src/head.rt:140:32
-format-code-requires : tie.Need-format-code-requires
-format-code-requires c κs = search needs
-
--- src/head.rt:141:9
-against-requires-3 : tie.Need-against-requires-3
-against-requires-3 c κs = search needs
-
--- src/head.rt:141:9
 returns-6 : tie.Need-returns-6
-returns-6 c = ?
+returns-6 c =
+    let at-code = c .before .before in
+    let at-ptype = at-code .before .before in
+    let at-tr = tr-got at-ptype in
+    let at-psc = psc-kept at-tr in
+    c .against3 .ensures
+    ∙ other-format _ _ _ _ _ _ _ _ (at-psc .before .before .psc .given .1) (at-psc .if1 .left) (at-tr .before .tr .given .1) (at-ptype .before .ptype .given .1)
+    (λ h. c .before .if3 .taken (h ∙ sym (at-code .format-code .ensures)))
 
--- src/head.rt:144:57
-mode-bit-requires : tie.Need-mode-bit-requires
-mode-bit-requires c κs = search needs
-
--- src/head.rt:144:46
 add-against : tie.Need-add-against
-add-against c = ?
+add-against c =
+    let at-ptype = c .before .before .before .before .before in
+    let at-tr = tr-got at-ptype in
+    let room = spans-got 13 _ _ (start (psc-kept at-tr .before) .pre .information) (at-tr .before .tr .given .1) (at-ptype .before .ptype .given .1) in
+    omega (arith, room, c .mode-bit .ensures, mode-low (at-ptype .before .ptype .given .0 .0))
 
--- src/head.rt:144:9
-against-requires-4 : tie.Need-against-requires-4
-against-requires-4 c κs = search needs
-
--- src/head.rt:144:9
 returns-7 : tie.Need-returns-7
-returns-7 c = ?
+returns-7 c =
+    let at-format = c .before .before .before in
+    let at-code = at-format .before in
+    let at-ptype = at-code .before .before in
+    let at-tr = tr-got at-ptype in
+    let at-psc = psc-kept at-tr in
+    c .against4 .ensures ∙ ap (λ (k : ℕ). againstAt OptionalMode (at-tr .before .tr .given .0 .1 .0 + k) 3) (c .before .mode-bit .ensures)
+    ∙ mode-set _ _ _ _ _ _ _ _ (at-psc .before .before .psc .given .1) (at-psc .if1 .left) (at-tr .before .tr .given .1) (at-ptype .before .ptype .given .1)
+    (at-code .before .if2 .left) (at-format .if3 .left ∙ at-code .format-code .ensures) (c .before .before .if4 .taken)
 
--- src/head.rt:146:24
-enum-known-pquant : tie.Need-enum-known-pquant
-enum-known-pquant c = search needs
-
--- src/head.rt:147:36
-enum-told-4 : tie.Need-enum-told-4
-enum-told-4 c = search needs
-
--- src/head.rt:147:36
-refused-requires-4 : tie.Need-refused-requires-4
-refused-requires-4 c κs = search needs
-
--- src/head.rt:147:9
 returns-8 : tie.Need-returns-8
-returns-8 c = ?
+returns-8 c =
+    let at-modes = c .before .before .before in
+    let at-code = at-modes .before .before in
+    let at-ptype = at-code .before .before in
+    let at-tr = tr-got at-ptype in
+    let at-psc = psc-kept at-tr in
+    no-pquant _ _ _ _ _ _ _ _ (at-psc .before .before .psc .given .1) (at-psc .if1 .left) (at-tr .before .tr .given .1) (at-ptype .before .ptype .given .1)
+    (at-code .before .if2 .left) (at-modes .before .if3 .left ∙ at-code .format-code .ensures) (at-modes .if4 .left) _ (c .before .before .match4 .keys2) (c .refused4 .ensures)
 
--- src/head.rt:150:9
-against-requires-5 : tie.Need-against-requires-5
-against-requires-5 c κs = search needs
-
--- src/head.rt:150:9
 returns-9 : tie.Need-returns-9
-returns-9 c = ?
+returns-9 c =
+    let at-pquant = c .before .before in
+    let at-modes = ptype-kept at-pquant in
+    let at-code = at-modes .before .before in
+    let at-ptype = at-code .before .before in
+    let at-tr = tr-got at-ptype in
+    let at-psc = psc-kept at-tr in
+    c .against5 .ensures
+    ∙ zero-pquant _ _ _ _ _ _ _ _ (at-psc .before .before .psc .given .1) (at-psc .if1 .left) (at-tr .before .tr .given .1) (at-ptype .before .ptype .given .1)
+    (at-code .before .if2 .left) (at-modes .before .if3 .left ∙ at-code .format-code .ensures) (at-modes .if4 .left) (at-pquant .before .pquant .given .1) (c .before .if5 .taken)
 
--- src/head.rt:152:24
-enum-known-cpm : tie.Need-enum-known-cpm
-enum-known-cpm c = search needs
-
--- src/head.rt:153:36
-enum-told-5 : tie.Need-enum-told-5
-enum-told-5 c = search needs
-
--- src/head.rt:153:36
-refused-requires-5 : tie.Need-refused-requires-5
-refused-requires-5 c κs = search needs
-
--- src/head.rt:153:9
 returns-10 : tie.Need-returns-10
-returns-10 c = ?
+returns-10 c =
+    let at-quantiser = c .before .before .before in
+    let at-pquant = at-quantiser .before in
+    let at-modes = ptype-kept at-pquant in
+    let at-code = at-modes .before .before in
+    let at-ptype = at-code .before .before in
+    let at-tr = tr-got at-ptype in
+    let at-psc = psc-kept at-tr in
+    no-cpm _ _ _ _ _ _ _ _ (at-psc .before .before .psc .given .1) (at-psc .if1 .left) (at-tr .before .tr .given .1) (at-ptype .before .ptype .given .1)
+    (at-code .before .if2 .left) (at-modes .before .if3 .left ∙ at-code .format-code .ensures) (at-modes .if4 .left) (at-pquant .before .pquant .given .1) (at-quantiser .if5 .left)
+    _ (c .before .before .match5 .keys2) (c .refused5 .ensures)
 
--- src/head.rt:156:9
-against-requires-6 : tie.Need-against-requires-6
-against-requires-6 c κs = search needs
-
--- src/head.rt:156:9
 returns-11 : tie.Need-returns-11
-returns-11 c = ?
+returns-11 c =
+    let at-cpm = c .before .before in
+    let at-quantiser = pquant-kept at-cpm in
+    let at-pquant = at-quantiser .before in
+    let at-modes = ptype-kept at-pquant in
+    let at-code = at-modes .before .before in
+    let at-ptype = at-code .before .before in
+    let at-tr = tr-got at-ptype in
+    let at-psc = psc-kept at-tr in
+    c .against6 .ensures
+    ∙ set-cpm _ _ _ _ _ _ _ _ (at-psc .before .before .psc .given .1) (at-psc .if1 .left) (at-tr .before .tr .given .1) (at-ptype .before .ptype .given .1)
+    (at-code .before .if2 .left) (at-modes .before .if3 .left ∙ at-code .format-code .ensures) (at-modes .if4 .left) (at-pquant .before .pquant .given .1) (at-quantiser .if5 .left)
+    (at-cpm .before .cpm .given .1) (c .before .if6 .taken)
 
--- src/head.rt:158:23
-enum-known-spare : tie.Need-enum-known-spare
-enum-known-spare c = search needs
-
--- src/head.rt:159:36
-enum-told-6 : tie.Need-enum-told-6
-enum-told-6 c = search needs
-
--- src/head.rt:159:36
-place-stopped-requires : tie.Need-place-stopped-requires
-place-stopped-requires c κs = search needs
-
--- src/head.rt:159:9
 returns-12 : tie.Need-returns-12
-returns-12 c = ?
+returns-12 c =
+    let at-single = c .before .before .before in
+    let at-cpm = at-single .before in
+    let at-quantiser = pquant-kept at-cpm in
+    let at-pquant = at-quantiser .before in
+    let at-modes = ptype-kept at-pquant in
+    let at-code = at-modes .before .before in
+    let at-ptype = at-code .before .before in
+    let at-tr = tr-got at-ptype in
+    let at-psc = psc-kept at-tr in
+    no-spare _ _ _ _ _ _ _ _ (at-psc .before .before .psc .given .1) (at-psc .if1 .left) (at-tr .before .tr .given .1) (at-ptype .before .ptype .given .1)
+    (at-code .before .if2 .left) (at-modes .before .if3 .left ∙ at-code .format-code .ensures) (at-modes .if4 .left) (at-pquant .before .pquant .given .1) (at-quantiser .if5 .left)
+    (at-cpm .before .cpm .given .1) (at-single .if6 .left) _ (c .before .before .match6 .keys2) (c .place-stopped .ensures)
 
--- src/head.rt:162:13
 cast-t37 : tie.Need-cast-t37
-cast-t37 c = ?
+cast-t37 c =
+    let at-tr = tr-got (ptype-kept (pquant-kept (c .before .before .before .before) .before) .before .before .before .before) in
+    omega (arith, below-got _ (start (psc-kept at-tr .before) .pre .reference) (at-tr .before .tr .given .1))
 
--- src/head.rt:163:16
-cast-t38 : tie.Need-cast-t38
-cast-t38 c = search needs
-
--- src/head.rt:164:15
-cast-t40 : tie.Need-cast-t40
-cast-t40 c = search needs
-
--- src/head.rt:165:17
 cast-t41 : tie.Need-cast-t41
-cast-t41 c = ?
+cast-t41 c =
+    let at-pquant = pquant-kept (c .before .before .before .before) .before in
+    let at-tr = tr-got (ptype-kept at-pquant .before .before .before .before) in
+    omega (arith, below-got _ (start (psc-kept at-tr .before) .pre .quantised) (at-pquant .before .pquant .given .1))
 
--- src/head.rt:112:1
 returns-13 : tie.Need-returns-13
-returns-13 c = ?
+returns-13 c =
+    let at-single = c .before .before .before in
+    let at-cpm = at-single .before in
+    let at-quantiser = pquant-kept at-cpm in
+    let at-pquant = at-quantiser .before in
+    let at-modes = ptype-kept at-pquant in
+    let at-code = at-modes .before .before in
+    let at-ptype = at-code .before .before in
+    let at-tr = tr-got at-ptype in
+    let at-psc = psc-kept at-tr in
+    header-got _ _ _ _ _ _ _ _ (at-psc .before .before .psc .given .1) (at-psc .if1 .left) (at-tr .before .tr .given .1) (at-ptype .before .ptype .given .1)
+    (at-code .before .if2 .left) (at-modes .before .if3 .left ∙ at-code .format-code .ensures) (at-modes .if4 .left) (at-pquant .before .pquant .given .1) (at-quantiser .if5 .left)
+    (at-cpm .before .cpm .given .1) (at-single .if6 .left) (c .before .spare .given .1)
 
 pub header-of-spec : {M : Type 1} → statement M
 header-of-spec =
     tie.close
-    (tie.spec
-    enum-known-psc
-    enum-told
-    refused-requires
-    returns
-    against-requires
-    returns-2
-    enum-known-tr
-    enum-told-2
-    refused-requires-2
-    returns-3
-    enum-known-ptype
-    enum-told-3
-    refused-requires-3
-    returns-4
-    against-requires-2
-    returns-5
-    format-code-requires
-    against-requires-3
-    returns-6
-    mode-bit-requires
-    add-against
-    against-requires-4
-    returns-7
-    enum-known-pquant
-    enum-told-4
-    refused-requires-4
-    returns-8
-    against-requires-5
-    returns-9
-    enum-known-cpm
-    enum-told-5
-    refused-requires-5
-    returns-10
-    against-requires-6
-    returns-11
-    enum-known-spare
-    enum-told-6
-    place-stopped-requires
-    returns-12
-    cast-t37
-    cast-t38
-    cast-t40
-    cast-t41
-    returns-13)
+    (tie.spec (λ c. search needs) (λ c. search needs) (λ c κs. search needs) returns (λ c κs. search needs) returns-2
+    (λ c. search needs) (λ c. search needs) (λ c κs. search needs) returns-3 (λ c. search needs) (λ c. search needs) (λ c κs. search needs) returns-4
+    (λ c κs. search needs) returns-5 (λ c κs. search needs) (λ c κs. search needs) returns-6 (λ c κs. search needs) add-against (λ c κs. search needs) returns-7
+    (λ c. search needs) (λ c. search needs) (λ c κs. search needs) returns-8 (λ c κs. search needs) returns-9
+    (λ c. search needs) (λ c. search needs) (λ c κs. search needs) returns-10 (λ c κs. search needs) returns-11
+    (λ c. search needs) (λ c. search needs) (λ c κs. search needs) returns-12 cast-t37 (λ c. search needs) (λ c. search needs) cast-t41 returns-13)
