@@ -191,17 +191,23 @@ pub record Ptype : Type 0 where
   pub ptype : ℕ
   pub type : ℕ
 
+abbrev pub ptypeIn : ℕ → Ptype
+ptypeIn x = record { ptype = x / 256 % 8; type = x / 16 % 2 }
+
 abbrev pub modesOf : {P : Places} → PlaceIn P → ℕ → ReaderIn P Ptype
 modesOf {P} start x = λ bs at.
-    pick (eqb (x % 16) 0) (done (record { ptype = x / 256 % 8; type = x / 16 % 2 }) bs at) (refused (stopIn P (refusal OptionalMode (bitIn P start + modeBit x)) at))
+    pick (eqb (x % 16) 0) (done (ptypeIn x) bs at) (refused (stopIn P (refusal OptionalMode (bitIn P start + modeBit x)) at))
 
 -- "PTYPE is one field"
 unfoldable pub ptypeRead : {P : Places} → Size → ReaderIn P Ptype
 ptypeRead size = λ bs at. next (judgedRead (field 13) (formatOf size) bs at) (modesOf at)
 
 -- "14 at 48 for CPM 1"
+abbrev pub cpmOf : ℕ → Judged ℕ
+cpmOf cpm = pick (eqb cpm 0) (fine cpm) (against OptionalMode)
+
 abbrev pub cpmRead : {P : Places} → ReaderIn P ℕ
-cpmRead = judgedRead (field 1) (λ cpm. pick (eqb cpm 0) (fine cpm) (against OptionalMode))
+cpmRead = judgedRead (field 1) cpmOf
 
 pub record Header : Type 0 where
   pub tr : ℕ
