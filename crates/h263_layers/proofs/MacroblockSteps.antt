@@ -2,7 +2,7 @@
 use mathlib.Core.Path.{_≡_, refl, sym, ap, _∙_}
 use mathlib.Core.Bool.{Bool, true, false}
 use mathlib.Core.List.{List}
-use Prim.Native.Nat.{ℕ, zero, suc, _+_, _-_, _*_, _/_, _≤_, _<_}
+use Prim.Native.Nat.{ℕ, zero, suc, _+_, _-_, _*_, _/_, _%_, _≤_, _<_}
 use native.Mathlib.Omega.{arith}
 use borrow.Author.Tests.{eq-eqb, ne-eqb, lt-ltb}
 use lib.Dec.{ltb, eqb}
@@ -87,12 +87,12 @@ module _ (bs : List Bit) (at : Place) where
   dquant-got v x cs q e h = rw e (ap (λ (y : ℕ). got y cs q) h)
 
 -- "00 is -1, 01 is -2, 10 is 1, 11 is 2"
-pub dquant-down : (v : ℕ) → v < 2 → 255 - v ≡ dquantIn v
+pub dquant-down : (v : ℕ) → v < 2 → 256 - (v % 2 + 1) ≡ dquantIn v
 dquant-down zero l = refl
 dquant-down (suc zero) l = refl
 dquant-down (suc (suc v)) l = absurd (omega arith)
 
-pub dquant-up : (v : ℕ) → 2 ≤ v → v < 4 → v - 1 ≡ dquantIn v
+pub dquant-up : (v : ℕ) → 2 ≤ v → v < 4 → v % 2 + 1 ≡ dquantIn v
 dquant-up zero m l = absurd (omega arith)
 dquant-up (suc zero) m l = absurd (omega arith)
 dquant-up (suc (suc zero)) m l = refl

@@ -165,10 +165,11 @@ fn difference(bytes: &[u8], count: usize, at: Place) -> NumberRead
     let NumberRead::Got(code, next) = read else {
         return NumberRead::Refused(number_stopped(read));
     };
+    let size = code % 2 + 1;
     if code < 2 {
-        return NumberRead::Got(255 - code, next);
+        return NumberRead::Got(256 - size, next);
     }
-    NumberRead::Got(code - 1, next)
+    NumberRead::Got(size, next)
 }
 
 // DQUANT, where the type has it; else 0.

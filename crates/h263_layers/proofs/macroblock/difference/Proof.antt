@@ -57,5 +57,5 @@ returns-3 c = dquant-got _ _ _ _ _ _ (code (c .before)) (dquant-up _ (c .if1 .le
 pub difference-spec : {M : Type 1} → statement M
 difference-spec =
     tie.close
-    (tie.spec field-requires once-requires (λ c. search needs) (λ c. search needs) (λ c κs. search needs) returns (λ c. search needs) returns-2
-    (λ c. search needs) returns-3)
+    (tie.spec field-requires once-requires (λ c. search needs) (λ c. search needs) (λ c κs. search needs) returns (λ c. search needs) (λ c. search needs)
+    returns-2 returns-3)
