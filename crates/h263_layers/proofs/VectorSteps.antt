@@ -5,7 +5,7 @@ use mathlib.Core.List.{List}
 use Prim.Native.Nat.{ℕ, suc, _+_, _-_, _*_, _%_, _≤_, _<_}
 use native.Mathlib.Omega.{arith}
 use borrow.Author.Tests.{lt-ltb, le-ltb}
-use lib.Dec.{ltb}
+use lib.Dec.{T, ltb}
 use lib.IntN.{ℤ, pos, negsuc, negℤ, natAbs, subℕ, _+ℤ_, +ℤ-assoc, -ℤ-+ℤ-cancel}
 use Rattle.laws.specs.Choice.{pick, opposite}
 use Rattle.laws.proofs.Choice.{second-no}
@@ -67,12 +67,14 @@ pub word-below : (s : List ℕ) (n : ℕ) (p : Place) (m : ℕ) (q : Place) → 
 word-below s n p m q l e = onward s n p m q mvd-reads l e .good
 
 -- what is in range is kept as 0 to 63
+pub component-low : (x : ℕ) → T (inRange (componentOf x)) → x ≤ 63
+component-low x t =
+    let same : residueOf (componentOf x) ≡ x = ap natAbs (-ℤ-+ℤ-cancel (pos x) (pos 32)) in
+    omega (arith, residue-low (componentOf x) t, same)
+
 pub component-kept : (s : List ℕ) (n : ℕ) (p : Place) (predicted : ℤ) (x : ℕ) (q : Place) → p .bit ≤ n
     → componentRead {P = counted} predicted (bitsLeft s n (p .bit)) p ≡ got (componentOf x) (bitsLeft s n (q .bit)) q → x ≤ 63
-component-kept s n p predicted x q l e =
-    let low = residue-low (componentOf x) (onward s n p (componentOf x) q (component-reads predicted) l e .good) in
-    let same : residueOf (componentOf x) ≡ x = ap natAbs (-ℤ-+ℤ-cancel (pos x) (pos 32)) in
-    omega (arith, low, same)
+component-kept s n p predicted x q l e = component-low x (onward s n p (componentOf x) q (component-reads predicted) l e .good)
 
 -- ---- the picture's edges: twice the first sample's place and what is kept, which is 32 more than where the first half sample lies
 moved-sum : (a h : ℕ) → pos a +ℤ componentOf h ≡ subℕ (a + h) 32
