@@ -24,7 +24,7 @@ use Rattle.bits.proofs.Seen.{total-append, seen-bit, seen-stop, seen-field}
 use Rattle.bits.proofs.Logic.{Fair, Took, Between, UpTo, Lists, Reads, reads-judged, makes-field, reads-field, judges-pick, judges-fine, judges-against}
 use Rattle.size.specs.declared.Size.{Size}
 use Rattle.layout.specs.Numbers.{isQuantiser}
-use Rattle.fields.specs.Rules.{expect, quantiser, spares}
+use Rattle.fields.specs.Rules.{quantiser, spares}
 use Rattle.fields.proofs.RuleReads.{Any, expect-reads, quantiser-reads, spares-reads}
 use Rattle.h263_description.specs.Value.{formatCode}
 use Rattle.h263_layers.specs.Among.{StandsAmong, InPtype}

@@ -10,10 +10,9 @@ use lib.Dec.{ltb}
 use lib.ListN.{length}
 use Rattle.laws.specs.Choice.{pick, either}
 use Rattle.refusals.specs.declared.Reason.the-variants.{Count, AfterLast}
-use Rattle.refusals.specs.declared.Refusal.{Refusal}
 use Rattle.refusals.specs.Number.{refusal}
 use Rattle.bits.specs.Bits.{Bit, source}
-use Rattle.bits.specs.Places.{Places, plain, listed, ListedPlace, ListedRefusal, PlaceIn, bitIn, stopIn, seenPlace, unreadPlace}
+use Rattle.bits.specs.Places.{Places, plain, listed, ListedPlace, PlaceIn, stopIn, seenPlace, unreadPlace}
 use Rattle.bits.specs.Read.{ReadIn, Read, got, refused, endless, ReaderIn, next, _>>=_, done, seenRead}
 use Rattle.bits.proofs.Seen.{seen-bit}
 use Rattle.bits.proofs.Logic.{Took, Lists, Holds}
