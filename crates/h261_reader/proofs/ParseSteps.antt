@@ -2,14 +2,11 @@
 use mathlib.Core.Path.{_≡_, refl, sym, ap, subst, _∙_}
 use mathlib.Core.Bool.{Bool, true, false}
 use mathlib.Core.List.{List, _∷_}
-use mathlib.Core.Logic.{_⊎_, inl, inr}
 use Prim.Native.Nat.{ℕ, suc, _+_, _*_, _/_, _%_, _≤_, _<_}
-use native.Mathlib.Nat.{eq-or-lt-of-le, not-suc-le-zero}
 use native.Mathlib.Omega.{arith}
 use borrow.Author.Tests.{lt-ltb, le-ltb, ltb-false}
 use lib.Dec.{T, ltb, lit<}
-use lib.ListN.{length, getD, set, replicate, length-set, length-replicate, getD-replicate}
-use lib.Seq.{getD-set-same, getD-set-other, ext-getD}
+use lib.ListN.{length, set, replicate}
 use denote.Enum.Declared.{tagOf}
 use Rattle.laws.specs.Choice.{either}
 use Rattle.refusals.specs.declared.Reason.the-variants.{Count}
@@ -19,7 +16,6 @@ use Rattle.bits.specs.Bits.{bitsLeft}
 use Rattle.bits.proofs.Source.{source-left}
 use Rattle.bits.specs.Places.{counted, stopIn}
 use Rattle.bits.specs.Read.{ReadIn, Read, got, refused}
-use Rattle.bits.specs.Answer.{Placed}
 use Rattle.bits.specs.declared.Place.{Place}
 use Rattle.bits.specs.declared.Stopped.{Stopped}
 use Rattle.size.specs.Size.{limit}

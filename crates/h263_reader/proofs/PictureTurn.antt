@@ -1,13 +1,12 @@
 -- The nested loops over groups and macroblocks: what holds at each turn, and each way out. Assumes nothing.
-use Prim.Native.Nat.{ℕ, zero, suc, _+_, _-_, _*_, _/_, _≤_, _<_}
+use Prim.Native.Nat.{ℕ, zero, suc, _+_, _-_, _*_, _≤_, _<_}
 use mathlib.Core.Path.{_≡_, refl, sym, ap, subst, _∙_}
 use mathlib.Core.Bool.{Bool, true, false}
-use mathlib.Core.List.{List, [], _++_}
+use mathlib.Core.List.{List, []}
 use native.Mathlib.Omega.{arith}
-use native.Mathlib.Nat.{le-antisymm}
 use lib.Dec.{leb, leb→le, lit≤}
-use lib.ListN.{length, set, replicate, drop, length-set, length-replicate, drop-of-length-le}
-use lib.Seq.{sets, length-sets}
+use lib.ListN.{length, set, drop, length-set, length-replicate, drop-of-length-le}
+use lib.Seq.{sets}
 use denote.Enum.Declared.{tagOf}
 use Rattle.laws.proofs.Choice.{both-right}
 use Rattle.laws.proofs.Rows.{rows-in}
@@ -26,15 +25,15 @@ use Rattle.fields.proofs.Told.{within-next, no-place, is-place}
 use Rattle.size.specs.declared.Size.{Size}
 use Rattle.size.specs.declared.Size.the-variants.{SubQcif, Qcif, Cif}
 use Rattle.size.specs.Place.{macroblocksAcross, macroblocksDown}
-use Rattle.layout.specs.Value.{Vector, zeroVector, Macroblock}
-use Rattle.layout.specs.Flat.{Flat, flat, index, fieldsOf, putBlocks, putGroups}
+use Rattle.layout.specs.Value.{Vector, Macroblock}
+use Rattle.layout.specs.Flat.{Flat, flat, index, fieldsOf, putGroups}
 use Rattle.h263_words.specs.Words.{typeIn}
 use Rattle.h263_description.specs.declared.predicted.Kept.{Kept}
 use Rattle.h263_description.specs.Vector.{vectorsOf, predictor}
 use Rattle.h263_description.specs.Value.{shape, groupNumbers, headLength, macroblocksLength, levelsLength}
 use Rattle.h263_description.specs.Fields.{stands}
 use Rattle.h263_description.specs.Kept.{keptVector, vectorsIn, firstVectors, PredictorAsked}
-use Rattle.h263_description.specs.Proper.{ProperGquant, ProperMacroblock}
+use Rattle.h263_description.specs.Proper.{ProperGquant}
 use Rattle.h263_description.proofs.Groups.{groups-listed}
 use Rattle.h263_description.proofs.Parts.{intra-type}
 use Rattle.h263_layers.specs.Answer.{vectorKept, openedOf, asOpened, Sent, sentIn, putSent}
@@ -45,7 +44,7 @@ use Rattle.h263_layers.specs.declared.OpenedRead.the-variants.{Unsent, Coded, R
 use Rattle.h263_layers.proofs.Layers.{Typed, MacroblockGood, macroblock-reads, OpenedGood, opened-reads}
 use Rattle.h263_reader.specs.Described.{GroupsReady}
 use Rattle.h263_reader.proofs.Vectors.{LaidSoFar, laid-none, laid-unsent, vectors-unsent, laid-sent, vectors-sent, macroblock-room, predictor-asked, predicted-low, predicted-is}
-use Rattle.h263_reader.proofs.RowTurn.{groupsOn, rowOn, putOne, groups-none, groups-row, row-none, row-no-slot, row-unsent, row-no-macroblock, row-sent}
+use Rattle.h263_reader.proofs.RowTurn.{groupsOn, rowOn, groups-none, groups-row, row-none, row-no-slot, row-unsent, row-no-macroblock, row-sent}
 
 -- ---- small facts
 no-gquant : (number : ℕ) → ProperGquant number 0

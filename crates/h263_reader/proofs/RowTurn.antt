@@ -1,5 +1,5 @@
 -- Turns of the loops over a picture's groups and a group's macroblocks, on plain values: what the grammar gives from here, on what is laid out, is what it gave from the start. Assumes nothing.
-use Prim.Native.Nat.{ℕ, zero, suc, _+_, _*_, _<_}
+use Prim.Native.Nat.{ℕ, suc, _+_, _*_, _<_}
 use mathlib.Core.Path.{_≡_, refl, ap, _∙_}
 use mathlib.Core.Bool.{Bool}
 use mathlib.Core.List.{List, [], _∷_, _++_}

@@ -132,16 +132,7 @@ pub fn parse_counted(
     match opened {
         HeaderRead::Refused(stopped) => refused(stopped),
         HeaderRead::Got(said, next) => {
-            let read = laid(
-                bytes,
-                count,
-                said,
-                next,
-                size,
-                head,
-                macroblocks,
-                levels,
-            );
+            let read = laid(bytes, count, said, next, size, head, macroblocks, levels);
             let PlaceRead::At(end) = read else {
                 clear(head);
                 clear(macroblocks);

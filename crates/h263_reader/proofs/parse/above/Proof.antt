@@ -1,21 +1,17 @@
+-- `h263_reader::parse::above` meets its contract: N bits start more bytes than the slice has, or N is above the limit.
+use mathlib.Core.Path.{ap, _∙_}
+use lib.Dec.{ltb}
+use Prim.Native.Nat.{ℕ}
+use Rattle.h263_reader.proofs.ParseSteps.{above-slice, above-limit}
 use borrow.Author.Needs.{needs}
 use Rattle.h263_reader.proofs.parse.above.Statement.{statement}
 use Rattle.h263_reader.proofs.parse.above.Tie as tie
 
-add-started : tie.Need-add-started
-add-started c = search needs
-
-add-started-2 : tie.Need-add-started-2
-add-started-2 c = search needs
-
 returns : tie.Need-returns
-returns c = ?
-
-limit-requires : tie.Need-limit-requires
-limit-requires c κs = search needs
+returns c = above-slice _ _ (c .before .args .size) (c .if1 .taken)
 
 returns-2 : tie.Need-returns-2
-returns-2 c = ?
+returns-2 c = ap (λ (k : ℕ). ltb k (c .before .before .args .count)) (c .limit .ensures) ∙ above-limit _ _ (c .before .before .args .size) (c .before .if1 .left)
 
 pub above-spec : {M : Type 1} → statement M
-above-spec = tie.close (tie.spec add-started add-started-2 returns limit-requires returns-2)
+above-spec = tie.close (tie.spec (λ c. search needs) (λ c. search needs) returns (λ c κs. search needs) returns-2)

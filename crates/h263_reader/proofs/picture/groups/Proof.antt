@@ -54,7 +54,7 @@ add-opened c = omega (arith, column-less c, across-most (began (turn c) .args .s
 
 opened-requires : tie.Need-opened-requires Inv-loop μ-loop Inv-picture μ-picture
 opened-requires c κs =
-    (record { tabled = began (turn c) .pre .reading .tabled; placed = c .before .loop .inv .placed }, omega (arith, group-less (turn c), down-most (began (turn c) .args .size)), ?)
+    (record { tabled = began (turn c) .pre .reading .tabled; placed = c .before .loop .inv .placed }, omega (arith, group-less (turn c), down-most (began (turn c) .args .size)))
 
 add-column : tie.Need-add-column Inv-loop μ-loop Inv-picture μ-picture
 add-column c = let at-loop = c .before .before .before .before in omega (arith, column-less at-loop, across-most (began (turn at-loop) .args .size))
@@ -107,7 +107,6 @@ macroblock-requires c κs =
       },
       macroblock-ready (at-loop .before .loop .inv) (column-less at-loop) (at-opened .opened .result) (at-opened .opened .ensures) _ _ _ found (group-less (turn at-loop)) across-is
           (at-headed .headed .result) (at-headed .headed .ensures) (at-predictor .predictor .result) (at-predictor .predictor .ensures),
-      ?,
     )
 
 add-column-2 : tie.Need-add-column-2 Inv-loop μ-loop Inv-picture μ-picture
@@ -135,7 +134,7 @@ loop-again-2 c =
     (at-macroblock .macroblock .result) _ _ (at-macroblock .macroblock .ensures) _ (c .before .read .given .1) (at-macroblock .macroblock .kept .1 .1 .1 .1 .1 .1 .1 .1 .1 .1 .0)
 
 cast-head : tie.Need-cast-head Inv-loop μ-loop Inv-picture μ-picture
-cast-head c = omega (arith, gquant-low _ _ (c .before .loop .inv .quantised))
+cast-head c = omega (arith, gquant-low (c .before .before .before .picture .number) (c .before .loop .gquant) (c .before .loop .inv .quantised))
 
 add-head : tie.Need-add-head Inv-loop μ-loop Inv-picture μ-picture
 add-head c = let in-picture = c .before .before in omega (arith, group-less in-picture, down-most (began in-picture .args .size))
@@ -171,20 +170,20 @@ module _ (c : tie.Left-picture Inv-loop μ-loop Inv-picture μ-picture) where
       ⊎-elim (λ w. left-as (out-done (begun .pre) (picture .inv) (picture .stopped) (omega (arith, w .0 .left, down-is))) refl (w .1) (w .2) (w .3) (w .4))
       (⊎-elim
       (λ w.
-          let group = below (picture .number) _ _ (w .0 .taken) down-is in
-          let column = below (w .1 .column) _ _ (w .2 .taken) across-is in
-          left-as
-          (out-refused (begun .pre) (picture .inv) _ _ _ _ group
-          (w .12 .kept .1 .1 .1 .1 .1 .1 .1 .1 .1 .0 ∙ w .1 .inv .laid .ms-long) (w .12 .kept .1 .1 .1 .1 .1 .1 .1 .1 .1 .1 .0 ∙ w .1 .inv .laid .ls-long)
-          (row-unsaid (w .1 .inv) column (w .3 .result) (w .3 .ensures) _ _ _ (w .5 .given .1) group across-is (w .8 .result) (w .8 .ensures) (w .9 .result) (w .9 .ensures) (w .12 .result) _ _ (w .12 .ensures) (w .17 .keys2)))
-          refl (w .20) (w .21) (w .22) (w .23 ∙ w .19 .ensures))
+      let group = below (picture .number) _ _ (w .0 .taken) down-is in
+      let column = below (w .1 .column) _ _ (w .2 .taken) across-is in
+      left-as
+      (out-refused (begun .pre) (picture .inv) _ _ _ _ group
+      (w .12 .kept .1 .1 .1 .1 .1 .1 .1 .1 .1 .0 ∙ w .1 .inv .laid .ms-long) (w .12 .kept .1 .1 .1 .1 .1 .1 .1 .1 .1 .1 .0 ∙ w .1 .inv .laid .ls-long)
+      (row-unsaid (w .1 .inv) column (w .3 .result) (w .3 .ensures) _ _ _ (w .5 .given .1) group across-is (w .8 .result) (w .8 .ensures) (w .9 .result) (w .9 .ensures) (w .12 .result) _ _ (w .12 .ensures) (w .17 .keys2)))
+      refl (w .20) (w .21) (w .22) (w .23 ∙ w .19 .ensures))
       (λ w.
-          let group = below (picture .number) _ _ (w .0 .taken) down-is in
-          let column = below (w .1 .column) _ _ (w .2 .taken) across-is in
-          left-as
-          (out-refused (begun .pre) (picture .inv) _ _ _ _ group (w .1 .inv .laid .ms-long) (w .1 .inv .laid .ls-long)
-          (row-unopened (w .1 .inv) column (w .3 .result) (w .3 .ensures) _ (w .5 .given .1)))
-          refl (w .7) (w .8) (w .9) (w .10)))
+      let group = below (picture .number) _ _ (w .0 .taken) down-is in
+      let column = below (w .1 .column) _ _ (w .2 .taken) across-is in
+      left-as
+      (out-refused (begun .pre) (picture .inv) _ _ _ _ group (w .1 .inv .laid .ms-long) (w .1 .inv .laid .ls-long)
+      (row-unopened (w .1 .inv) column (w .3 .result) (w .3 .ensures) _ (w .5 .given .1)))
+      refl (w .7) (w .8) (w .9) (w .10)))
       (c .picture-test .came)
 
 same-length : tie.Need-same-length Inv-loop μ-loop Inv-picture μ-picture
