@@ -2,6 +2,7 @@
 // how many fields and codewords were read, "refused NUMBER at PLACE reads READS", "refused 8 at PLACE table TABLE reads READS", "refused 2 reads 0"; "two verdicts" where
 // reading and decoding disagree, and "a refusal that changed a buffer".
 use crate::BEFORE;
+use crate::kind::Kind;
 use checks::part;
 use h261_groups::Format;
 use refusals::Refusal;
@@ -124,7 +125,10 @@ fn with_buffers(format: Format, bytes: &[u8], count: usize, pattern: &[u8; 15206
 }
 
 // The rest of a record, and whether to go on.
-pub fn one(format: Format, pattern: &[u8; 152064]) -> bool {
+pub fn one(kind: Kind, pattern: &[u8; 152064]) -> bool {
+    let Kind::H261(format) = kind else {
+        return false;
+    };
     let mut start = [0u8; 8];
     if !checks::fills(&mut start) {
         return false;

@@ -1,6 +1,7 @@
 // Pictures written: a record goes on with the output's length in four bytes and the description. Every byte of the output is 165 before. Lines: "written N CHECK" and
 // "refused NUMBER CHECK" with the check of the output; "not read back" where reading N bits of it doesn't give the description again.
 use crate::BEFORE;
+use crate::kind::Kind;
 use checks::Description;
 use checks::part;
 use h261_groups::Format;
@@ -65,11 +66,33 @@ fn reads_back(
     )
 }
 
-fn say(format: Format, head: &[u8], macroblocks: &[u8], levels: &[u8], out: &mut [u8]) {
-    let written = h261_writer::write(head, macroblocks, levels, format, out);
+// H.263's are compared by their bytes alone.
+fn comes_back(
+    kind: Kind,
+    bytes: &[u8],
+    count: usize,
+    head: &[u8],
+    macroblocks: &[u8],
+    levels: &[u8],
+) -> bool {
+    match kind {
+        Kind::H261(format) => reads_back(bytes, count, format, head, macroblocks, levels),
+        Kind::H263(_) => true,
+    }
+}
+
+fn written(kind: Kind, head: &[u8], macroblocks: &[u8], levels: &[u8], out: &mut [u8]) -> Written {
+    match kind {
+        Kind::H261(format) => h261_writer::write(head, macroblocks, levels, format, out),
+        Kind::H263(size) => h263_writer::write(head, macroblocks, levels, size, out),
+    }
+}
+
+fn say(kind: Kind, head: &[u8], macroblocks: &[u8], levels: &[u8], out: &mut [u8]) {
+    let written = written(kind, head, macroblocks, levels, out);
     match written {
         Written::Bits(count) => {
-            if reads_back(out, count, format, head, macroblocks, levels) {
+            if comes_back(kind, out, count, head, macroblocks, levels) {
                 checks::say(b"written");
                 checks::say_number(count as u64);
                 checks::say_check(out);
@@ -87,7 +110,7 @@ fn say(format: Format, head: &[u8], macroblocks: &[u8], levels: &[u8], out: &mut
 }
 
 // The rest of a record, and whether to go on.
-pub fn one(format: Format) -> bool {
+pub fn one(kind: Kind) -> bool {
     let mut start = [0u8; 4];
     if !checks::fills(&mut start) {
         return false;
@@ -109,7 +132,7 @@ pub fn one(format: Format) -> bool {
     let fielded = part(fields, &macroblocks);
     let levelled = part(coefficients, &levels);
     say(
-        format,
+        kind,
         &head[..headed],
         &macroblocks[..fielded],
         &levels[..levelled],
