@@ -1,4 +1,5 @@
-// What a record's first byte names: a standard, with the size of its pictures; and the lengths that it decides.
+// What a record's first byte names: a standard, with the size of its pictures; the lengths that it decides, and reading by it.
+use fields::PictureRead;
 use h261_groups::Format;
 use size::Size;
 
@@ -45,5 +46,21 @@ pub fn levels_length(kind: Kind) -> usize {
     match kind {
         Kind::H261(format) => h261_groups::levels_length(format),
         Kind::H263(size) => h263_description::levels_length(size),
+    }
+}
+
+// ---- a picture's bits to its description
+
+pub fn read(
+    kind: Kind,
+    bytes: &[u8],
+    count: usize,
+    head: &mut [u8],
+    macroblocks: &mut [u8],
+    levels: &mut [u8],
+) -> PictureRead {
+    match kind {
+        Kind::H261(format) => h261_reader::read(bytes, count, format, head, macroblocks, levels),
+        Kind::H263(size) => h263_reader::read(bytes, count, size, head, macroblocks, levels),
     }
 }

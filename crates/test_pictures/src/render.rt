@@ -54,7 +54,7 @@ fn newer(
     true
 }
 
-fn draws(
+pub fn draws(
     kind: Kind,
     head: &[u8],
     macroblocks: &[u8],

@@ -1,10 +1,10 @@
 // Pictures written: a record goes on with the output's length in four bytes and the description. Every byte of the output is 165 before. Lines: "written N CHECK" and
 // "refused NUMBER CHECK" with the check of the output; "not read back" where reading N bits of it doesn't give the description again.
 use crate::BEFORE;
+use crate::kind;
 use crate::kind::Kind;
 use checks::Description;
 use checks::part;
-use h261_groups::Format;
 use refusals::Verdict;
 use refusals::Written;
 
@@ -12,7 +12,7 @@ use refusals::Written;
 fn gives(
     bytes: &[u8],
     count: usize,
-    format: Format,
+    kind: Kind,
     head: &[u8],
     macroblocks: &[u8],
     levels: &[u8],
@@ -20,14 +20,7 @@ fn gives(
     macroblocks_read: &mut [u8],
     levels_read: &mut [u8],
 ) -> bool {
-    let read = h261_reader::read(
-        bytes,
-        count,
-        format,
-        head_read,
-        macroblocks_read,
-        levels_read,
-    );
+    let read = kind::read(kind, bytes, count, head_read, macroblocks_read, levels_read);
     let verdict = read.verdict;
     match verdict {
         Verdict::Refused(_) => false,
@@ -42,21 +35,21 @@ fn gives(
 fn reads_back(
     bytes: &[u8],
     count: usize,
-    format: Format,
+    kind: Kind,
     head: &[u8],
     macroblocks: &[u8],
     levels: &[u8],
 ) -> bool {
-    let mut head_read = [0u8; 15];
+    let mut head_read = [0u8; 23];
     let mut macroblocks_read = [0u8; 1584];
     let mut levels_read = [0u8; 152064];
-    let heads = part(h261_groups::head_length(format), &head_read);
-    let fields = part(h261_groups::macroblocks_length(format), &macroblocks_read);
-    let coefficients = part(h261_groups::levels_length(format), &levels_read);
+    let heads = part(kind::head_length(kind), &head_read);
+    let fields = part(kind::macroblocks_length(kind), &macroblocks_read);
+    let coefficients = part(kind::levels_length(kind), &levels_read);
     gives(
         bytes,
         count,
-        format,
+        kind,
         head,
         macroblocks,
         levels,
@@ -64,21 +57,6 @@ fn reads_back(
         &mut macroblocks_read[..fields],
         &mut levels_read[..coefficients],
     )
-}
-
-// H.263's are compared by their bytes alone.
-fn comes_back(
-    kind: Kind,
-    bytes: &[u8],
-    count: usize,
-    head: &[u8],
-    macroblocks: &[u8],
-    levels: &[u8],
-) -> bool {
-    match kind {
-        Kind::H261(format) => reads_back(bytes, count, format, head, macroblocks, levels),
-        Kind::H263(_) => true,
-    }
 }
 
 fn written(kind: Kind, head: &[u8], macroblocks: &[u8], levels: &[u8], out: &mut [u8]) -> Written {
@@ -92,7 +70,7 @@ fn say(kind: Kind, head: &[u8], macroblocks: &[u8], levels: &[u8], out: &mut [u8
     let written = written(kind, head, macroblocks, levels, out);
     match written {
         Written::Bits(count) => {
-            if comes_back(kind, out, count, head, macroblocks, levels) {
+            if reads_back(out, count, kind, head, macroblocks, levels) {
                 checks::say(b"written");
                 checks::say_number(count as u64);
                 checks::say_check(out);
