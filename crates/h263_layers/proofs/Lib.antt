@@ -5,3 +5,10 @@ pub mod PictureReads
 pub mod EventsTurn
 pub mod BlockSteps
 pub mod BlocksTurn
+pub mod Told
+pub mod VectorSteps
+pub mod HeadSteps
+pub mod HeaderOf
+pub mod MacroblockSteps
+pub mod OpenedTurn
+pub mod MacroblockWhole

@@ -68,11 +68,15 @@ blocksRead intra (b ∷ pattern) = do
   done (block ∷ rest)
 
 -- ---- macroblocks
+-- DQUANT, in a byte of two's complement
+abbrev pub dquantRead : {P : Places} → ReaderIn P ℕ
+dquantRead = field 2 >>= λ x. done (dquantIn x)
+
 -- "Order: COD (INTER pictures), MCBPC, CBPY, DQUANT, MVD, blocks." COD and MCBPC are read; the pattern is CBPY's four bits, then CBPC's two
 unfoldable pub macroblock : {P : Places} → Size → ℕ → ℕ → Vector → ℕ → ReaderIn P Macroblock
 macroblock size number address predicted kind = do
   luminance ← word cbpy
-  dquant ← optional (hasDQUANT (typeIn kind)) 0 (field 2 >>= λ x. done (dquantIn x))
+  dquant ← optional (hasDQUANT (typeIn kind)) 0 dquantRead
   vector ← optional (isInter (typeIn kind)) zeroVector (vectorRead size number address predicted)
   blocks ← blocksRead (isIntra (typeIn kind)) (bitsOf 6 (turned (isIntra (typeIn kind)) luminance * 4 + chromaIn kind))
   done (record { address = address; type = typeIn kind; quant = dquant; vector = vector; blocks = blocks })
@@ -187,17 +191,23 @@ pub record Ptype : Type 0 where
   pub ptype : ℕ
   pub type : ℕ
 
+abbrev pub ptypeIn : ℕ → Ptype
+ptypeIn x = record { ptype = x / 256 % 8; type = x / 16 % 2 }
+
 abbrev pub modesOf : {P : Places} → PlaceIn P → ℕ → ReaderIn P Ptype
 modesOf {P} start x = λ bs at.
-    pick (eqb (x % 16) 0) (done (record { ptype = x / 256 % 8; type = x / 16 % 2 }) bs at) (refused (stopIn P (refusal OptionalMode (bitIn P start + modeBit x)) at))
+    pick (eqb (x % 16) 0) (done (ptypeIn x) bs at) (refused (stopIn P (refusal OptionalMode (bitIn P start + modeBit x)) at))
 
 -- "PTYPE is one field"
 unfoldable pub ptypeRead : {P : Places} → Size → ReaderIn P Ptype
 ptypeRead size = λ bs at. next (judgedRead (field 13) (formatOf size) bs at) (modesOf at)
 
 -- "14 at 48 for CPM 1"
+abbrev pub cpmOf : ℕ → Judged ℕ
+cpmOf cpm = pick (eqb cpm 0) (fine cpm) (against OptionalMode)
+
 abbrev pub cpmRead : {P : Places} → ReaderIn P ℕ
-cpmRead = judgedRead (field 1) (λ cpm. pick (eqb cpm 0) (fine cpm) (against OptionalMode))
+cpmRead = judgedRead (field 1) cpmOf
 
 pub record Header : Type 0 where
   pub tr : ℕ

@@ -1,5 +1,5 @@
 -- What a layer asks of its caller. Assumes nothing.
-use Prim.Native.Nat.{ℕ, _≤_, _<_}
+use Prim.Native.Nat.{ℕ, _+_, _≤_, _<_}
 use mathlib.Core.Path.{_≡_}
 use mathlib.Core.List.{List}
 use lib.ListN.{length}
@@ -28,6 +28,12 @@ pub record VectorReady (size : Size) (number address : ℕ) (predicted : Kept) :
   pub last-address : address ≤ macroblocksAcross size
   pub horizontally : predicted .horizontal ≤ 63
   pub vertically : predicted .vertical ≤ 63
+
+-- room for a macroblock's four bytes, and its vector, kept
+pub record FieldsReady (macroblocks : List ℕ) (at horizontal vertical : ℕ) : Type 0 where
+  pub room : at + 4 ≤ length macroblocks
+  pub horizontally : horizontal ≤ 63
+  pub vertically : vertical ≤ 63
 
 -- its MCBPC, and buffers in the size's lengths
 pub record MacroblockReady (size : Size) (number address : ℕ) (predicted : Kept) (mcbpc : ℕ) (macroblocks levels : List ℕ) : Type 0 where

@@ -20,12 +20,11 @@ use refusals::Reason;
 use refusals::Refusal;
 use size::Size;
 ghost use mathlib.Core.Path.{_≡_};
-ghost use Prim.Native.Nat.{_<_};
 ghost use Rattle.bits.specs.Bits.{bitsLeft};
 ghost use Rattle.bits.specs.Answer.{Placed};
 ghost use Rattle.fields.specs.Answer.{asNumber, placeOf};
-ghost use Rattle.h263_layers.specs.Answer.{asHeader};
-ghost use Rattle.h263_layers.specs.Grammar.{headFields, groupHead, header as headerRead};
+ghost use Rattle.h263_layers.specs.Answer.{HeaderAsked, refusedAfter, againstAt, headerOf, asHeader};
+ghost use Rattle.h263_layers.specs.Grammar.{headFields, groupHead, modeBit, header as headerRead};
 
 // GBSC, GN, GFID and GQUANT of a group: its GQUANT.
 fn head_fields(bytes: &[u8], count: usize, at: Place, number: u32) -> NumberRead
@@ -120,7 +119,7 @@ fn header_of(
     cpm: FieldRead,
     spare: PlaceRead,
 ) -> HeaderRead
-    requires { ⌜ HeaderAsked tr ptype pquant cpm ⌝ }
+    requires { ⌜ HeaderAsked tr ptype pquant ⌝ }
     ensures { λ r. ⌜ r ≡ headerOf size at psc tr ptype pquant cpm spare ⌝ }
 {
     let FieldRead::Got(start, _) = psc else {

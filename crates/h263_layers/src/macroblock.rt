@@ -26,17 +26,23 @@ use size::Size;
 ghost use mathlib.Core.Path.{_≡_};
 ghost use Prim.Native.Nat.{_+_, _*_, _≤_};
 ghost use mathlib.Core.List.{_∷_, []};
-ghost use lib.ListN.{length};
 ghost use lib.Seq.{sets};
 ghost use Rattle.bits.specs.Bits.{bitsLeft};
 ghost use Rattle.bits.specs.Read.{judgedRead};
 ghost use Rattle.bits.specs.Code.{word};
-ghost use Rattle.fields.specs.Answer.{mapRead, leaving};
+ghost use Rattle.bits.specs.Answer.{Placed};
+ghost use Rattle.fields.specs.Answer.{mapRead, asNumber, leaving};
+ghost use Rattle.fields.specs.Rules.{optional};
 ghost use Rattle.size.specs.Place.{macroblocksAcross};
+ghost use Rattle.layout.specs.Value.{zeroVector};
+ghost use Rattle.layout.specs.Flat.{byteOf};
 ghost use Rattle.h263_words.specs.Tables.{mcbpcOf};
-ghost use Rattle.h263_layers.specs.Answer.{vectorKept, asFound, asOpened, sentIn, putSent};
-ghost use Rattle.h263_layers.specs.Ready.{Reading, OpenedReady, MacroblockReady};
-ghost use Rattle.h263_layers.specs.Grammar.{foundOf, foundRead, opened as openedRead, macroblock as macroblockRead};
+ghost use Rattle.h263_words.specs.Words.{isInter, hasDQUANT, chromaIn, turned};
+ghost use Rattle.h263_description.specs.Landing.{componentOf};
+ghost use Rattle.h263_layers.specs.Answer.{vectorKept, asVector, asFound, asOpened, sentIn, putSent};
+ghost use Rattle.h263_layers.specs.Ready.{Reading, VectorReady, FieldsReady, MacroblockReady};
+ghost use Rattle.h263_layers.specs.Vector.{vectorRead};
+ghost use Rattle.h263_layers.specs.Grammar.{foundOf, foundRead, groupHead, mayStand, dquantRead, opened as openedRead, macroblock as macroblockRead};
 
 // MCBPC. An INTER4V word is no word here.
 fn kind_found(tables: &WordTables, bytes: &[u8], count: usize, at: Place, intra: bool) -> FoundRead
@@ -150,22 +156,31 @@ pub fn opened(
     }
 }
 
-// DQUANT in a byte of two's complement, where the type has it; else 0.
-fn dquant(bytes: &[u8], count: usize, at: Place, kind: u8) -> NumberRead
+// DQUANT: the difference, in a byte of two's complement.
+fn difference(bytes: &[u8], count: usize, at: Place) -> NumberRead
     requires { ⌜ Placed (now bytes) count at ⌝ }
-    ensures { λ r. ⌜ asNumber (now (bytes .entry)) count r ≡ optional (hasDQUANT kind) 0 (dquantRead) (bitsLeft (now (bytes .entry)) count (at .bit)) at ⌝ }
+    ensures { λ r. ⌜ asNumber (now (bytes .entry)) count r ≡ dquantRead (bitsLeft (now (bytes .entry)) count (at .bit)) at ⌝ }
 {
-    if !has_dquant(kind) {
-        return NumberRead::Got(0, at);
-    }
     let read = once(at, field(bytes, count, at.bit, 2));
     let NumberRead::Got(code, next) = read else {
         return NumberRead::Refused(number_stopped(read));
     };
+    let size = code % 2 + 1;
     if code < 2 {
-        return NumberRead::Got(255 - code, next);
+        return NumberRead::Got(256 - size, next);
     }
-    NumberRead::Got(code - 1, next)
+    NumberRead::Got(size, next)
+}
+
+// DQUANT, where the type has it; else 0.
+fn dquant(bytes: &[u8], count: usize, at: Place, kind: u8) -> NumberRead
+    requires { ⌜ Placed (now bytes) count at ⌝ }
+    ensures { λ r. ⌜ asNumber (now (bytes .entry)) count r ≡ optional (hasDQUANT kind) 0 dquantRead (bitsLeft (now (bytes .entry)) count (at .bit)) at ⌝ }
+{
+    if has_dquant(kind) {
+        return difference(bytes, count, at);
+    }
+    NumberRead::Got(0, at)
 }
 
 // The vector, where the type is INTER; else zero, kept as 32.
@@ -210,7 +225,7 @@ fn component_byte(kept: u8) -> u8
 
 // The four bytes of a macroblock that is sent.
 fn put_fields(macroblocks: &mut [u8], at: usize, kind: u8, dquant: u8, horizontal: u8, vertical: u8)
-    requires { ⌜ (at + 4 ≤ length (now macroblocks)) × (horizontal ≤ 63) × (vertical ≤ 63) ⌝ }
+    requires { ⌜ FieldsReady (now macroblocks) at horizontal vertical ⌝ }
     ensures { λ _. ⌜ now (macroblocks .exit) ≡ sets (now (macroblocks .entry)) at (kind ∷ dquant ∷ byteOf (componentOf horizontal) ∷ byteOf (componentOf vertical) ∷ []) ⌝ }
 {
     macroblocks[at] = kind;
