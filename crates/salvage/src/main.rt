@@ -16,7 +16,6 @@ use libc::SEEK_SET;
 use libc::STDERR_FILENO;
 use libc::STDOUT_FILENO;
 use refusals::Reason;
-use refusals::Refusal;
 use salvaging::Asked;
 use salvaging::Entries;
 use salvaging::Entry;
@@ -248,12 +247,20 @@ fn settle(
 
 // ---- what is written
 
-// A block that goes on. A new number is no greater than the old one, so that the test of it never fails.
-fn put_block(goes: bool, clip: u16, picture: u64, block: &[u8; 512]) -> bool {
-    if goes && picture < 1048576 {
+// A new number is no greater than the old one, so that the test never fails.
+fn put_renewed(clip: u16, picture: u64, block: &[u8; 512]) -> bool {
+    if picture < 1048576 {
         let mut renewed = [0u8; 512];
         vault::renew(clip, picture as u32, block, &mut renewed);
         return io::write_all(STDOUT_FILENO, &renewed);
+    }
+    false
+}
+
+// A block that goes on.
+fn put_block(goes: bool, clip: u16, picture: u64, block: &[u8; 512]) -> bool {
+    if goes {
+        return put_renewed(clip, picture, block);
     }
     true
 }

@@ -9,8 +9,8 @@ use Rattle.refusals.specs.Told.{accepted, refused}
 use Rattle.salvaging.specs.Log.{LogEntry}
 use Rattle.salvaging.specs.Salvage.{Salvage}
 use Rattle.account.specs.Status.{statusOf}
-use Rattle.salvage_log.specs.Lines.{entryText, entriesText}
-use Rattle.salvage_log.specs.Cuts.{entryCuts, cutAfter, salvageStatus, StatusByRun, ByBlocks, LogByBlocks}
+use Rattle.salvage_log.specs.Lines.{entryText, refusedText, entriesText, logText}
+use Rattle.salvage_log.specs.Cuts.{entryCuts, cutAfter, salvageStatus, RunTells, EveryRunTells, ByBlocks, LogByBlocks}
 
 text-by-blocks : (before entries : List LogEntry) → entriesText (before ++ entries) ≡ entriesText before ++ entriesText entries
 unfolding entriesText
@@ -32,6 +32,11 @@ unfolding salvageStatus
 status-by true s = refl
 status-by false s = refl
 
-pub status-by-run : StatusByRun
+text-by : (none : Bool) (s : Salvage) → pick none (refusedText 43) (entriesText (s .log)) ≡ logText (pick none (refused 43 0) (accepted s))
+unfolding logText
+text-by true s = refl
+text-by false s = refl
+
+pub run-tells : EveryRunTells
 unfolding statusOf
-status-by-run s = status-by (eqb (s .pictures) 0) s
+run-tells s = record { text = text-by (eqb (s .pictures) 0) s; status = status-by (eqb (s .pictures) 0) s }

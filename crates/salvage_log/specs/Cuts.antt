@@ -3,6 +3,7 @@ use mathlib.Core.Path.{_≡_}
 use mathlib.Core.Bool.{Bool, true, false}
 use mathlib.Core.List.{List, [], _∷_, _++_}
 use Prim.Native.Nat.{ℕ}
+use lib.Dec.{eqb}
 use Rattle.laws.specs.Choice.{pick, either}
 use Rattle.refusals.specs.Told.{Told, accepted, refusedBy}
 use Rattle.standing.specs.Answered.{Said, old, taken, lost, picture, refused}
@@ -10,7 +11,7 @@ use Rattle.salvaging.specs.Log.{LogEntry, kept, skipped, dropped}
 use Rattle.salvaging.specs.Salvage.{Salvage, someKept}
 use Rattle.account.specs.Status.{statusOf}
 use Rattle.account.specs.declared.End.the-variants.{Done}
-use Rattle.salvage_log.specs.Lines.{entriesText}
+use Rattle.salvage_log.specs.Lines.{refusedText, entriesText, logText}
 
 -- a dropped block, by its answer
 abbrev pub answerCuts : Said → Bool
@@ -35,10 +36,14 @@ unfoldable pub salvageStatus : Told Salvage → ℕ
 salvageStatus (accepted s) = pick (cutAfter false (s .log)) 1 0
 salvageStatus (refusedBy numbers) = 2
 
--- ---- block after block
--- "then 43, no picture kept": that is what a run ends with, by its pictures and whether something was cut
-abbrev pub StatusByRun : Type 0
-StatusByRun = (s : Salvage) → statusOf (Done (cutAfter false (s .log)) (s .pictures)) ≡ salvageStatus (someKept s)
+-- ---- what a run tells
+-- "then 43, no picture kept": by its entries, its pictures and whether something was cut
+pub record RunTells (s : Salvage) : Type 0 where
+  pub text : pick (eqb (s .pictures) 0) (refusedText 43) (entriesText (s .log)) ≡ logText (someKept s)
+  pub status : statusOf (Done (cutAfter false (s .log)) (s .pictures)) ≡ salvageStatus (someKept s)
+
+abbrev pub EveryRunTells : Type 0
+EveryRunTells = (s : Salvage) → RunTells s
 
 -- the entries of one block after those of others: their lines, and whether something was cut
 pub record ByBlocks (cut : Bool) (before entries : List LogEntry) : Type 0 where
