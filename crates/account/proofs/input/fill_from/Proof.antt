@@ -1,17 +1,17 @@
--- `account::input::fill` meets its contract: what is read lies within the buffer, and each turn reads something. Assumes nothing.
+-- `account::input::fill_from` meets its contract: what is read lies within the buffer, and each turn reads something. Assumes nothing.
 use borrow.Author.Needs.{needs}
 use mathlib.Core.Path.{_≡_, sym}
 use Prim.Native.Nat.{_-_, _≤_}
 use lib.ListN.{length}
 use lib.Seq.{length-take-le}
-use Rattle.account.proofs.input.fill.Statement.{statement}
-use Rattle.account.proofs.input.fill.Tie as tie
+use Rattle.account.proofs.input.fill_from.Statement.{statement}
+use Rattle.account.proofs.input.fill_from.Tie as tie
 
 abbrev Inv-loop : tie.InvT-loop
-Inv-loop buffer₀ done₀ buffer done = (done ≤ length buffer) × (length buffer ≡ length buffer₀)
+Inv-loop file buffer₀ done₀ buffer done = (done ≤ length buffer) × (length buffer ≡ length buffer₀)
 
 abbrev μ-loop : tie.MeasureT-loop
-μ-loop buffer₀ done₀ buffer done = length buffer - done
+μ-loop file buffer₀ done₀ buffer done = length buffer - done
 
 loop-holds : tie.Need-loop-holds Inv-loop μ-loop
 loop-holds c = search needs
@@ -61,8 +61,8 @@ same-length-2 c = search needs
 returns-2 : tie.Need-returns-2 Inv-loop μ-loop
 returns-2 c = (search needs, sym (length-take-le _ _ (search needs)))
 
-pub fill-spec : {M : Type 1} → statement M
-fill-spec =
+pub fill-from-spec : {M : Type 1} → statement M
+fill-from-spec =
     tie.close
     (tie.spec
     Inv-loop
