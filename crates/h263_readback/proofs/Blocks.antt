@@ -17,10 +17,11 @@ use Rattle.bits.proofs.ReadBack.{Back, back-done, back-next, back-end, back-jud
 use Rattle.layout.specs.Value.{Coefficient, coefficient, Block}
 use Rattle.layout.specs.Numbers.{forbidden, isCode}
 use Rattle.layout.specs.Sendable.{Sendable}
+use Rattle.layout.specs.Pattern.{presenceOf}
 use Rattle.layout.specs.Proper.{If, Each, Fits, Begins}
 use Rattle.h263_words.specs.Words.{Event, eventRead, tcoefOf}
 use Rattle.h263_layers.specs.Grammar.{fits, eventsAfter, events, dcRead, intraBlock, interBlock, blocksRead}
-use Rattle.h263_writer.specs.Write.{eventsOf, eventsIn, blockOf, blocksOf, presenceOf, patternOf}
+use Rattle.h263_writer.specs.Write.{eventsOf, eventsIn, blockOf, blocksOf, patternOf}
 use Rattle.h263_readback.proofs.Words.{back-event, length-event}
 
 -- ---- coefficients

@@ -9,6 +9,7 @@ use lib.ListN.{length}
 use Rattle.laws.specs.Choice.{both}
 use Rattle.laws.proofs.Choice.{both-left, both-right}
 use Rattle.bits.specs.Bits.{Bit, bitsOf}
+use Rattle.bits.specs.Write.{bitsIf}
 use Rattle.bits.specs.Read.{_>>=_, done, field}
 use Rattle.bits.specs.Code.{wordOf}
 use Rattle.bits.proofs.ReadBack.{Back, back-done, back-next, back-end, back-field}
@@ -21,7 +22,7 @@ use Rattle.h263_words.specs.Words.{isIntra, isInter, hasDQUANT, typeIn, chromaI
 use Rattle.h263_description.specs.Proper.{ProperMacroblock}
 use Rattle.h263_description.proofs.Predictor.{Ranged}
 use Rattle.h263_layers.specs.Grammar.{macroblock, blocksRead}
-use Rattle.h263_writer.specs.Write.{bitsIf, vectorBits, patternOf, blocksOf}
+use Rattle.h263_writer.specs.Write.{vectorBits, patternOf, blocksOf}
 use Rattle.h263_readback.proofs.Words.{one-of, back-cbpy}
 use Rattle.h263_readback.proofs.Blocks.{pattern-less, back-blocks}
 use Rattle.h263_readback.proofs.Vectors.{back-vector}

@@ -12,6 +12,7 @@ use Rattle.laws.proofs.Choice.{both-left, both-right, opposite-no, T-true}
 use Rattle.laws.specs.Table.{allB, eqZ}
 use Rattle.laws.proofs.Table.{all-at, eqZ-yes}
 use Rattle.bits.specs.Bits.{Bit}
+use Rattle.bits.specs.Write.{bitsIf}
 use Rattle.bits.specs.Read.{Judged, fine, against}
 use Rattle.bits.proofs.ReadBack.{Back, back-done, back-next, back-end, back-judged}
 use Rattle.size.specs.declared.Size.{Size}
@@ -22,7 +23,7 @@ use Rattle.h263_description.specs.Vector.{inRange, inPicture}
 use Rattle.h263_description.specs.Proper.{ProperVector}
 use Rattle.h263_description.proofs.Predictor.{Ranged, zero-ranged}
 use Rattle.h263_layers.specs.Vector.{pairOf, component, componentRead, componentsRead, pointing, vectorRead}
-use Rattle.h263_writer.specs.Write.{bitsIf, componentBits, vectorBits}
+use Rattle.h263_writer.specs.Write.{componentBits, vectorBits}
 use Rattle.h263_readback.proofs.Words.{back-mvd}
 
 -- ---- a test at every number in -32..31
