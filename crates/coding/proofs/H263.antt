@@ -33,7 +33,7 @@ use Rattle.coding.specs.H263.{describedPicture, H263Lawful}
 module _ (size : Size) where
   read-found : (d : Flat) (bytes : List ℕ) → T (valid size d) → length (pictureBits size d) ≤ limit size → Holds bytes (pictureBits size d)
       → found (describedPicture size bytes (length (pictureBits size d))) ≡ accepted d
-  unfolding describedPicture pictureBits
+  unfolding describedPicture
   read-found d bytes t l h =
       let back : ReadBack size d bytes = reads-back size d bytes t l h in
       ap (λ (x : Read Picture). found (mapRead (laidPicture size) x)) (back .read) ∙ ap accepted (back .laidOut)
