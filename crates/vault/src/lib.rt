@@ -243,7 +243,7 @@ fn of_clip(size: Size, clip: u16, block: &[u8]) -> Checked
     }
 }
 
-fn same_standard(a: Standard, b: Standard) -> bool
+pub fn same_standard(a: Standard, b: Standard) -> bool
     ensures { λ r. ⌜ r ≡ sameStandard a b ⌝ }
 {
     match a {
