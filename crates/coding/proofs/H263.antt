@@ -20,6 +20,7 @@ use Rattle.h263_description.specs.Value.{Picture, laidPicture}
 use Rattle.h263_description.specs.Valid.{lengthsOf, validHead, valid}
 use Rattle.h263_description.specs.Fields.{refresh}
 use Rattle.h263_layers.specs.Grammar.{reading}
+use Rattle.h263_reader.specs.Described.{described}
 use Rattle.h263_writer.specs.Write.{pictureOf}
 use Rattle.h263_writer.specs.Output.{pictureBits}
 use Rattle.h263_readback.specs.ReadBack.{ReadBack}
@@ -28,19 +29,19 @@ use Rattle.h263_readback.proofs.Verdicts.{accepted-valid}
 use Rattle.h263_render.proofs.Rendered.{rendered-length}
 use Rattle.h263_render.proofs.Reference.{refresh-same}
 use Rattle.coding.specs.H261.{trOf}
-use Rattle.coding.specs.H263.{describedPicture, H263Lawful}
+use Rattle.coding.specs.H263.{H263Lawful}
 
 module _ (size : Size) where
   read-found : (d : Flat) (bytes : List ℕ) → T (valid size d) → length (pictureBits size d) ≤ limit size → Holds bytes (pictureBits size d)
-      → found (describedPicture size bytes (length (pictureBits size d))) ≡ accepted d
-  unfolding describedPicture
+      → found (described size bytes (length (pictureBits size d))) ≡ accepted d
+  unfolding described
   read-found d bytes t l h =
       let back : ReadBack size d bytes = reads-back size d bytes t l h in
       ap (λ (x : Read Picture). found (mapRead (laidPicture size) x)) (back .read) ∙ ap accepted (back .laidOut)
 
   -- what is found is valid
-  found-valid : (bytes : List ℕ) (n : ℕ) (d : Flat) → found (describedPicture size bytes n) ≡ accepted d → T (valid size d)
-  unfolding describedPicture
+  found-valid : (bytes : List ℕ) (n : ℕ) (d : Flat) → found (described size bytes n) ≡ accepted d → T (valid size d)
+  unfolding described
   found-valid bytes n d e = go (reading size bytes n) refl
     where
       read-as : (x : Read Picture) → reading size bytes n ≡ x → found (mapRead (laidPicture size) x) ≡ accepted d

@@ -1,28 +1,20 @@
 -- H.263 as a coding: the grammar, the layout, the writer, the refresh rule and the samples of the crates below. Assumes nothing.
-use Prim.Native.Nat.{ℕ}
-use mathlib.Core.List.{List}
-use Rattle.bits.specs.Read.{Read}
 use Rattle.size.specs.declared.Size.{Size}
 use Rattle.layout.specs.Flat.{Flat}
-use Rattle.fields.specs.Answer.{mapRead, found}
-use Rattle.h263_description.specs.Value.{laidPicture}
+use Rattle.fields.specs.Answer.{found}
 use Rattle.h263_description.specs.Valid.{valid}
 use Rattle.h263_description.specs.Fields.{refresh}
-use Rattle.h263_layers.specs.Grammar.{reading}
+use Rattle.h263_reader.specs.Described.{described}
 use Rattle.h263_writer.specs.Output.{pictureBits, oneSize}
 use Rattle.h263_render.specs.Sample.{rendered}
 use Rattle.coding.specs.Coding.{Coding}
 use Rattle.coding.specs.Lawful.{Lawful}
 use Rattle.coding.specs.H261.{trOf}
 
--- the description of the picture that N bits of a slice are
-unfoldable pub describedPicture : Size → List ℕ → ℕ → Read Flat
-describedPicture size bytes n = mapRead (laidPicture size) (reading size bytes n)
-
 -- the three slices have the lengths of one size; another than opened is no valid description. "refresh .. means a picture of type INTRA"; "TR 22 (8)"
 abbrev pub h263 : Size → Coding Flat
 h263 size = record {
-  read = λ bytes n. found (describedPicture size bytes n);
+  read = λ bytes n. found (described size bytes n);
   named = oneSize;
   valid = valid size;
   refresh = refresh;
