@@ -1,2 +1,4 @@
 pub mod Walk
 pub mod Told
+pub mod Taking
+pub mod Follow
