@@ -45,16 +45,21 @@ use Rattle.demand3.proofs.Finished.{bothSized, kept-sized, kept-shown}
 use Rattle.demand3.proofs.Step.{Moment, progressAt, receiverAt, worldAt, further, astray, arrived, collection-is, stores-are, lengths-make}
 use Rattle.salvaged.specs.Replayed.{AllReadBits, InTurn, all-finished, next-part, last-part, shownAfter, storesShown}
 use Rattle.salvaged.proofs.Walk.{clipAt}
-use Rattle.salvaged.proofs.Taking.{Fits, own, TakenToo, taken-too, finished-too, room-for, long-old, long-new, begins-more}
+use Rattle.salvaged.proofs.Taking.{Fits, own, TakenToo, taken-too, finished-too, room-for, renewed-long, long-new, begins-more}
 
 -- ---- what is to be shown of what the new receiver answers
--- each block of the new clip is the same if it is renewed under its number
+-- a block that is the same if it is renewed under this clip and number
+pub record Own (clip k : ℕ) (block : List ℕ) : Type 0 where
+  pub same : renewedBlock clip k block ≡ block
+  pub long : length block ≡ 512
+
+-- each block is, under its picture's number
 abbrev pub Owned : ℕ → ℕ → List Said → List (List ℕ) → Type 0
 Owned clip k [] [] = Unit {0}
 Owned clip k [] (block ∷ blocks) = ⊥
 Owned clip k (answer ∷ rest) [] = ⊥
-Owned clip k (A.picture n tick ∷ rest) (block ∷ blocks) = (renewedBlock clip k block ≡ block) × Owned clip (k + 1) rest blocks
-Owned clip k (A.taken n part ∷ rest) (block ∷ blocks) = (renewedBlock clip k block ≡ block) × Owned clip k rest blocks
+Owned clip k (A.picture n tick ∷ rest) (block ∷ blocks) = Own clip k block × Owned clip (k + 1) rest blocks
+Owned clip k (A.taken n part ∷ rest) (block ∷ blocks) = Own clip k block × Owned clip k rest blocks
 Owned clip k (A.old n part ∷ rest) (block ∷ blocks) = ⊥
 Owned clip k (A.lost ∷ rest) (block ∷ blocks) = ⊥
 Owned clip k (A.refused numbers ∷ rest) (block ∷ blocks) = ⊥
@@ -65,12 +70,12 @@ pub record Finishes (clip k part : ℕ) (answered : List Said) (blocks shown wan
   pub shows : shown ≡ wanted
   pub counts : length (keptNumbers answered) ≡ count
 
-module _ {clip k part : ℕ} {answered : List Said} {blocks shown wanted : List (List ℕ)} {count : ℕ} {block : List ℕ} (is-own : renewedBlock clip k block ≡ block) where
-  more-part : Finishes clip k (part + 1) answered blocks shown wanted count → Finishes clip k part (A.taken k part ∷ answered) (block ∷ blocks) shown wanted count
+module _ {clip k part : ℕ} {answered : List Said} {blocks shown wanted : List (List ℕ)} {count : ℕ} {block : List ℕ} (is-own : Own clip k block) where
+  pub more-part : Finishes clip k (part + 1) answered blocks shown wanted count → Finishes clip k part (A.taken k part ∷ answered) (block ∷ blocks) shown wanted count
   unfolding keptNumbers
   more-part f = record { turn = next-part (f .turn); owned = (is-own, f .owned); shows = f .shows; counts = f .counts }
 
-  more-picture : (tick : Tick) (a b : List ℕ) → a ≡ b → Finishes clip (k + 1) 0 answered blocks shown wanted count
+  pub more-picture : (tick : Tick) (a b : List ℕ) → a ≡ b → Finishes clip (k + 1) 0 answered blocks shown wanted count
       → Finishes clip k part (A.picture k tick ∷ answered) (block ∷ blocks) (a ∷ shown) (b ∷ wanted) (suc count)
   unfolding keptNumbers
   more-picture tick a b e f = record { turn = last-part tick (f .turn); owned = (is-own, f .owned); shows = (λ i. e i ∷ f .shows i); counts = ap suc (f .counts) }
@@ -269,6 +274,9 @@ module _ {D : Type 0} {coding : Kind → Coding D} (lawful : AllLawful coding) (
         abbrev madeHeader : Header
         madeHeader = renewedHeader new (t .pictures) header
 
+        is-own : Own new (t .pictures) made
+        is-own = record { same = own reads kind old-clip new has-new f; long = renewed-long reads kind old-clip new has-new f }
+
         abbrev rn : Receiver
         rn = receiverAt new kind n
 
@@ -303,7 +311,7 @@ module _ {D : Type 0} {coding : Kind → Coding D} (lawful : AllLawful coding) (
             let n′ : Moment = further n madeHeader (too .standing) made in
             let named : lentLengths size (n′ .lent) ≡ true = lengths-make size (n′ .lent .collection) (n .lent .both) (long-new reads kind old-clip new has-new f) (stores-are size (n .lent) (a .named-new)) in
             new-by (clipAt new t (answers coding (afterOld (taken header standing)) blocks) blocks) _ _ (taken madeHeader (too .standing)) (too .does)
-            (at-part (more-part (own reads kind old-clip new has-new f)
+            (at-part (more-part is-own
             (on t furtherOld n′ (alike-further n′ named refl refl)
             (collects (header .picture) (header .part + 1) refl (omega arith) stands refl (too .stands) (f .marks) (begins-more reads kind old-clip new has-new f) kept))))
 
@@ -372,7 +380,7 @@ module _ {D : Type 0} {coding : Kind → Coding D} (lawful : AllLawful coding) (
           unfolding keptNumbers cameTo
           goes-finished on =
               new-by (clipAt new u (answers coding (afterOld e) blocks) blocks) _ _ (finished madeHeader d) (finished-too reads kind old-clip new has-new f last d found marked)
-              (at-part (more-picture (own reads kind old-clip new has-new f) tickNew _ _ shown-same
+              (at-part (more-picture is-own tickNew _ _ shown-same
               (on u m′ n′ alike-arrived (waits refl (λ l. absurd (false≢true l)) (λ c h. absurd (omega (arith, h .begun)))))))
 
     -- ---- whatever it comes to

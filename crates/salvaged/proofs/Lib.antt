@@ -2,3 +2,6 @@ pub mod Walk
 pub mod Told
 pub mod Taking
 pub mod Follow
+pub mod Replayed
+pub mod Again
+pub mod Whole

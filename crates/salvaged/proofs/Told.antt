@@ -26,7 +26,7 @@ use Rattle.salvaging.specs.Step.{tallyAfter}
 use Rattle.salvaging.specs.declared.Tally.{Tally}
 use Rattle.salvaging.proofs.Kept.{entries-few}
 use Rattle.salvaged.specs.Told.{numbersFrom, droppedIn, Accounted, all-told, is-written, is-dropped, WrittenOrDropped, oldNumbers, newNumbers, oldNamed, NumbersCovered, NumbersFall, LimitsKept, exactTicks, noRunBefore, LeadsOn, RunsLead, RunsRestart, LogTellsAll}
-use Rattle.salvaged.proofs.Walk.{clipAt, logAt, clip-walk, log-walk, noTally, Rises, fresh-rises, answers-length}
+use Rattle.salvaged.proofs.Walk.{clipAt, logAt, clip-whole, log-whole, noTally, Rises, fresh-rises, answers-length}
 
 -- ---- the entries of a block, by what they tell
 module _ (at new next : ℕ) (n : ℕ) (rest : List LogEntry) where
@@ -226,43 +226,32 @@ module _ (new : ℕ) (blocks : List (List ℕ)) (answered : List Said) (long : l
   abbrev salvage : Salvage
   salvage = salvageBy new blocks answered
 
-  abbrev log : List LogEntry
-  log = logAt 0 noTally answered
-
-  log-is : logFrom [] answered ≡ log
-  unfolding keptNumbers numberAfter
-  log-is = log-walk [] answered
-
-  clip-is : clipFrom new [] answered blocks ≡ clipAt new noTally answered blocks
-  unfolding keptNumbers numberAfter
-  clip-is = clip-walk new [] answered blocks
-
   told-accounted : WrittenOrDropped new blocks answered salvage
   told-accounted = let all : Accounted new 0 blocks answered (clipFrom new [] answered blocks) (droppedIn (logFrom [] answered)) =
-      subst (λ (made : List (List ℕ)). Accounted new 0 blocks answered made (droppedIn (logFrom [] answered))) (sym clip-is)
-      (subst (λ (entries : List LogEntry). Accounted new 0 blocks answered (clipAt new noTally answered blocks) (droppedIn entries)) (sym log-is) (accounted new 0 noTally blocks answered long)) in
+      subst (λ (made : List (List ℕ)). Accounted new 0 blocks answered made (droppedIn (logFrom [] answered))) (sym (clip-whole new answered blocks))
+      (subst (λ (entries : List LogEntry). Accounted new 0 blocks answered (clipAt new noTally answered blocks) (droppedIn entries)) (sym (log-whole answered)) (accounted new 0 noTally blocks answered long)) in
       record { each = all; count = counted new all }
 
   told-covered : NumbersCovered answered salvage
   told-covered = record {
-    kept-are = ap oldNumbers log-is ∙ old-are 0 noTally answered;
+    kept-are = ap oldNumbers (log-whole answered) ∙ old-are 0 noTally answered;
     covered =
-        ap oldNamed log-is
+        ap oldNamed (log-whole answered)
         ∙ all-covered 0 noTally true answered rising
         ∙ (λ i. numbersFrom (sub-zero (numberAfter 0 (keptNumbers answered)) i) 0)
-        ∙ sym (ap (λ (l : List ℕ). numbersFrom (numberAfter 0 l) 0) (ap oldNumbers log-is ∙ old-are 0 noTally answered));
-    renumbered = ap newNumbers log-is ∙ new-are 0 noTally answered;
+        ∙ sym (ap (λ (l : List ℕ). numbersFrom (numberAfter 0 l) 0) (ap oldNumbers (log-whole answered) ∙ old-are 0 noTally answered));
+    renumbered = ap newNumbers (log-whole answered) ∙ new-are 0 noTally answered;
   }
 
   told-limits : LimitsKept blocks salvage
   told-limits = record {
     few-blocks = let c = told-accounted .count in omega (arith, c);
-    few-entries = let few = few-entered 0 noTally answered in subst (λ (entries : List LogEntry). length entries ≤ 2 * length blocks) (sym log-is) (omega (arith, few, long));
-    numbers = subst NumbersFall (sym log-is) (all-fall 0 noTally true answered rising (omega arith));
+    few-entries = let few = few-entered 0 noTally answered in subst (λ (entries : List LogEntry). length entries ≤ 2 * length blocks) (sym (log-whole answered)) (omega (arith, few, long));
+    numbers = subst NumbersFall (sym (log-whole answered)) (all-fall 0 noTally true answered rising (omega arith));
   }
 
   told-runs : RunsRestart answered salvage
-  told-runs = record { lead = subst RunsLead (sym log-is) (all-lead 0 noTally answered); turn = all-turn 0 noTally true answered rising ∙ ap (noRunBefore true) (sym log-is) }
+  told-runs = record { lead = subst RunsLead (sym (log-whole answered)) (all-lead 0 noTally answered); turn = all-turn 0 noTally true answered rising ∙ ap (noRunBefore true) (sym (log-whole answered)) }
 
 -- THE THEOREM
 pub log-tells-all : LogTellsAll

@@ -23,7 +23,7 @@ use Rattle.standing.specs.Answered.{Said}
 use Rattle.standing.specs.Answered as A
 use Rattle.standing.specs.Receive.{Event, refusing, old, taken, lost, failed, finished, Buffers, decide, tickIn, finishedTick, advance, answerOf, collectionAfter, storedBy, cameTo, step}
 use Rattle.standing.specs.Run.{World, worldAfter, answers}
-use Rattle.salvaging.specs.Kept.{keptNumbers, finishedLater, goesOn}
+use Rattle.salvaging.specs.Kept.{keptNumbers, numberAfter, finishedLater, goesOn}
 use Rattle.salvaging.specs.Log.{LogEntry, entriesFor, logFrom}
 use Rattle.salvaging.specs.Clip.{clipFrom, freshWorld, answersTo}
 use Rattle.salvaging.specs.Step.{tallyAfter}
@@ -41,7 +41,7 @@ abbrev pub logAt : ℕ → Tally → List Said → List LogEntry
 logAt at t [] = []
 logAt at t (answer ∷ after) = entriesFor at (t .pictures) (t .next) answer (finishedLater answer after) ++ logAt (at + 1) (tallyAfter t answer) after
 
-pub clip-walk : (clip : ℕ) (before after : List Said) (blocks : List (List ℕ)) → clipFrom clip before after blocks ≡ clipAt clip (tallyOf before) after blocks
+clip-walk : (clip : ℕ) (before after : List Said) (blocks : List (List ℕ)) → clipFrom clip before after blocks ≡ clipAt clip (tallyOf before) after blocks
 unfolding clipFrom
 clip-walk clip before [] blocks = refl
 clip-walk clip before (answer ∷ after) [] = refl
@@ -49,7 +49,7 @@ clip-walk clip before (answer ∷ after) (block ∷ blocks) =
     ap (λ (l : List (List ℕ)). pick (goesOn answer (finishedLater answer after)) (renewedBlock clip (length (keptNumbers before)) block ∷ []) [] ++ l)
     (clip-walk clip (before ++ (answer ∷ [])) after blocks ∙ ap (λ (t : Tally). clipAt clip t after blocks) (sym (tally-more before answer)))
 
-pub log-walk : (before after : List Said) → logFrom before after ≡ logAt (length before) (tallyOf before) after
+log-walk : (before after : List Said) → logFrom before after ≡ logAt (length before) (tallyOf before) after
 unfolding logFrom
 log-walk before [] = refl
 log-walk before (answer ∷ after) =
@@ -59,6 +59,15 @@ log-walk before (answer ∷ after) =
 -- before all of them
 abbrev pub noTally : Tally
 noTally = record { pictures = 0; next = 0 }
+
+-- all of them
+pub clip-whole : (clip : ℕ) (answered : List Said) (blocks : List (List ℕ)) → clipFrom clip [] answered blocks ≡ clipAt clip noTally answered blocks
+unfolding keptNumbers numberAfter
+clip-whole clip answered blocks = clip-walk clip [] answered blocks
+
+pub log-whole : (answered : List Said) → logFrom [] answered ≡ logAt 0 noTally answered
+unfolding keptNumbers numberAfter
+log-whole answered = log-walk [] answered
 
 -- ---- what is known of answers: no number before this one is finished any more, and ticks are exact as long as they have been and no number is skipped
 abbrev pub Rises : Bool → ℕ → List Said → Type 0
