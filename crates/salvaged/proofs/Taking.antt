@@ -18,12 +18,14 @@ use Rattle.size.specs.declared.Size.the-variants.{SubQcif, Qcif, Cif}
 use Rattle.size.specs.Size.{collectionLength}
 use Rattle.coding.specs.declared.Kind.{Kind}
 use Rattle.coding.specs.Coding.{Coding}
-use Rattle.coding.specs.Kind.{kindSize, AllLawful}
+use Rattle.coding.specs.Kind.{kindSize, kindStandard, AllLawful}
+use Rattle.vault.specs.declared.Standard.{Standard}
 use Rattle.vault.specs.declared.Header.{Header}
 use Rattle.vault.specs.Block.{pictures, greatestPart, payloadOf, judgeOf}
 use Rattle.vault.specs.Parts.{placedPayload}
 use Rattle.vault.specs.Renewed.{renewedBlock, renewedHeader, RenewedAs}
 use Rattle.vault.proofs.Judged.{Sound, judged-good}
+use Rattle.vault.proofs.Standards.{standard-believed}
 use Rattle.vault.proofs.Collected.{placed-length}
 use Rattle.vault.proofs.Renewed.{renewed-length, renewed-good, renewed-again}
 use Rattle.standing.specs.declared.Line.{Line}
@@ -75,7 +77,7 @@ module _ {D : Type 0} {coding : Kind → Coding D} (reads : AllReadBits coding) 
 
   -- a block that the old receiver takes, and the part that the new one is to take as one of its picture k
   pub record Fits (k : ℕ) (m n : Moment) (block : List ℕ) (header : Header) : Type 0 where
-    pub judged : judgeOf size old block ≡ accepted header
+    pub judged : judgeOf size (kindStandard kind) old block ≡ accepted header
     pub sound : Sound size block header
     pub numbered : k < pictures
     pub named-old : lentLengths size (m .lent) ≡ true
@@ -93,7 +95,7 @@ module _ {D : Type 0} {coding : Kind → Coding D} (reads : AllReadBits coding) 
     header′ = renewedHeader new k header
 
     is-renewed : RenewedAs size new k block header
-    is-renewed = renewed-good size new k block header has-new (f .numbered) (judged-good size old block header (f .judged) .0)
+    is-renewed = renewed-good size new k block header has-new (f .numbered) (judged-good size (kindStandard kind) old block header (f .judged) .0)
 
     pub own : renewedBlock new k renewed ≡ renewed
     own = renewed-again new k new k block (f .sound .long)
@@ -101,7 +103,9 @@ module _ {D : Type 0} {coding : Kind → Coding D} (reads : AllReadBits coding) 
     -- ---- which line takes it
     judged-new : judgedBlock (receiverAt new kind n) renewed (n .lent) ≡ accepted header′
     unfolding judgedBlock
-    judged-new = rw (f .named-new) (is-renewed .judged)
+    judged-new =
+        let own-standard : header .standard ≡ kindStandard kind = standard-believed size (kindStandard kind) old block header (f .judged) in
+        rw (f .named-new) (subst (λ (s : Standard). judgeOf size s new renewed ≡ accepted header′) own-standard (is-renewed .judged))
 
     not-earlier : earlierPlace (place k (header .part)) (n .wanted) ≡ false
     not-earlier = ap (earlierPlace (place k (header .part))) (f .wants) ∙ rw (le-ltb k k (omega arith), eq-eqb k k refl, le-ltb (header .part) (header .part) (omega arith))

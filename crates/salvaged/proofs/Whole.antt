@@ -12,8 +12,9 @@ use lib.ListN.{length, getElem?}
 use Rattle.laws.specs.Choice.{pick, both, opposite}
 use Rattle.coding.specs.declared.Kind.{Kind}
 use Rattle.coding.specs.Coding.{Coding}
-use Rattle.coding.specs.Kind.{kindSize, AllLawful}
+use Rattle.coding.specs.Kind.{kindSize, kindStandard, AllLawful}
 use Rattle.coding.specs.Described.{bytesIn}
+use Rattle.vault.specs.declared.Standard.{Standard}
 use Rattle.vault.specs.Parts.{partCount, headerAt, payloadAt, blockAt}
 use Rattle.vault.specs.Renewed.{renewedBlock}
 use Rattle.vault.proofs.KeptLaws.{payload-length}
@@ -48,9 +49,9 @@ use Rattle.salvaged.proofs.Replayed.{blank-named, clip-finished}
 use Rattle.salvaged.proofs.Again.{turn-alone, turn-clip}
 
 -- ---- a block as it was sent is the same under its own clip and number
-sent-same : (clip p : ℕ) (refresh : Bool) (bytes : List ℕ) (count part : ℕ) → renewedBlock clip p (blockAt clip p refresh bytes count part) ≡ blockAt clip p refresh bytes count part
+sent-same : (standard : Standard) (clip p : ℕ) (refresh : Bool) (bytes : List ℕ) (count part : ℕ) → renewedBlock clip p (blockAt standard clip p refresh bytes count part) ≡ blockAt standard clip p refresh bytes count part
 unfolding blockAt
-sent-same clip p refresh bytes count part = renewed-same (headerAt clip p refresh count part) (payloadAt bytes count part) (payload-length bytes count part)
+sent-same standard clip p refresh bytes count part = renewed-same (headerAt standard clip p refresh count part) (payloadAt bytes count part) (payload-length bytes count part)
 
 -- ---- a receiver that this part is to come to: it wants it, or it is fresh and this is the first of all
 data Expects (p part : ℕ) (m : Moment) : Type 0 where
@@ -68,7 +69,7 @@ module _ {D : Type 0} {coding : Kind → Coding D} (lawful : AllLawful coding) {
   module _ {p part : ℕ} {block : List ℕ} (h : PartOf sent p part block) (m : Moment) (held : Held lawful sound m) where
     is-own : Own clip p block
     is-own = record {
-      same = subst (λ (b : List ℕ). renewedBlock clip p b ≡ b) (block-of lawful sound h .is) (sent-same clip p (refreshOf coding kind (h .picture)) (bytesIn (bitsOf coding kind (h .picture))) (length (bitsOf coding kind (h .picture))) part);
+      same = subst (λ (b : List ℕ). renewedBlock clip p b ≡ b) (block-of lawful sound h .is) (sent-same (kindStandard kind) clip p (refreshOf coding kind (h .picture)) (bytesIn (bitsOf coding kind (h .picture))) (length (bitsOf coding kind (h .picture))) part);
       long = block-long coding kind (h .picture) (block-of lawful sound h);
     }
 
