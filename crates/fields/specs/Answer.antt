@@ -2,6 +2,7 @@
 use Prim.Native.Nat.{ℕ}
 use mathlib.Core.List.{List}
 use Rattle.refusals.specs.declared.Reason.the-variants.{BitsEnd}
+use Rattle.refusals.specs.declared.Verdict.the-variants.{Refused as RefusedVerdict}
 use Rattle.refusals.specs.Number.{refusal}
 use Rattle.refusals.specs.Told.{numbersOf, Told, accepted, refusedBy, refused as unread}
 use Rattle.bits.specs.Bits.{bitsLeft}
@@ -15,6 +16,7 @@ use Rattle.fields.specs.declared.NumberRead.{NumberRead}
 use Rattle.fields.specs.declared.NumberRead.the-variants.{Got as GotNumber, Refused as NoNumber}
 use Rattle.fields.specs.declared.PlaceRead.{PlaceRead}
 use Rattle.fields.specs.declared.PlaceRead.the-variants.{At, Refused}
+use Rattle.fields.specs.declared.PictureRead.{PictureRead}
 use Rattle.fields.specs.declared.PairRead.{PairRead}
 use Rattle.fields.specs.declared.PairRead.the-variants.{Got as GotPair, Refused as NoPair}
 
@@ -69,3 +71,7 @@ placeStopped (Refused r) = r
 abbrev pub pairStopped : PairRead → Stopped
 pairStopped (GotPair x y p) = bitsEndAt p
 pairStopped (NoPair r) = r
+
+-- the report of a picture that was refused
+abbrev pub refusedPicture : Stopped → PictureRead
+refusedPicture r = record { verdict = RefusedVerdict (r .refusal); reads = r .reads }
