@@ -4,3 +4,4 @@ pub mod Row
 pub mod RuleTurn
 pub mod RuleReads
 pub mod Uncounted
+pub mod HeaderRow
