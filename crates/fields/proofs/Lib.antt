@@ -5,3 +5,4 @@ pub mod RuleTurn
 pub mod RuleReads
 pub mod Uncounted
 pub mod PictureAnswer
+pub mod HeaderRow

@@ -8,6 +8,7 @@ use Rattle.refusals.specs.Told.{numbersOf, Told, accepted, refusedBy, refused a
 use Rattle.bits.specs.Bits.{bitsLeft}
 use Rattle.bits.specs.Places.{Places, counted, pastIn, stopIn}
 use Rattle.bits.specs.Read.{ReadIn, Read, got, refused, endless}
+use Rattle.bits.specs.Answer.{fieldRefusal}
 use Rattle.bits.specs.declared.Place.{Place}
 use Rattle.bits.specs.declared.Stopped.{Stopped}
 use Rattle.bits.specs.declared.FieldRead.{FieldRead}
@@ -46,6 +47,15 @@ abbrev pub asNumber : List ℕ → ℕ → NumberRead → ReadIn counted ℕ
 asNumber s n (GotNumber v p) = got v (bitsLeft s n (p .bit)) p
 asNumber s n (NoNumber r) = refused r
 
+-- a number, or a pair, that stands for this
+abbrev pub asMeant : {A : Type 0} → (ℕ → A) → List ℕ → ℕ → NumberRead → ReadIn counted A
+asMeant f s n (GotNumber v p) = got (f v) (bitsLeft s n (p .bit)) p
+asMeant f s n (NoNumber r) = refused r
+
+abbrev pub asMeantPair : {A : Type 0} → (ℕ → ℕ → A) → List ℕ → ℕ → PairRead → ReadIn counted A
+asMeantPair f s n (GotPair x y p) = got (f x y) (bitsLeft s n (p .bit)) p
+asMeantPair f s n (NoPair r) = refused r
+
 -- a layer's answer, with what it left in the buffers; on a refusal that is not said
 abbrev pub leaving : {A : Type 0} → List ℕ → ℕ → PlaceRead → A → ReadIn counted A
 leaving s n (At p) a = got a (bitsLeft s n (p .bit)) p
@@ -59,6 +69,9 @@ plainSpares (Refused r) = NoField (r .refusal)
 -- ---- the refusal of an answer that was refused; of another it is never asked
 abbrev pub bitsEndAt : Place → Stopped
 bitsEndAt p = stopIn counted (refusal BitsEnd (p .bit)) p
+
+abbrev pub fieldStopped : ℕ → FieldRead → Stopped
+fieldStopped reads read = record { refusal = fieldRefusal read; reads = reads }
 
 abbrev pub numberStopped : NumberRead → Stopped
 numberStopped (GotNumber v p) = bitsEndAt p

@@ -5,6 +5,7 @@ use bits::FieldRead;
 use bits::Place;
 use bits::Stopped;
 use bits::field;
+use bits::field_refusal;
 use refusals::Reason;
 use refusals::Refusal;
 use refusals::Verdict;
@@ -15,7 +16,7 @@ ghost use Rattle.laws.specs.Choice.{either};
 ghost use Rattle.bits.specs.Bits.{bitsLeft};
 ghost use Rattle.bits.specs.Answer.{Placed};
 ghost use Rattle.bit_reader.specs.Reader.{readerBits};
-ghost use Rattle.fields.specs.Answer.{readOnce, asNumber, leaving, numberStopped, placeStopped, pairStopped, placeOf, plainSpares, refusedPicture};
+ghost use Rattle.fields.specs.Answer.{readOnce, asNumber, leaving, fieldStopped, numberStopped, placeStopped, pairStopped, placeOf, plainSpares, refusedPicture};
 ghost use Rattle.fields.specs.Rules.{expect as expected, quantiser as quantiserRead, spares as sparesRead};
 
 // A field's number, or what a codeword means, with the next place; or the refusal.
@@ -38,6 +39,14 @@ pub fn number_stopped(read: NumberRead) -> Stopped
         },
         NumberRead::Refused(stopped) => stopped,
     }
+}
+
+// The refusal of a field that was refused, after so many reads.
+pub fn field_stopped(reads: usize, read: FieldRead) -> Stopped
+    ensures { λ r. ⌜ r ≡ fieldStopped reads read ⌝ }
+{
+    let refusal = field_refusal(read);
+    Stopped { refusal, reads }
 }
 
 // Where a layer ended, or the refusal.
