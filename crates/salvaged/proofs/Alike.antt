@@ -30,6 +30,7 @@ use Rattle.salvaging.specs.Clip.{blankBuffers}
 use Rattle.salvaging.proofs.Rising.{TookBy, by-next, by-anew, EventKnown, event-known, judged-means}
 use Rattle.demand3.proofs.Finished.{kept-sized}
 use Rattle.demand3.proofs.Step.{stores-are, lengths-make}
+use Rattle.demand3.proofs.Held.{not-lost}
 use Rattle.salvaged.specs.Replayed.{AllReadBits, AnswersAlikeAlways}
 use Rattle.salvaged.proofs.Taking.{placing, placed-long, placed-alike, read-alike}
 use Rattle.salvaged.proofs.Replayed.{blank-named}
@@ -72,10 +73,6 @@ module _ {D : Type 0} {coding : Kind → Coding D} (lawful : AllLawful coding) (
       line-alike =
           go (earlierPlace (placeOf header) (r .progress .wanted)) (both (samePlace (placeOf header) (r .progress .wanted)) (opposite (isLost (r .progress .standing)))) (both (eqb (header .part) 0) (header .refresh)) refl refl refl
         where
-          not-lost : (t : Bool) → opposite t ≡ true → t ≡ false
-          not-lost true e = absurd (true≢false (sym e))
-          not-lost false e = refl
-
           go : (x y z : Bool) → earlierPlace (placeOf header) (r .progress .wanted) ≡ x → both (samePlace (placeOf header) (r .progress .wanted)) (opposite (isLost (r .progress .standing))) ≡ y
               → both (eqb (header .part) 0) (header .refresh) ≡ z
               → byLine coding (lineBy x y z) r header block (c .collection) ≡ byLine coding (lineBy x y z) r header block (b .collection)

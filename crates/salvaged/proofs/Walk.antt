@@ -1,6 +1,6 @@
 -- A list of answers gone along with the number of the block and the pictures so far: the new clip and the log are made by the way. What is known of a fresh receiver's answers. Assumes nothing.
 use mathlib.Core.Path.{_≡_, refl, sym, ap, _∙_}
-use mathlib.Core.Bool.{Bool, true, false}
+use mathlib.Core.Bool.{Bool, true}
 use mathlib.Core.List.{List, [], _∷_, _++_}
 use Prim.Native.Nat.{ℕ, suc, _+_, _≤_, _<_}
 use native.Mathlib.Omega.{arith}
@@ -12,7 +12,8 @@ use Rattle.coding.specs.Coding.{Coding}
 use Rattle.vault.specs.Block.{pictures}
 use Rattle.vault.specs.Renewed.{renewedBlock}
 use Rattle.ticks.specs.declared.Tick.{Tick}
-use Rattle.ticks.specs.Tick.{isExact, tickAs, laterTick}
+use Rattle.ticks.specs.Tick.{isExact}
+use Rattle.ticks.proofs.TickLaws.{as-exact, later-exact}
 use Rattle.standing.specs.declared.Holder.{Holder}
 use Rattle.standing.specs.declared.Holder.the-variants.{Neither, First, Second}
 use Rattle.standing.specs.declared.Receiver.{Receiver}
@@ -82,17 +83,13 @@ LastSays Neither picture tick exact next = (exact ≡ true) × (next ≡ 0)
 LastSays First picture tick exact next = (exact ≡ isExact tick) × (next ≡ picture + 1)
 LastSays Second picture tick exact next = (exact ≡ isExact tick) × (next ≡ picture + 1)
 
-as-exact : (b : Bool) (n : ℕ) → isExact (tickAs b n) ≡ b
-as-exact true n = refl
-as-exact false n = refl
-
 -- the tick of the next one
 tick-exact : (modulus : ℕ) (holder : Holder) (picture : ℕ) (tick : Tick) (exact : Bool) (next n tr : ℕ) → LastSays holder picture tick exact next
     → isExact (tickIn modulus (record { holder = holder; picture = picture; tick = tick }) n tr) ≡ both exact (eqb n next)
-unfolding tickIn laterTick
+unfolding tickIn
 tick-exact modulus Neither picture tick exact next n tr h = as-exact (eqb n 0) tr ∙ (λ i. both (sym (h .0) i) (eqb n (sym (h .1) i)))
-tick-exact modulus First picture tick exact next n tr h = as-exact (both (isExact tick) (eqb n (picture + 1))) _ ∙ (λ i. both (sym (h .0) i) (eqb n (sym (h .1) i)))
-tick-exact modulus Second picture tick exact next n tr h = as-exact (both (isExact tick) (eqb n (picture + 1))) _ ∙ (λ i. both (sym (h .0) i) (eqb n (sym (h .1) i)))
+tick-exact modulus First picture tick exact next n tr h = later-exact modulus picture tick n tr ∙ (λ i. both (sym (h .0) i) (eqb n (sym (h .1) i)))
+tick-exact modulus Second picture tick exact next n tr h = later-exact modulus picture tick n tr ∙ (λ i. both (sym (h .0) i) (eqb n (sym (h .1) i)))
 
 into-says : (holder : Holder) (n : ℕ) (tick : Tick) → LastSays (goesInto holder) n tick (isExact tick) (n + 1)
 into-says Neither n tick = (refl, refl)
