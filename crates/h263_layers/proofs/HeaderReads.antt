@@ -4,13 +4,13 @@ use Prim.Native.Nat.{ℕ, zero, suc, _+_, _-_, _*_, _/_, _%_, _^_, _≤_, _<_}
 use mathlib.Core.Path.{_≡_, refl, sym, ap, subst, _∙_}
 use mathlib.Core.Logic.{_⊎_, inl, inr}
 use mathlib.Core.Bool.{Bool, true, false}
-use mathlib.Core.List.{List, [], _∷_, _++_, append-assoc}
+use mathlib.Core.List.{List, [], _∷_}
 use native.Mathlib.Omega.{arith}
 use native.Mathlib.Nat.{pow-suc, le-refl}
-use lib.Dec.{T, leb, eqb, leb→le, lit≤, lit<}
+use lib.Dec.{T, eqb, lit≤, lit<}
 use lib.ListN.{length, length-append}
 use Rattle.laws.specs.Choice.{pick, both, either}
-use Rattle.laws.proofs.Choice.{both-left, either-right}
+use Rattle.laws.proofs.Choice.{either-right}
 use Rattle.laws.proofs.Table.{all-at}
 use Rattle.refusals.specs.declared.Reason.{Reason}
 use Rattle.refusals.specs.declared.Reason.the-variants.{BitsEnd, NoStartCode, OtherFormat, QuantiserZero, OptionalMode}
@@ -20,14 +20,15 @@ use Rattle.bits.specs.Places.{Places, counted, listed, ListedPlace, ListedRefus
 use Rattle.bits.specs.declared.Place.{Place}
 use Rattle.bits.specs.Read.{ReadIn, got, refused, endless, ReaderIn, AnyReader, failed, next, _>>=_, done, fieldFrom, field, Judged, fine, against, settle, judgedRead, seenRead}
 use Rattle.bits.proofs.Numbers.{num-small}
-use Rattle.bits.proofs.Seen.{total-append, seen-bit, seen-stop, seen-field}
-use Rattle.bits.proofs.Logic.{Fair, Took, Between, UpTo, Lists, Reads, reads-judged, makes-field, reads-field, judges-pick, judges-fine, judges-against}
+use Rattle.bits.proofs.Seen.{seen-bit, seen-stop, seen-field}
+use Rattle.bits.proofs.ListOfReads.{Added, added-none, added-on, Among, among-on}
+use Rattle.bits.proofs.Logic.{Took, Lists, Reads, reads-judged, makes-field, reads-field, judges-pick, judges-fine, judges-against}
 use Rattle.size.specs.declared.Size.{Size}
 use Rattle.layout.specs.Numbers.{isQuantiser}
 use Rattle.fields.specs.Rules.{quantiser, spares}
 use Rattle.fields.proofs.RuleReads.{Any, expect-reads, quantiser-reads, spares-reads}
 use Rattle.h263_description.specs.Value.{formatCode}
-use Rattle.h263_layers.specs.Among.{StandsAmong, InPtype}
+use Rattle.h263_layers.specs.Among.{InPtype}
 use Rattle.h263_layers.specs.Grammar.{formatOf, modeBit, Ptype, modesOf, ptypeRead, cpmRead, Header, header}
 
 -- ---- alike in places of any kind
@@ -104,36 +105,6 @@ header-alike size =
     (λ pquant. alike-then alike-cpm (λ cpm. alike-then (alike-reads (λ bound. spares-reads {bound = bound})) (λ dropped. alike-done _))))))
 
 -- ---- from the first bit on
--- the reads before a place have all its bits, and are no more than bits
-pub record Added (at : ListedPlace) : Type 0 where
-  pub all : totalWidth (at .widths) ≡ at .bit
-  pub few : length (at .widths) ≤ at .bit
-
-pub added-on : {at place : ListedPlace} → Added at → Between at place → Added place
-added-on {at} {place} a w =
-    let wide : totalWidth (place .widths) ≡ totalWidth (at .widths) + totalWidth (w .reads) = ap totalWidth (w .widths) ∙ total-append (at .widths) (w .reads) in
-    let long : length (place .widths) ≡ length (at .widths) + length (w .reads) = ap length (w .widths) ∙ length-append (at .widths) (w .reads) in
-    record { all = omega (arith, wide, a .all, w .all); few = omega (arith, long, a .few, w .few, w .all) }
-
--- where a refusal stands among the reads of bits that end there
-pub record Among (end : ℕ) (r : ListedRefusal) : Type 0 where
-  pub stands : StandsAmong (r .refusal) (r .widths)
-  pub few : length (r .widths) ≤ end + 1
-  pub within : r .refusal .place ≤ end
-  pub read : 3 ≤ number (r .refusal .reason)
-
-pub among-on : {at : ListedPlace} {end : ℕ} {r : ListedRefusal} → Added at → Fair end (r .refusal) → UpTo at end r → Among end r
-among-on {at} {end} {r} a fair u =
-    let wide : totalWidth (at .widths ++ u .before) ≡ totalWidth (at .widths) + totalWidth (u .before) = total-append (at .widths) (u .before) in
-    let joined : r .widths ≡ (at .widths ++ u .before) ++ u .after = u .widths ∙ sym (append-assoc (at .widths) (u .before) (u .after)) in
-    let long : length (r .widths) ≡ length (at .widths ++ u .before) + length (u .after) = ap length joined ∙ length-append (at .widths ++ u .before) (u .after) in
-    record {
-      stands = record { before = at .widths ++ u .before; after = u .after; all = joined; placed = omega (arith, wide, a .all, u .placed); last = u .last };
-      few = omega (arith, long, length-append (at .widths) (u .before), a .few, u .few, u .placed, u .all, u .some);
-      within = fair .within;
-      read = leb→le 3 (number (r .refusal .reason)) (both-left (leb 3 (number (r .refusal .reason))) (leb (number (r .refusal .reason)) 13) (fair .listed));
-    }
-
 -- a read of its bits, or none of them, that is refused where it begins
 among-one : (at : ListedPlace) (past end : ℕ) (reason : Reason) → Added at → at .bit ≤ past → past ≤ end → 3 ≤ number reason → Among end (stopIn listed (refusal reason (at .bit)) (pastIn listed at past))
 among-one at past end reason a l m n = record {
@@ -225,10 +196,6 @@ module _ (size : Size) (bs : List Bit) where
 
   abbrev at49 : ListedPlace
   at49 = placeAfter 49 (22 ∷ 8 ∷ 13 ∷ 5 ∷ 1 ∷ [])
-
-  added0 : Added unreadPlace
-  unfolding totalWidth
-  added0 = record { all = refl; few = lit≤ tt }
 
   added22 : Added at22
   unfolding totalWidth
@@ -330,13 +297,13 @@ module _ (size : Size) (bs : List Bit) where
   pub header-lists : HeaderLists bs (header size bs unreadPlace)
   unfolding header number
   header-lists =
-      by-field (λ y. HeaderLists bs (next y (λ psc. fromTr))) 22 bs unreadPlace _ (not-read unreadPlace 0 BitsEnd added0 (lit≤ tt) (omega arith) (lit≤ tt))
+      by-field (λ y. HeaderLists bs (next y (λ psc. fromTr))) 22 bs unreadPlace _ (not-read unreadPlace 0 BitsEnd added-none (lit≤ tt) (omega arith) (lit≤ tt))
       (λ psc left l s. on (eqb psc 0b0000000000000000100000) psc left l)
     where
       on : (t : Bool) (psc : ℕ) (left : List Bit) → length left + 22 ≡ length bs
           → HeaderLists bs (next (settle unreadPlace (pick t (fine psc) (against NoStartCode)) left at22) (λ psc. fromTr))
       on true psc left l = tr-lists left l
-      on false psc left l = not-read unreadPlace 22 NoStartCode added0 (lit≤ tt) (omega arith) (lit≤ tt)
+      on false psc left l = not-read unreadPlace 22 NoStartCode added-none (lit≤ tt) (omega arith) (lit≤ tt)
 
 -- ---- in counted places: no more reads than bits
 pub record HeaderCounted (bs : List Bit) (h : Header) (left : List Bit) (at : Place) : Type 0 where

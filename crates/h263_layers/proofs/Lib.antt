@@ -5,7 +5,6 @@ pub mod PictureReads
 pub mod EventsTurn
 pub mod BlockSteps
 pub mod BlocksTurn
-pub mod Told
 pub mod VectorSteps
 pub mod HeadSteps
 pub mod HeaderOf

@@ -15,6 +15,7 @@ use Rattle.bits.specs.Bits.{Bit, source}
 use Rattle.bits.specs.Places.{Places, plain, listed, ListedPlace, PlaceIn, stopIn, seenPlace, unreadPlace}
 use Rattle.bits.specs.Read.{ReadIn, Read, got, refused, endless, ReaderIn, next, _>>=_, done, seenRead}
 use Rattle.bits.proofs.Seen.{seen-bit}
+use Rattle.bits.proofs.ListOfReads.{Added, added-on, among-on}
 use Rattle.bits.proofs.Logic.{Took, Lists, Holds}
 use Rattle.size.specs.declared.Size.{Size}
 use Rattle.size.specs.Size.{limit}
@@ -24,7 +25,7 @@ use Rattle.h263_description.specs.Fields.{isIntraType}
 use Rattle.h263_description.specs.Proper.{ProperGroups, Proper}
 use Rattle.h263_layers.specs.Grammar.{groupsRead, Header, header, ended, picture, readingFrom, reading, readingListed}
 use Rattle.h263_layers.proofs.Layers.{groups-reads}
-use Rattle.h263_layers.proofs.HeaderReads.{Alike, alike-reads, alike-then, alike-done, seen-refused, header-alike, Added, added-on, among-on, HeaderRefused, HeaderRead, HeaderLists, header-lists}
+use Rattle.h263_layers.proofs.HeaderReads.{Alike, alike-reads, alike-then, alike-done, seen-refused, header-alike, HeaderRefused, HeaderRead, HeaderLists, header-lists}
 
 -- ---- all of it but the end: no bits are asked for after the last macroblock
 abbrev whole : Header → List Group → Picture

@@ -11,18 +11,15 @@ use Rattle.refusals.specs.Number.{refusal}
 use Rattle.bits.specs.Bits.{bitsLeft}
 use Rattle.bits.specs.Places.{counted}
 use Rattle.bits.specs.Read.{ReadIn, got, refused, Judged, fine, against}
-use Rattle.bits.specs.Answer.{fieldRefusal}
 use Rattle.bits.specs.declared.Place.{Place}
 use Rattle.bits.specs.declared.Stopped.{Stopped}
 use Rattle.bits.specs.declared.FieldRead.{FieldRead}
 use Rattle.bits.specs.declared.FieldRead.the-variants.{Got as GotField, Refused as NoField}
-use Rattle.fields.specs.Answer.{placeOf}
+use Rattle.fields.specs.Answer.{asMeant, asMeantPair}
+use Rattle.fields.specs.Header.{Below, andThen, ruled, afterSpare}
 use Rattle.fields.specs.declared.NumberRead.{NumberRead}
-use Rattle.fields.specs.declared.NumberRead.the-variants.{Got as GotNumber, Refused as NoNumber}
 use Rattle.fields.specs.declared.PairRead.{PairRead}
-use Rattle.fields.specs.declared.PairRead.the-variants.{Got as GotPair, Refused as NoPair}
 use Rattle.fields.specs.declared.PlaceRead.{PlaceRead}
-use Rattle.fields.specs.declared.PlaceRead.the-variants.{At, Refused}
 use Rattle.size.specs.declared.Size.{Size}
 use Rattle.layout.specs.Value.{Vector, Macroblock}
 use Rattle.layout.specs.Flat.{index, fieldsOf, putBlocks}
@@ -60,12 +57,10 @@ abbrev pub vectorKept : Kept → Vector
 vectorKept k = vectorOf (k .horizontal) (k .vertical)
 
 abbrev pub asComponent : List ℕ → ℕ → NumberRead → ReadIn counted ℤ
-asComponent s n (GotNumber x p) = got (componentOf x) (bitsLeft s n (p .bit)) p
-asComponent s n (NoNumber r) = refused r
+asComponent = asMeant componentOf
 
 abbrev pub asVector : List ℕ → ℕ → PairRead → ReadIn counted Vector
-asVector s n (GotPair h v p) = got (vectorOf h v) (bitsLeft s n (p .bit)) p
-asVector s n (NoPair r) = refused r
+asVector = asMeantPair vectorOf
 
 -- ---- macroblocks
 abbrev pub asFound : List ℕ → ℕ → FoundRead → ReadIn counted Found
@@ -102,11 +97,6 @@ abbrev pub asHeader : List ℕ → ℕ → HeaderRead → ReadIn counted Header
 asHeader s n (GotHeader h p) = got (headerIn h) (bitsLeft s n (p .bit)) p
 asHeader s n (NoHeader r) = refused r
 
--- a field that was got is below m
-abbrev pub Below : ℕ → FieldRead → Type 0
-Below m (GotField x p) = x < m
-Below m (NoField r) = Unit {0}
-
 -- where the next field was got too, the k bits after a field have numbers
 abbrev pub Spans : ℕ → FieldRead → FieldRead → Type 0
 Spans k (GotField x p) (GotField y q) = p + k < 18446744073709551616
@@ -119,47 +109,31 @@ pub record HeaderAsked (tr ptype pquant : FieldRead) : Type 0 where
   pub information : Spans 13 tr ptype
   pub quantised : Below 32 pquant
 
--- the refusal of a field that was refused, with so many reads; of another it is never asked
-abbrev pub refusedAfter : ℕ → FieldRead → Stopped
-refusedAfter reads read = record { refusal = fieldRefusal read; reads = reads }
-
 -- a refusal at a place, with so many reads
 abbrev pub againstAt : Reason → ℕ → ℕ → HeaderRead
 againstAt reason place reads = NoHeader (record { refusal = refusal reason place; reads = reads })
-
--- a field after so many reads: its refusal, one read more; else what comes of its meaning and its next place
-abbrev pub andThen : ℕ → FieldRead → (ℕ → Place → HeaderRead) → HeaderRead
-andThen reads (GotField x p) rest = rest x (placeOf p (reads + 1))
-andThen reads (NoField r) rest = NoHeader (record { refusal = r; reads = reads + 1 })
-
--- the refusal of a field against its rule, placed where it began, else what comes of its meaning
-abbrev pub ruled : Judged ℕ → ℕ → Place → (ℕ → HeaderRead) → HeaderRead
-ruled (fine x) at next rest = rest x
-ruled (against reason) at next rest = againstAt reason at (next .reads)
 
 -- the refusal of an optional mode, placed at its bit of PTYPE, else what comes of what PTYPE says
 abbrev pub moded : ℕ → ℕ → Place → (Ptype → HeaderRead) → HeaderRead
 moded x at next rest = pick (eqb (x % 16) 0) (rest (ptypeIn x)) (againstAt OptionalMode (at + modeBit x) (next .reads))
 
--- what comes of the spares
-abbrev pub afterSpare : PlaceRead → (Place → HeaderRead) → HeaderRead
-afterSpare (At p) rest = rest p
-afterSpare (Refused r) rest = NoHeader r
-
--- the rules of PSC, PQUANT and CPM
+-- the rules of PSC and PQUANT
 abbrev pub codeIs : ℕ → Judged ℕ
 codeIs x = pick (eqb x 0b0000000000000000100000) (fine x) (against NoStartCode)
 
 abbrev pub quantiserOf : ℕ → Judged ℕ
 quantiserOf q = pick (eqb q 0) (against QuantiserZero) (fine q)
 
+abbrev pub noHeader : Stopped → HeaderRead
+noHeader r = NoHeader r
+
 -- what the six reads of a header come to
 unfoldable pub headerOf : Size → ℕ → FieldRead → FieldRead → FieldRead → FieldRead → FieldRead → PlaceRead → HeaderRead
 headerOf size at psc tr ptype pquant cpm spare =
-    andThen 0 psc (λ x p. ruled (codeIs x) at p (λ start.
-    andThen 1 tr (λ reference at-ptype.
-    andThen 2 ptype (λ y at-pquant. ruled (formatOf size y) (at-ptype .bit) at-pquant (λ information. moded information (at-ptype .bit) at-pquant (λ said.
-    andThen 3 pquant (λ z at-cpm. ruled (quantiserOf z) (at-pquant .bit) at-cpm (λ quantised.
-    andThen 4 cpm (λ w at-spares. ruled (cpmOf w) (at-cpm .bit) at-spares (λ single.
-    afterSpare spare (λ next.
+    andThen noHeader 0 psc (λ x p. ruled noHeader (codeIs x) at p (λ start.
+    andThen noHeader 1 tr (λ reference at-ptype.
+    andThen noHeader 2 ptype (λ y at-pquant. ruled noHeader (formatOf size y) (at-ptype .bit) at-pquant (λ information. moded information (at-ptype .bit) at-pquant (λ said.
+    andThen noHeader 3 pquant (λ z at-cpm. ruled noHeader (quantiserOf z) (at-pquant .bit) at-cpm (λ quantised.
+    andThen noHeader 4 cpm (λ w at-spares. ruled noHeader (cpmOf w) (at-cpm .bit) at-spares (λ single.
+    afterSpare noHeader spare (λ next.
     GotHeader (record { tr = reference; ptype = said .ptype; kind = said .type; pquant = quantised }) next)))))))))))

@@ -7,11 +7,11 @@ use bits::FieldRead;
 use bits::Place;
 use bits::Stopped;
 use bits::field;
-use bits::field_refusal;
 use fields::NumberRead;
 use fields::PlaceRead;
 use fields::drop_spares;
 use fields::expect;
+use fields::field_stopped;
 use fields::number_stopped;
 use fields::once;
 use fields::place_stopped;
@@ -23,7 +23,7 @@ ghost use mathlib.Core.Path.{_≡_};
 ghost use Rattle.bits.specs.Bits.{bitsLeft};
 ghost use Rattle.bits.specs.Answer.{Placed};
 ghost use Rattle.fields.specs.Answer.{asNumber, placeOf};
-ghost use Rattle.h263_layers.specs.Answer.{HeaderAsked, refusedAfter, againstAt, headerOf, asHeader};
+ghost use Rattle.h263_layers.specs.Answer.{HeaderAsked, againstAt, headerOf, asHeader};
 ghost use Rattle.h263_layers.specs.Grammar.{headFields, groupHead, modeBit, header as headerRead};
 
 // GBSC, GN, GFID and GQUANT of a group: its GQUANT.
@@ -73,14 +73,6 @@ pub fn group_head(bytes: &[u8], count: usize, at: Place, number: u32) -> NumberR
     }
 }
 
-// The refusal of a field that was refused, after so many reads.
-fn refused(reads: usize, read: FieldRead) -> Stopped
-    ensures { λ r. ⌜ r ≡ refusedAfter reads read ⌝ }
-{
-    let refusal = field_refusal(read);
-    Stopped { refusal, reads }
-}
-
 // A refusal of a field against its rule.
 fn against(reason: Reason, place: usize, reads: usize) -> HeaderRead
     ensures { λ r. ⌜ r ≡ againstAt reason place reads ⌝ }
@@ -123,16 +115,16 @@ fn header_of(
     ensures { λ r. ⌜ r ≡ headerOf size at psc tr ptype pquant cpm spare ⌝ }
 {
     let FieldRead::Got(start, _) = psc else {
-        return HeaderRead::Refused(refused(1, psc));
+        return HeaderRead::Refused(field_stopped(1, psc));
     };
     if start != 32 {
         return against(Reason::NoStartCode, at, 1);
     }
     let FieldRead::Got(reference, at_ptype) = tr else {
-        return HeaderRead::Refused(refused(2, tr));
+        return HeaderRead::Refused(field_stopped(2, tr));
     };
     let FieldRead::Got(information, at_pquant) = ptype else {
-        return HeaderRead::Refused(refused(3, ptype));
+        return HeaderRead::Refused(field_stopped(3, ptype));
     };
     if information / 2048 != 2 {
         return against(Reason::OtherFormat, at_ptype, 3);
@@ -144,13 +136,13 @@ fn header_of(
         return against(Reason::OptionalMode, at_ptype + mode_bit(information), 3);
     }
     let FieldRead::Got(quantised, at_cpm) = pquant else {
-        return HeaderRead::Refused(refused(4, pquant));
+        return HeaderRead::Refused(field_stopped(4, pquant));
     };
     if quantised == 0 {
         return against(Reason::QuantiserZero, at_pquant, 4);
     }
     let FieldRead::Got(multipoint, _) = cpm else {
-        return HeaderRead::Refused(refused(5, cpm));
+        return HeaderRead::Refused(field_stopped(5, cpm));
     };
     if multipoint != 0 {
         return against(Reason::OptionalMode, at_cpm, 5);

@@ -1,10 +1,9 @@
 -- Reading always ends, by a refusal of the table or with all bits taken, and what is accepted is proper. Assumes nothing.
-use Prim.Native.Nat.{ℕ, _+_, _-_, _*_, _≤_, _<_}
+use Prim.Native.Nat.{ℕ, _+_, _*_, _≤_, _<_}
 use mathlib.Core.Path.{_≡_, refl, sym, ap, subst, _∙_}
 use mathlib.Core.Bool.{Bool, true, false}
 use mathlib.Core.List.{List, [], _∷_, _++_}
 use native.Mathlib.Omega.{arith}
-use native.Mathlib.Nat.{sub-zero}
 use borrow.Author.Tests.{le-ltb, ltb-false, eqb-true}
 use lib.Dec.{T, leb, ltb, eqb, leb→le, le→leb}
 use lib.ListN.{length, drop, length-append, length-drop, take-append-drop}
@@ -18,8 +17,8 @@ use Rattle.refusals.specs.Number.{number}
 use Rattle.bits.specs.Bits.{Bit, bitsIn, source}
 use Rattle.bits.specs.Places.{plain}
 use Rattle.bits.specs.Read.{Read, got, refused, endless, bad, next}
-use Rattle.bits.proofs.Value.{length-bits}
-use Rattle.bits.proofs.Source.{source-left}
+use Rattle.bits.proofs.Source.{length-source}
+use Rattle.bits.proofs.ListOfReads.{read-reason}
 use Rattle.bits.proofs.Logic.{Holds, Took}
 use Rattle.size.specs.declared.Size.{Size}
 use Rattle.size.specs.Size.{limit}
@@ -41,11 +40,7 @@ pub record Accepts (size : Size) (n : ℕ) (p : Picture) (left : List Bit) (at :
   pub allRead : left ≡ []
   pub exactly : at ≡ n
 
--- ---- one more reason, and reading the bits themselves never counts them
-two : (reason : Reason) → reason ≡ Count → 3 ≤ number reason → ⊥
-unfolding number
-two reason c l = let e : number reason ≡ 2 = ap number c in omega arith
-
+-- ---- one more reason
 listed-more : (reason : Reason) → T (ofBits reason) → T (fromTo 2 14 reason) × (3 ≤ number reason)
 listed-more reason t =
     let k = number reason in
@@ -53,9 +48,6 @@ listed-more reason t =
     let range = both-left (within 3 14 k) (opposite (eqb k 9)) table in
     let low : 3 ≤ k = leb→le 3 k (both-left (leb 3 k) (leb k 14) range) in
     (both-make (within 2 14 k) (opposite (eqb k 9)) (both-make (leb 2 k) (leb k 14) (le→leb 2 k (omega arith)) (both-right (leb 3 k) (leb k 14) range)) (both-right (within 3 14 k) (opposite (eqb k 9)) table), low)
-
-pub length-source : (s : List ℕ) (n : ℕ) → n ≤ 8 * length s → length (source s n) ≡ n
-length-source s n h = rw (source-left s n h) (length-bits s 0 (n - 0) ∙ sub-zero n)
 
 -- ---- what reading gives
 module _ (size : Size) (n : ℕ) where
@@ -67,7 +59,7 @@ module _ (size : Size) (n : ℕ) where
   after-end bs all (got p (b ∷ left) at) g t = record { listed = tt; within = omega (arith, g .1 .end); counted = λ c. absurd (let z : _≡_ {A = ℕ} 0 1 = cc in omega arith) }
   after-end bs all (refused r) g t =
       let more = listed-more (r .reason) t in
-      record { listed = more .0; within = omega (arith, g); counted = λ c. absurd (two (r .reason) c (more .1)) }
+      record { listed = more .0; within = omega (arith, g); counted = λ c. absurd (read-reason (r .reason) c (more .1)) }
   after-end bs all endless g t = g
 
   picture-gives : (bs : List Bit) → length bs ≡ n → Holds (Accepts size n) (Refuses n) (picture {P = plain} size bs 0)

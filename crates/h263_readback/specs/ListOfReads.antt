@@ -11,10 +11,11 @@ use Rattle.refusals.specs.Number.{number}
 use Rattle.bits.specs.Bits.{Bit}
 use Rattle.bits.specs.Places.{plain, totalWidth}
 use Rattle.bits.specs.Read.{got, refused, seenRead}
+use Rattle.bits.specs.Among.{StandsAmong}
 use Rattle.size.specs.declared.Size.{Size}
 use Rattle.layout.specs.Proper.{If}
 use Rattle.h263_description.specs.Value.{Picture}
-use Rattle.h263_layers.specs.Among.{StandsAmong, InPtype, PastReads}
+use Rattle.h263_layers.specs.Among.{InPtype, PastReads}
 use Rattle.h263_layers.specs.Grammar.{reading, readingListed, readWidths}
 
 -- the reading that the other promises speak of is the listed one, without its list

@@ -3,34 +3,30 @@ use mathlib.Core.Path.{_≡_, refl, sym, ap, subst, _∙_}
 use mathlib.Core.Bool.{Bool, true, false}
 use mathlib.Core.List.{List, [], _∷_}
 use mathlib.Core.Logic.{_⊎_, inl, inr}
-use Prim.Native.Nat.{ℕ, suc, _+_, _-_, _*_, _/_, _%_, _≤_, _<_}
+use Prim.Native.Nat.{ℕ, suc, _+_, _*_, _≤_, _<_}
 use native.Mathlib.Omega.{arith}
-use borrow.Author.Tests.{lt-ltb, le-ltb, ltb-false}
-use lib.Dec.{T, ltb, lit<}
+use borrow.Author.Tests.{lt-ltb, le-ltb}
+use lib.Dec.{ltb, lit<}
 use lib.ListN.{length, set, replicate}
-use denote.Enum.Declared.{tagOf}
 use Rattle.laws.specs.Choice.{pick, either}
 use Rattle.laws.proofs.Rows.{lt-or-ge}
 use Rattle.refusals.specs.declared.Reason.the-variants.{Count, AfterLast}
 use Rattle.refusals.specs.declared.Verdict.the-variants.{Accepted}
 use Rattle.refusals.specs.Number.{refusal}
-use Rattle.refusals.specs.Told.{toldVerdict, verdictOn, foundOr}
 use Rattle.bits.specs.Bits.{Bit, bitsLeft}
 use Rattle.bits.proofs.Source.{source-left}
 use Rattle.bits.proofs.Value.{left-none}
 use Rattle.bits.specs.Places.{counted, stopIn}
-use Rattle.bits.specs.Read.{ReadIn, Read, got, refused, endless, next}
+use Rattle.bits.specs.Read.{ReadIn, got, refused, endless, next}
 use Rattle.bits.specs.Answer.{Placed}
 use Rattle.bits.specs.declared.Place.{Place}
 use Rattle.bits.specs.declared.Stopped.{Stopped}
-use Rattle.fields.specs.Answer.{mapRead, found, leaving, placeOf, placeStopped}
+use Rattle.fields.specs.Answer.{mapRead, leaving, placeOf, refusedPicture}
 use Rattle.fields.specs.declared.PictureRead.{PictureRead}
 use Rattle.fields.specs.declared.PlaceRead.{PlaceRead}
 use Rattle.fields.specs.declared.PlaceRead.the-variants.{At, Refused}
-use Rattle.fields.proofs.PlaceRead.{the-type as place-type}
 use Rattle.fields.proofs.Meaning.{length-left}
-use Rattle.fields.proofs.Told.{no-place, is-place}
-use Rattle.fields.proofs.Uncounted.{uncounted, countIn}
+use Rattle.fields.proofs.PictureAnswer.{Answers, not-above, answers-refused, answers-laid}
 use Rattle.size.specs.declared.Size.{Size}
 use Rattle.size.specs.declared.Size.the-variants.{SubQcif, Qcif, Cif}
 use Rattle.size.specs.Size.{limit}
@@ -46,25 +42,14 @@ use Rattle.h263_layers.specs.Answer.{headerIn, asHeader}
 use Rattle.h263_layers.specs.Grammar.{Header, header, groupsRead, ended, picture, readWidths}
 use Rattle.h263_layers.proofs.HeaderReads.{HeaderCounts, header-counts}
 use Rattle.h263_reader.specs.Described.{Blank, afterHeader, described, zeros}
-use Rattle.h263_reader.specs.ReadOf.{endedAt, refusedPicture}
+use Rattle.h263_reader.specs.ReadOf.{endedAt}
 use Rattle.h263_reader.proofs.Counted.{describedCounted, described-uncounted, described-count-is}
 
 -- ---- N
-module _ (len n : ℕ) (size : Size) where
-  pub above-slice : len < n / 8 + (n % 8 + 7) / 8 → true ≡ either (ltb (8 * len) n) (ltb (limit size) n)
-  above-slice l = rw (lt-ltb (8 * len) n (omega arith))
-
-  pub above-limit : n / 8 + (n % 8 + 7) / 8 ≤ len → ltb (limit size) n ≡ either (ltb (8 * len) n) (ltb (limit size) n)
-  above-limit l = rw (le-ltb (8 * len) n (omega arith))
-
 limit-low : (size : Size) → limit size < 4294967296
 limit-low SubQcif = lit< tt
 limit-low Qcif = lit< tt
 limit-low Cif = lit< tt
-
-no-either : (a b : Bool) → either a b ≡ false → (a ≡ false) × (b ≡ false)
-no-either true b e = absurd (subst (λ (x : Bool). T x) e tt)
-no-either false b e = (refl, e)
 
 -- ---- the end
 module _ (n : ℕ) (r : PlaceRead) (p : Place) (e : r ≡ At p) where
@@ -138,19 +123,16 @@ module _ (size : Size) (s : List ℕ) (n : ℕ) (a : Bool) (w : a ≡ either (lt
 
   -- N is low, and the bytes have N bits
   module _ (e : a ≡ false) where
-    within-limit : n ≤ limit size
-    within-limit = ltb-false (limit size) n (no-either (ltb (8 * length s) n) (ltb (limit size) n) (sym w ∙ e) .1)
-
-    within-lent : n ≤ 8 * length s
-    within-lent = ltb-false (8 * length s) n (no-either (ltb (8 * length s) n) (ltb (limit size) n) (sym w ∙ e) .0)
+    bounds : (n ≤ 8 * length s) × (n ≤ limit size)
+    bounds = not-above (length s) n (limit size) (sym w ∙ e)
 
     pub lent-placed : Placed s n (placeOf 0 0)
-    lent-placed = record { within = record { lent = within-lent; inside = omega arith }; countable = omega (arith, within-limit, limit-low size) }
+    lent-placed = record { within = record { lent = bounds .0; inside = omega arith }; countable = omega (arith, bounds .1, limit-low size) }
 
     described-bits : describedCounted size s n ≡ mapRead (laidPicture size) (picture size (bitsLeft s n 0) (placeOf 0 0))
     described-bits =
         let z : either (ltb (8 * length s) n) (ltb (limit size) n) ≡ false = sym w ∙ e in
-        rw (z, source-left s n within-lent)
+        rw (z, source-left s n (bounds .0))
 
     module _ (h : HeaderRead) (v : asHeader s n h ≡ header size (bitsLeft s n 0) (placeOf 0 0)) where
       pub described-no-header : (r : Stopped) → h ≡ NoHeader r → describedCounted size s n ≡ refused r
@@ -167,7 +149,7 @@ module _ (size : Size) (s : List ℕ) (n : ℕ) (a : Bool) (w : a ≡ either (lt
         header-placed =
             let c : HeaderCounts (bitsLeft s n 0) (got (headerIn said) (bitsLeft s n (p .bit)) p) = subst (λ x. HeaderCounts (bitsLeft s n 0) x) header-is (header-counts size (bitsLeft s n 0)) in
             let inside : p .bit ≤ n = omega (arith, c .took .end, length-left s n 0, length-left s n (p .bit)) in
-            record { within = record { lent = within-lent; inside = inside }; countable = omega (arith, c .few, within-limit, limit-low size) }
+            record { within = record { lent = bounds .0; inside = inside }; countable = omega (arith, c .few, bounds .1, limit-low size) }
 
         pub described-header : describedCounted size s n ≡ mapRead (laidPicture size) (afterHeader size (headerIn said) (bitsLeft s n (p .bit)) p)
         unfolding picture
@@ -175,28 +157,13 @@ module _ (size : Size) (s : List ℕ) (n : ℕ) (a : Bool) (w : a ≡ either (lt
 
 -- ---- the answers
 module _ (size : Size) (s : List ℕ) (n : ℕ) where
-  -- what is answered and left by what is read in counted places is so of what the rules give
-  answers : (r : PictureRead) (d : Flat) (x : ReadIn counted Flat) → x ≡ describedCounted size s n → toldVerdict (r .verdict) ≡ verdictOn (found (uncounted x))
-      → d ≡ foundOr (zeros size) (found (uncounted x)) → r .reads ≡ countIn x
-      → (toldVerdict (r .verdict) ≡ verdictOn (found (described size s n))) × ((d ≡ foundOr (zeros size) (found (described size s n))) × (r .reads ≡ length (readWidths size s n)))
-  answers r d x e v b c =
-      let is : uncounted x ≡ described size s n = ap (λ (y : ReadIn counted Flat). uncounted y) e ∙ described-uncounted size s n in
-      (v ∙ ap (λ (y : Read Flat). verdictOn (found y)) is, (b ∙ ap (λ (y : Read Flat). foundOr (zeros size) (found y)) is, c ∙ ap (λ (y : ReadIn counted Flat). countIn y) e ∙ described-count-is size s n))
-
   -- refused, with the buffers as they were or cleared
   pub refused-blank : {x : Stopped} {r : PictureRead} {a b c : List ℕ} → describedCounted size s n ≡ refused x → r ≡ refusedPicture x → Blank size a b c
-      → (toldVerdict (r .verdict) ≡ verdictOn (found (described size s n))) × ((flat a b c ≡ foundOr (zeros size) (found (described size s n))) × (r .reads ≡ length (readWidths size s n)))
-  refused-blank {x} {r} e d blank =
-      answers r _ (refused x) (sym e) (ap (λ (y : PictureRead). toldVerdict (y .verdict)) d) (λ i. flat (blank .head-blank i) (blank .ms-blank i) (blank .ls-blank i)) (ap (λ (y : PictureRead). y .reads) d)
+      → Answers (zeros size) (described size s n) (length (readWidths size s n)) r (flat a b c)
+  refused-blank e d blank =
+      answers-refused (zeros size) (described-uncounted size s n) (described-count-is size s n) e d (λ i. flat (blank .head-blank i) (blank .ms-blank i) (blank .ls-blank i))
 
-  module _ (r : PlaceRead) (d : Flat) (v : leaving s n r d ≡ describedCounted size s n) where
-    -- accepted, and laid out
-    pub read-laid : (p : Place) → r ≡ At p
-        → (toldVerdict Accepted ≡ verdictOn (found (described size s n))) × ((d ≡ foundOr (zeros size) (found (described size s n))) × (p .reads ≡ length (readWidths size s n)))
-    read-laid p e = answers (record { verdict = Accepted; reads = p .reads }) d (got d (bitsLeft s n (p .bit)) p) (sym (is-place s n d r p v e)) refl refl refl
-
-    pub unread : tagOf place-type r ≡ 1 → describedCounted size s n ≡ refused (placeStopped r)
-    unread t = no-place s n d r t v
-
-pub cleared-as : (m k : ℕ) (x : List ℕ) → x ≡ replicate m 0 → m ≡ k → x ≡ replicate k 0
-cleared-as m k x e d = e ∙ ap (λ (j : ℕ). replicate j 0) d
+  -- accepted, and laid out
+  pub read-laid : (r : PlaceRead) (d : Flat) → leaving s n r d ≡ describedCounted size s n → (p : Place) → r ≡ At p
+      → Answers (zeros size) (described size s n) (length (readWidths size s n)) (record { verdict = Accepted; reads = p .reads }) d
+  read-laid r d v p e = answers-laid (zeros size) (described-uncounted size s n) (described-count-is size s n) s n r d v p e

@@ -9,11 +9,8 @@ use Rattle.refusals.specs.Number.{refusal}
 use Rattle.refusals.specs.Told.{Told, refused, toldVerdict, verdictOn, foundOr}
 use Rattle.refusals.specs.declared.Reason.the-variants.{AfterLast}
 use Rattle.refusals.specs.declared.Verdict.{Verdict}
-use Rattle.refusals.specs.declared.Verdict.the-variants.{Refused}
 use Rattle.bits.specs.Places.{counted, stopIn}
-use Rattle.bits.specs.declared.Stopped.{Stopped}
 use Rattle.fields.specs.Answer.{found}
-use Rattle.fields.specs.declared.PictureRead.{PictureRead}
 use Rattle.fields.specs.declared.PlaceRead.{PlaceRead}
 use Rattle.fields.specs.declared.PlaceRead.the-variants.{At, Refused as NoPlace}
 use Rattle.size.specs.declared.Size.{Size}
@@ -34,10 +31,6 @@ readCount size bytes n before = pick (lengthsOf size before) (length (readWidths
 abbrev pub endedAt : ℕ → PlaceRead → PlaceRead
 endedAt n (At p) = pick (ltb (p .bit) n) (NoPlace (stopIn counted (refusal AfterLast (p .bit)) p)) (At p)
 endedAt n (NoPlace r) = NoPlace r
-
--- the report of a picture that was refused
-abbrev pub refusedPicture : Stopped → PictureRead
-refusedPicture r = record { verdict = Refused (r .refusal); reads = r .reads }
 
 -- ---- what `read` promises of its answer, and of what it leaves in the buffers
 abbrev pub ReadSays : Size → List ℕ → ℕ → Flat → Verdict → Type 0

@@ -4,7 +4,9 @@ use bits::Place;
 use bits::Stopped;
 use fields::PictureRead;
 use fields::PlaceRead;
+use fields::count_above;
 use fields::place_stopped;
+use fields::refused_picture;
 use h263_layers::Header;
 use h263_layers::HeaderRead;
 use h263_layers::head::header;
@@ -14,43 +16,17 @@ use refusals::Refusal;
 use refusals::Verdict;
 use size::Size;
 ghost use mathlib.Core.Path.{_≡_};
-ghost use Prim.Native.Nat.{_*_};
-ghost use lib.Dec.{ltb};
 ghost use lib.ListN.{length};
-ghost use Rattle.laws.specs.Choice.{either};
 ghost use Rattle.refusals.specs.Told.{toldVerdict, verdictOn, foundOr};
 ghost use Rattle.bits.specs.Bits.{bitsLeft};
 ghost use Rattle.bits.specs.Answer.{Placed};
 ghost use Rattle.fields.specs.Answer.{found, mapRead, leaving};
-ghost use Rattle.size.specs.Size.{limit};
 ghost use Rattle.layout.specs.Flat.{flat};
 ghost use Rattle.h263_description.specs.Value.{laidPicture};
 ghost use Rattle.h263_layers.specs.Answer.{headerIn};
 ghost use Rattle.h263_layers.specs.Grammar.{readWidths};
 ghost use Rattle.h263_reader.specs.Described.{Blank, afterHeader, described, zeros};
-ghost use Rattle.h263_reader.specs.ReadOf.{endedAt, refusedPicture};
-
-// Whether N is above 8 times the slice, or above the size's limit.
-fn above(length: usize, count: usize, size: Size) -> bool
-    ensures { λ r. ⌜ r ≡ either (ltb (8 * length) count) (ltb (limit size) count) ⌝ }
-{
-    let started = count / 8 + (count % 8 + 7) / 8;
-    if length < started {
-        return true;
-    }
-    size::limit(size) < count
-}
-
-// A picture that was refused.
-fn refused(stopped: Stopped) -> PictureRead
-    ensures { λ r. ⌜ r ≡ refusedPicture stopped ⌝ }
-{
-    let why = stopped.refusal;
-    PictureRead {
-        verdict: Verdict::Refused(why),
-        reads: stopped.reads,
-    }
-}
+ghost use Rattle.h263_reader.specs.ReadOf.{endedAt};
 
 // Bits that are left after the last macroblock are 13, whatever they are. Looking for them is no read.
 fn ended(read: PlaceRead, count: usize) -> PlaceRead
@@ -119,7 +95,7 @@ pub fn parse_counted(
     ensures buffers { λ _. ⌜ flat (now (head .exit)) (now (macroblocks .exit)) (now (levels .exit)) ≡ foundOr (zeros size) (found (described size (now (bytes .entry)) count)) ⌝ }
     ensures reads { λ r. ⌜ r .reads ≡ length (readWidths size (now (bytes .entry)) count) ⌝ }
 {
-    if above(bytes.len(), count, size) {
+    if count_above(bytes.len(), count, size::limit(size)) {
         return PictureRead {
             verdict: Verdict::Refused(Refusal {
                 reason: Reason::Count,
@@ -130,14 +106,14 @@ pub fn parse_counted(
     }
     let opened = header(bytes, count, 0, size);
     match opened {
-        HeaderRead::Refused(stopped) => refused(stopped),
+        HeaderRead::Refused(stopped) => refused_picture(stopped),
         HeaderRead::Got(said, next) => {
             let read = laid(bytes, count, said, next, size, head, macroblocks, levels);
             let PlaceRead::At(end) = read else {
                 clear(head);
                 clear(macroblocks);
                 clear(levels);
-                return refused(place_stopped(read));
+                return refused_picture(place_stopped(read));
             };
             PictureRead {
                 verdict: Verdict::Accepted,

@@ -1,3 +1,3 @@
 pub mod Steps
 pub mod Zeros
-pub mod Cleared
+pub mod Buffers

@@ -2,28 +2,26 @@
 use mathlib.Core.Path.{_≡_, refl, sym, ap, subst, _∙_}
 use mathlib.Core.Bool.{Bool, true, false}
 use mathlib.Core.List.{List, [], _∷_, _++_}
-use Prim.Native.Nat.{ℕ, zero, suc, _+_, _-_, _*_, _/_, _≤_}
+use Prim.Native.Nat.{ℕ, suc, _+_, _-_, _*_, _/_, _≤_}
 use native.Mathlib.Omega.{arith}
 use borrow.Author.Tests.{eq-eqb, le-ltb}
 use lib.Dec.{ltb}
-use lib.ListN.{length, take, drop, length-append}
+use lib.ListN.{length, length-append}
 use lib.Seq.{take-at, drop-at}
 use Rattle.laws.specs.Choice.{pick, oneOf}
 use Rattle.layout.specs.Flat.{Flat}
 use Rattle.coding.specs.declared.Kind.{Kind}
 use Rattle.coding.specs.Coding.{Coding}
-use Rattle.coding.specs.Kind.{kindSize, codingOf, AllLawful}
+use Rattle.coding.specs.Kind.{kindSize, codingOf}
 use Rattle.coding.proofs.H261.{coding-lawful}
 use Rattle.sender.specs.Run.{cut}
 use Rattle.standing.specs.Answered.{Said}
 use Rattle.standing.specs.Answered as A
-use Rattle.standing.specs.Receive.{Buffers}
-use Rattle.vault.specs.Renewed.{renewedBlock}
 use Rattle.salvaging.specs.Kept.{keptNumbers}
 use Rattle.salvaging.specs.Log.{LogEntry, kept, skipped, dropped, logFrom}
 use Rattle.salvaging.specs.Clip.{listed, joined, blankBuffers, answersTo, clipFrom}
 use Rattle.salvaging.specs.declared.Tally.{Tally}
-use Rattle.salvaged.specs.Replayed.{AllReadBits, InTurn, all-finished, next-part, last-part}
+use Rattle.salvaged.specs.Replayed.{InTurn, all-finished, next-part, last-part}
 use Rattle.salvaged.specs.Again.{KeptAlone, SecondAlikeAlways, SecondAlikeMet}
 use Rattle.salvaged.proofs.Walk.{clipAt, logAt, clip-whole, log-whole}
 use Rattle.salvaged.proofs.Follow.{Owned}

@@ -4,16 +4,16 @@ use mathlib.Core.Path.{_≡_, refl, sym, ap, subst, _∙_}
 use mathlib.Core.Bool.{Bool, true, false, true≢false, false≢true}
 use mathlib.Core.Logic.{_⊎_, inl, inr}
 use mathlib.Core.List.{List, [], _∷_, _++_}
-use Prim.Native.Nat.{ℕ, zero, suc, _+_, _*_, _≤_, _<_}
+use Prim.Native.Nat.{ℕ, suc, _+_, _*_, _≤_, _<_}
 use native.Mathlib.Omega.{arith}
 use borrow.Author.Tests.{eqb-true, eqb-false, eq-eqb, ne-eqb}
-use lib.Dec.{eqb, ltb}
+use lib.Dec.{eqb}
 use lib.ListN.{length, take}
 use Rattle.laws.specs.Choice.{pick, both, either, alike, oneOf}
 use Rattle.laws.proofs.Choice.{true-T, alike-same}
 use Rattle.refusals.specs.Told.{accepted}
 use Rattle.size.specs.declared.Size.{Size}
-use Rattle.size.specs.Size.{storeLength, collectionLength}
+use Rattle.size.specs.Size.{collectionLength}
 use Rattle.coding.specs.declared.Kind.{Kind}
 use Rattle.coding.specs.Coding.{Coding}
 use Rattle.coding.specs.Kind.{kindSize, AllLawful}
@@ -21,7 +21,6 @@ use Rattle.vault.specs.declared.Header.{Header}
 use Rattle.vault.specs.Block.{pictures}
 use Rattle.vault.specs.Parts.{placedPayload}
 use Rattle.vault.specs.Renewed.{renewedBlock, renewedHeader}
-use Rattle.vault.proofs.Collected.{placed-length}
 use Rattle.ticks.specs.declared.Tick.{Tick}
 use Rattle.standing.specs.declared.Holder.{Holder}
 use Rattle.standing.specs.declared.Holder.the-variants.{Neither, First, Second}
@@ -30,22 +29,22 @@ use Rattle.standing.specs.declared.Place.{Place}
 use Rattle.standing.specs.declared.Receiver.{Receiver}
 use Rattle.standing.specs.declared.Standing.{Standing}
 use Rattle.standing.specs.declared.Standing.the-variants as S
-use Rattle.standing.specs.Stores.{Stores, goesInto, anyFinished, reference, storesWith, shownStore}
+use Rattle.standing.specs.Stores.{Stores, goesInto, anyFinished, reference, storesWith}
 use Rattle.standing.specs.Answered.{Said}
 use Rattle.standing.specs.Answered as A
-use Rattle.standing.specs.Receive.{Event, refusing, old, taken, lost, failed, finished, Buffers, place, placeOf, earlierPlace, judgedBlock, isLost, markOf, countOf, lentLengths, decide, finishedTick, finishedReply, advance, answerOf, collectionAfter, storedBy, cameTo, step}
+use Rattle.standing.specs.Receive.{Event, refusing, old, taken, lost, failed, finished, place, placeOf, earlierPlace, judgedBlock, isLost, markOf, countOf, lentLengths, decide, finishedTick, finishedReply, advance, answerOf, collectionAfter, storedBy, cameTo, step}
 use Rattle.standing.specs.Run.{World, worldAfter, answers}
 use Rattle.standing.specs.Shown.{shownBy}
 use Rattle.salvaging.specs.Kept.{keptNumbers}
 use Rattle.salvaging.specs.Step.{tallyAfter, Collects}
 use Rattle.salvaging.specs.declared.Tally.{Tally}
-use Rattle.salvaging.proofs.Rising.{TookBy, by-next, by-anew, Took, Good, EventKnown, event-known, judged-means, later-part, took-after, Past, beyond, dropped}
+use Rattle.salvaging.proofs.Rising.{TookBy, by-next, by-anew, Good, EventKnown, event-known, judged-means, later-part, took-after, Past, beyond, dropped}
 use Rattle.salvaging.proofs.Ahead.{past-never}
-use Rattle.demand3.proofs.Finished.{bothSized, kept-sized, kept-shown}
-use Rattle.demand3.proofs.Step.{Moment, progressAt, receiverAt, worldAt, further, astray, arrived, collection-is, stores-are, lengths-make}
+use Rattle.demand3.proofs.Finished.{kept-sized, kept-shown}
+use Rattle.demand3.proofs.Step.{Moment, progressAt, receiverAt, worldAt, further, astray, arrived, stores-are, lengths-make}
 use Rattle.salvaged.specs.Replayed.{AllReadBits, InTurn, all-finished, next-part, last-part, shownAfter, storesShown}
 use Rattle.salvaged.proofs.Walk.{clipAt}
-use Rattle.salvaged.proofs.Taking.{Fits, own, TakenToo, taken-too, finished-too, room-for, renewed-long, long-new, begins-more}
+use Rattle.salvaged.proofs.Taking.{Fits, own, TakenToo, taken-too, finished-too, placing, placed-long, renewed-long, place-new, begins-more}
 
 -- ---- what is to be shown of what the new receiver answers
 -- a block that is the same if it is renewed under this clip and number
@@ -175,10 +174,7 @@ module _ {D : Type 0} {coding : Kind → Coding D} (lawful : AllLawful coding) (
       good = judged-means coding r block (m .lent) header judged
 
       long-placed : length (placedPayload block (header .part) (m .lent .collection)) ≡ collectionLength size
-      long-placed =
-          let l = collection-is size (m .lent) (a .named-old) in
-          let room = room-for size (header .part) (good .sound .part-is) in
-          placed-length block (header .part) (m .lent .collection) (good .sound .long) (omega (arith, room, l)) ∙ l
+      long-placed = placed-long (placing (good .sound) (m .lent) (a .named-old))
 
       few-more : t .pictures ≤ header .picture
       few-more = let l = took-after by in omega (arith, l, a .few)
@@ -309,7 +305,7 @@ module _ {D : Type 0} {coding : Kind → Coding D} (lawful : AllLawful coding) (
         goes-further last kept stands on =
             let too : TakenToo reads kind old-clip new has-new f = taken-too reads kind old-clip new has-new f last in
             let n′ : Moment = further n madeHeader (too .standing) made in
-            let named : lentLengths size (n′ .lent) ≡ true = lengths-make size (n′ .lent .collection) (n .lent .both) (long-new reads kind old-clip new has-new f) (stores-are size (n .lent) (a .named-new)) in
+            let named : lentLengths size (n′ .lent) ≡ true = lengths-make size (n′ .lent .collection) (n .lent .both) (placed-long (place-new reads kind old-clip new has-new f)) (stores-are size (n .lent) (a .named-new)) in
             new-by (clipAt new t (answers coding (afterOld (taken header standing)) blocks) blocks) _ _ (taken madeHeader (too .standing)) (too .does)
             (at-part (more-part is-own
             (on t furtherOld n′ (alike-further n′ named refl refl)
@@ -359,7 +355,7 @@ module _ {D : Type 0} {coding : Kind → Coding D} (lawful : AllLawful coding) (
           alike-arrived = record {
             named-old = lengths-make size (m′ .lent .collection) (m′ .lent .both) long-placed (kept-sized size (m .last .holder) drawnOld (m .lent .both) (lawful .each kind .rendered-long d _) (stores-are size (m .lent) (a .named-old)));
             named-new =
-                lengths-make size (n′ .lent .collection) (n′ .lent .both) (long-new reads kind old-clip new has-new f)
+                lengths-make size (n′ .lent .collection) (n′ .lent .both) (placed-long (place-new reads kind old-clip new has-new f))
                 (kept-sized size (n .last .holder) drawnNew (n .lent .both) (lawful .each kind .rendered-long d _) (stores-are size (n .lent) (a .named-new)));
             holder-same = ap goesInto (a .holder-same);
             last-same =

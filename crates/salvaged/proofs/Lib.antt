@@ -5,3 +5,5 @@ pub mod Follow
 pub mod Replayed
 pub mod Again
 pub mod Whole
+pub mod Alike
+pub mod Wrong

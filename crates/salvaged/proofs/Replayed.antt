@@ -1,14 +1,14 @@
 -- The new clip, fed to a fresh receiver, finishes every picture, with the samples the old receiver showed, and its ticks are exact. Assumes nothing.
 use mathlib.Core.Path.{_≡_, refl, sym, ap, subst, _∙_}
-use mathlib.Core.Bool.{Bool, true, false, true≢false}
+use mathlib.Core.Bool.{Bool, true, true≢false}
 use mathlib.Core.List.{List, [], _∷_}
-use Prim.Native.Nat.{ℕ, _+_, _*_, _≤_}
+use Prim.Native.Nat.{ℕ, _*_, _≤_}
 use native.Mathlib.Omega.{arith}
 use borrow.Author.Tests.{eq-eqb, ne-eqb}
-use lib.Dec.{eqb, ltb}
-use lib.ListN.{length, replicate, length-replicate}
-use Rattle.laws.specs.Choice.{pick, either, oneOf}
-use Rattle.refusals.specs.Told.{Told, accepted, refused}
+use lib.Dec.{ltb}
+use lib.ListN.{length, length-replicate}
+use Rattle.laws.specs.Choice.{pick, either}
+use Rattle.refusals.specs.Told.{accepted, refused}
 use Rattle.refusals.specs.declared.Reason.the-variants.{Count}
 use Rattle.refusals.specs.Number.{refusal}
 use Rattle.bits.specs.Bits.{source}
@@ -27,11 +27,9 @@ use Rattle.coding.specs.declared.Kind.{Kind}
 use Rattle.coding.specs.Coding.{Coding}
 use Rattle.coding.specs.Kind.{kindSize, formatOf, codingOf, AllLawful}
 use Rattle.coding.proofs.H261.{coding-lawful}
-use Rattle.standing.specs.declared.Receiver.{Receiver}
 use Rattle.standing.specs.Answered.{Said}
-use Rattle.standing.specs.Answered as A
-use Rattle.standing.specs.Receive.{Buffers, freshReceiver, openedReceiver, lentLengths}
-use Rattle.standing.specs.Run.{World, answers}
+use Rattle.standing.specs.Receive.{Buffers, freshReceiver, lentLengths}
+use Rattle.standing.specs.Run.{answers}
 use Rattle.salvaging.specs.Kept.{keptNumbers}
 use Rattle.salvaging.specs.Clip.{blankBuffers, freshWorld, answersTo, clipFrom}
 use Rattle.demand3.specs.Clip.{Fresh}
@@ -40,8 +38,8 @@ use Rattle.demand3.proofs.InStep.{start}
 use Rattle.demand3.proofs.Ticks.{exact-from-the-first}
 use Rattle.salvaged.specs.Told.{numbersFrom}
 use Rattle.salvaged.specs.Replayed.{AllReadBits, InTurn, all-finished, next-part, last-part, openedWorld, storesShown, ClipFinishes, ClipFinishedAlways, CodingsReadBits, ClipFinishedMet}
-use Rattle.salvaged.proofs.Walk.{clipAt, clip-whole, noTally}
-use Rattle.salvaged.proofs.Follow.{Owned, Finishes, Paired, Follows, waits, follow}
+use Rattle.salvaged.proofs.Walk.{clip-whole, noTally}
+use Rattle.salvaged.proofs.Follow.{Finishes, waits, follow}
 
 -- ---- answers in turn
 -- they skip no number

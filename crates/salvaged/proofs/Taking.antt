@@ -1,24 +1,23 @@
 -- A block that an old receiver took, renewed and given to a new one: it is taken too, and where the one finishes its picture so does the other. Assumes nothing.
-use mathlib.Core.Path.{_≡_, refl, sym, ap, subst, _∙_}
-use mathlib.Core.Bool.{Bool, true, false, true≢false, false≢true}
+use mathlib.Core.Path.{_≡_, refl, sym, ap, _∙_}
+use mathlib.Core.Bool.{Bool, true, false, true≢false}
 use mathlib.Core.Logic.{_⊎_, inl, inr}
 use mathlib.Core.List.{List, [], _∷_, _++_}
-use Prim.Native.Nat.{ℕ, zero, suc, _+_, _*_, _≤_, _<_}
+use Prim.Native.Nat.{ℕ, _+_, _*_, _≤_, _<_}
 use native.Mathlib.Omega.{arith}
-use borrow.Author.Tests.{eqb-true, eq-eqb, le-ltb}
-use lib.Dec.{eqb, ltb}
+use borrow.Author.Tests.{eq-eqb, le-ltb}
+use lib.Dec.{eqb}
 use lib.ListN.{length, take, drop, take-append-drop, length-append, length-take, length-drop}
-use lib.Seq.{length-take-le, take-append-le, take-take, take-at}
-use Rattle.laws.specs.Choice.{pick, both, either, opposite, alike}
-use Rattle.laws.proofs.Choice.{two-of}
-use Rattle.refusals.specs.Told.{Told, accepted, refused, untabled}
+use lib.Seq.{length-take-le, take-append-le, take-at}
+use Rattle.laws.specs.Choice.{pick, both, opposite, alike}
+use Rattle.refusals.specs.Told.{Told, accepted, untabled}
 use Rattle.bits.specs.Bits.{Bit, bitsOf, bitsIn, source}
 use Rattle.size.specs.declared.Size.{Size}
 use Rattle.size.specs.declared.Size.the-variants.{SubQcif, Qcif, Cif}
 use Rattle.size.specs.Size.{collectionLength}
 use Rattle.coding.specs.declared.Kind.{Kind}
 use Rattle.coding.specs.Coding.{Coding}
-use Rattle.coding.specs.Kind.{kindSize, kindStandard, AllLawful}
+use Rattle.coding.specs.Kind.{kindSize, kindStandard}
 use Rattle.vault.specs.declared.Standard.{Standard}
 use Rattle.vault.specs.declared.Header.{Header}
 use Rattle.vault.specs.Block.{pictures, greatestPart, payloadOf, judgeOf}
@@ -30,11 +29,9 @@ use Rattle.vault.proofs.Collected.{placed-length}
 use Rattle.vault.proofs.Renewed.{renewed-length, renewed-good, renewed-again}
 use Rattle.standing.specs.declared.Line.{Line}
 use Rattle.standing.specs.declared.Line.the-variants.{Earlier, Next, Anew, Otherwise}
-use Rattle.standing.specs.declared.Place.{Place}
 use Rattle.standing.specs.declared.Standing.{Standing}
 use Rattle.standing.specs.declared.Standing.the-variants as S
-use Rattle.standing.specs.Receive.{Event, taken, failed, finished, Buffers, place, placeOf, earlierPlace, samePlace, isLost, lineOf, countOf, markOf, lentLengths, judgedBlock, endedPicture, tookOf, byLine, byJudgement, decide}
-use Rattle.salvaging.proofs.Rising.{Good}
+use Rattle.standing.specs.Receive.{taken, failed, finished, Buffers, place, earlierPlace, samePlace, isLost, lineOf, countOf, markOf, lentLengths, judgedBlock, endedPicture, tookOf, byLine, byJudgement, decide}
 use Rattle.demand3.proofs.Step.{Moment, progressAt, receiverAt, collection-is}
 use Rattle.salvaged.specs.Replayed.{ReadsBits, AllReadBits}
 
@@ -55,11 +52,11 @@ source-first a m n l h =
     ∙ ap (take n) (bits-join (take m a) (drop m a))
     ∙ take-append-le n (bitsIn (take m a)) (bitsIn (drop m a)) (omega (arith, bits-long (take m a), length-take-le m a l))
 
-pub source-alike : (a b : List ℕ) (m n : ℕ) → length a ≡ length b → m ≤ length a → n ≤ 8 * m → take m a ≡ take m b → source a n ≡ source b n
+source-alike : (a b : List ℕ) (m n : ℕ) → length a ≡ length b → m ≤ length a → n ≤ 8 * m → take m a ≡ take m b → source a n ≡ source b n
 source-alike a b m n e l h same = source-first a m n l h ∙ ap (λ (s : List ℕ). source s n) same ∙ sym (source-first b m n (omega (arith, e, l)) h)
 
 -- ---- a collection with one part more
-pub room-for : (size : Size) (part : ℕ) → part ≤ greatestPart size → 500 * part + 500 ≤ collectionLength size
+room-for : (size : Size) (part : ℕ) → part ≤ greatestPart size → 500 * part + 500 ≤ collectionLength size
 room-for SubQcif part l = omega arith
 room-for Qcif part l = omega arith
 room-for Cif part l = omega arith
@@ -70,6 +67,39 @@ unfolding placedPayload
 placed-first block part collection e l =
     take-at (take (500 * part) collection ++ payloadOf block) (drop (500 * part + 500) collection) (500 * (part + 1))
     (omega (arith, length-append (take (500 * part) collection) (payloadOf block), length-take-le (500 * part) collection (omega arith), length-take 500 (drop 8 block), length-drop 8 block))
+
+-- a block that is put into a collection as this part
+pub record Placing (size : Size) (part : ℕ) (block collection : List ℕ) : Type 0 where
+  pub within : part ≤ greatestPart size
+  pub long : length block ≡ 512
+  pub named : length collection ≡ collectionLength size
+
+pub placing : {size : Size} {block : List ℕ} {header : Header} → Sound size block header → (b : Buffers) → lentLengths size b ≡ true → Placing size (header .part) block (b .collection)
+placing {size} sound b named = record { within = sound .part-is; long = sound .long; named = collection-is size b named }
+
+placed-room : {size : Size} {part : ℕ} {block collection : List ℕ} → Placing size part block collection → 500 * part + 500 ≤ length collection
+placed-room {size} {part} p = let room = room-for size part (p .within) in omega (arith, room, p .named)
+
+pub placed-long : {size : Size} {part : ℕ} {block collection : List ℕ} → Placing size part block collection → length (placedPayload block part collection) ≡ collectionLength size
+placed-long {part = part} {block} {collection} p = placed-length block part collection (p .long) (placed-room p) ∙ p .named
+
+-- two blocks of the same payload, put into collections that begin alike
+module _ {size : Size} {part : ℕ} {block collection block′ collection′ : List ℕ} (p : Placing size part block collection) (q : Placing size part block′ collection′) (same : payloadOf block ≡ payloadOf block′)
+    (begins : take (500 * part) collection ≡ take (500 * part) collection′) where
+  pub placed-alike : take (500 * (part + 1)) (placedPayload block part collection) ≡ take (500 * (part + 1)) (placedPayload block′ part collection′)
+  placed-alike =
+      placed-first block part collection (p .long) (placed-room p)
+      ∙ (λ i. begins i ++ same i)
+      ∙ sym (placed-first block′ part collection′ (q .long) (placed-room q))
+
+  -- are read alike
+  pub read-alike : {D : Type 0} {c : Coding D} → ReadsBits c → (count : ℕ) → count ≤ 4000 * part + 4000 → c .read (placedPayload block part collection) count ≡ c .read (placedPayload block′ part collection′) count
+  read-alike reads count most =
+      let room = placed-room p in
+      let long = placed-long p in
+      let alike-long : length (placedPayload block part collection) ≡ length (placedPayload block′ part collection′) = placed-long p ∙ sym (placed-long q) in
+      reads .exactly (placedPayload block part collection) (placedPayload block′ part collection′) count alike-long
+      (source-alike (placedPayload block part collection) (placedPayload block′ part collection′) (500 * (part + 1)) count alike-long (omega (arith, room, long, p .named)) (omega (arith, most)) placed-alike)
 
 module _ {D : Type 0} {coding : Kind → Coding D} (reads : AllReadBits coding) (kind : Kind) (old new : ℕ) (has-new : 1 ≤ new) where
   abbrev size : Size
@@ -158,34 +188,20 @@ module _ {D : Type 0} {coding : Kind → Coding D} (reads : AllReadBits coding) 
     }
 
     -- ---- the last one: what is collected is the same
-    room-old : 500 * header .part + 500 ≤ length (m .lent .collection)
-    room-old = let r = room-for size (header .part) (f .sound .part-is) in let l = collection-is size (m .lent) (f .named-old) in omega (arith, r, l)
-
-    room-new : 500 * header .part + 500 ≤ length (n .lent .collection)
-    room-new = let r = room-for size (header .part) (f .sound .part-is) in let l = collection-is size (n .lent) (f .named-new) in omega (arith, r, l)
-
     pub renewed-long : length renewed ≡ 512
     renewed-long = renewed-length new k block (f .sound .long)
 
-    pub long-old : length (placedPayload block (header .part) (m .lent .collection)) ≡ collectionLength size
-    long-old = placed-length block (header .part) (m .lent .collection) (f .sound .long) room-old ∙ collection-is size (m .lent) (f .named-old)
+    place-old : Placing size (header .part) block (m .lent .collection)
+    place-old = placing (f .sound) (m .lent) (f .named-old)
 
-    pub long-new : length (placedPayload renewed (header .part) (n .lent .collection)) ≡ collectionLength size
-    long-new = placed-length renewed (header .part) (n .lent .collection) renewed-long room-new ∙ collection-is size (n .lent) (f .named-new)
+    pub place-new : Placing size (header .part) renewed (n .lent .collection)
+    place-new = record { within = f .sound .part-is; long = renewed-long; named = collection-is size (n .lent) (f .named-new) }
 
     pub begins-more : take (500 * (header .part + 1)) (placedPayload block (header .part) (m .lent .collection)) ≡ take (500 * (header .part + 1)) (placedPayload renewed (header .part) (n .lent .collection))
-    begins-more =
-        placed-first block (header .part) (m .lent .collection) (f .sound .long) room-old
-        ∙ (λ i. f .begins i ++ sym (is-renewed .payload) i)
-        ∙ sym (placed-first renewed (header .part) (n .lent .collection) renewed-long room-new)
+    begins-more = placed-alike place-old place-new (sym (is-renewed .payload)) (f .begins)
 
     reads-too : coding kind .read (placedPayload renewed (header .part) (n .lent .collection)) (countOf header′) ≡ coding kind .read (placedPayload block (header .part) (m .lent .collection)) (countOf header)
-    reads-too =
-        let most = f .sound .used-most in
-        let r = room-for size (header .part) (f .sound .part-is) in
-        reads .each kind .exactly (placedPayload renewed (header .part) (n .lent .collection)) (placedPayload block (header .part) (m .lent .collection)) (countOf header) (long-new ∙ sym long-old)
-        (source-alike (placedPayload renewed (header .part) (n .lent .collection)) (placedPayload block (header .part) (m .lent .collection)) (500 * (header .part + 1)) (countOf header) (long-new ∙ sym long-old)
-        (omega (arith, r, long-new)) (omega (arith, most)) (sym begins-more))
+    reads-too = let most = f .sound .used-most in read-alike place-new place-old (is-renewed .payload) (sym (f .begins)) (reads .each kind) (countOf header) (omega (arith, most))
 
     pub finished-too : header .last ≡ true → (d : D) → coding kind .read (placedPayload block (header .part) (m .lent .collection)) (countOf header) ≡ accepted d
         → alike (coding kind .refresh d) (markOf (progressAt m) header) ≡ true → decide coding (receiverAt new kind n) renewed (n .lent) ≡ finished header′ d

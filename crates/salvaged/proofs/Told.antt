@@ -1,17 +1,15 @@
 -- What a log and a new clip together tell: by going along the answers. Assumes nothing.
 use mathlib.Core.Path.{_≡_, refl, sym, ap, subst, _∙_}
 use mathlib.Core.Bool.{Bool, true, false}
-use mathlib.Core.List.{List, [], _∷_, _++_, append-nil, append-assoc}
+use mathlib.Core.List.{List, [], _∷_, _++_}
 use Prim.Native.Nat.{ℕ, zero, suc, _+_, _-_, _*_, _≤_, _<_}
 use native.Mathlib.Nat.{add-zero, zero-add, suc-add, sub-zero}
 use native.Mathlib.Omega.{arith}
-use borrow.Author.Tests.{eqb-true, eqb-false, eq-eqb, ne-eqb, ltb-true, ltb-false, lt-ltb, le-ltb}
+use borrow.Author.Tests.{eq-eqb, ne-eqb, ltb-true, ltb-false}
 use lib.Dec.{eqb, ltb}
 use lib.ListN.{length, length-append}
 use Rattle.laws.specs.Choice.{pick, both, oneOf}
 use Rattle.laws.proofs.Choice.{both-true}
-use Rattle.coding.specs.declared.Kind.{Kind}
-use Rattle.coding.specs.Coding.{Coding}
 use Rattle.vault.specs.Block.{pictures}
 use Rattle.vault.specs.Renewed.{renewedBlock}
 use Rattle.ticks.specs.declared.Tick.{Tick}
@@ -19,13 +17,13 @@ use Rattle.ticks.specs.Tick.{isExact}
 use Rattle.standing.specs.Answered.{Said}
 use Rattle.standing.specs.Answered as A
 use Rattle.salvaging.specs.Kept.{keptNumbers, numberAfter, finishedLater}
-use Rattle.salvaging.specs.Log.{LogEntry, kept, skipped, dropped, runBefore, entriesFor, logFrom}
+use Rattle.salvaging.specs.Log.{LogEntry, kept, skipped, dropped, entriesFor, logFrom}
 use Rattle.salvaging.specs.Clip.{clipFrom, freshWorld, answersTo}
 use Rattle.salvaging.specs.Salvage.{Salvage, salvageBy}
 use Rattle.salvaging.specs.Step.{tallyAfter}
 use Rattle.salvaging.specs.declared.Tally.{Tally}
 use Rattle.salvaging.proofs.Kept.{entries-few}
-use Rattle.salvaged.specs.Told.{numbersFrom, droppedIn, Accounted, all-told, is-written, is-dropped, WrittenOrDropped, oldNumbers, newNumbers, oldNamed, NumbersCovered, NumbersFall, LimitsKept, exactTicks, noRunBefore, LeadsOn, RunsLead, RunsRestart, LogTellsAll}
+use Rattle.salvaged.specs.Told.{numbersFrom, droppedIn, Accounted, all-told, is-written, is-dropped, WrittenOrDropped, oldNumbers, newNumbers, oldNamed, NumbersCovered, NumbersFall, LimitsKept, exactTicks, noRunBefore, RunsLead, RunsRestart, LogTellsAll}
 use Rattle.salvaged.proofs.Walk.{clipAt, logAt, clip-whole, log-whole, noTally, Rises, fresh-rises, answers-length}
 
 -- ---- the entries of a block, by what they tell

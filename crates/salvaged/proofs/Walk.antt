@@ -1,5 +1,5 @@
 -- A list of answers gone along with the number of the block and the pictures so far: the new clip and the log are made by the way. What is known of a fresh receiver's answers. Assumes nothing.
-use mathlib.Core.Path.{_≡_, refl, sym, ap, subst, _∙_}
+use mathlib.Core.Path.{_≡_, refl, sym, ap, _∙_}
 use mathlib.Core.Bool.{Bool, true, false}
 use mathlib.Core.List.{List, [], _∷_, _++_}
 use Prim.Native.Nat.{ℕ, suc, _+_, _≤_, _<_}
@@ -15,8 +15,6 @@ use Rattle.ticks.specs.declared.Tick.{Tick}
 use Rattle.ticks.specs.Tick.{isExact, tickAs, laterTick}
 use Rattle.standing.specs.declared.Holder.{Holder}
 use Rattle.standing.specs.declared.Holder.the-variants.{Neither, First, Second}
-use Rattle.standing.specs.declared.Last.{Last}
-use Rattle.standing.specs.declared.Progress.{Progress}
 use Rattle.standing.specs.declared.Receiver.{Receiver}
 use Rattle.standing.specs.Stores.{goesInto}
 use Rattle.standing.specs.Answered.{Said}

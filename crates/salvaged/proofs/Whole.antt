@@ -1,15 +1,15 @@
 -- A sender's clip, whole and in order: a fresh receiver takes each block and finishes each picture, so that all is kept. Assumes nothing.
 use mathlib.Core.Path.{_≡_, refl, sym, ap, subst, _∙_}
-use mathlib.Core.Bool.{Bool, true, false, true≢false, false≢true}
+use mathlib.Core.Bool.{Bool, true, false}
 use mathlib.Core.List.{List, [], _∷_, _++_}
 use mathlib.Core.Option.{some, Option·some-injective}
-use Prim.Native.Nat.{ℕ, zero, suc, _+_, _*_, _≤_, _<_}
+use Prim.Native.Nat.{ℕ, suc, _+_, _<_}
 use native.Mathlib.Nat.{add-zero, zero-add}
 use native.Mathlib.Omega.{arith}
 use borrow.Author.Tests.{eqb-true, eqb-false, eq-eqb, le-ltb}
-use lib.Dec.{eqb, ltb}
+use lib.Dec.{eqb}
 use lib.ListN.{length, getElem?}
-use Rattle.laws.specs.Choice.{pick, both, opposite}
+use Rattle.laws.specs.Choice.{both, opposite}
 use Rattle.coding.specs.declared.Kind.{Kind}
 use Rattle.coding.specs.Coding.{Coding}
 use Rattle.coding.specs.Kind.{kindSize, kindStandard, AllLawful}
@@ -24,24 +24,23 @@ use Rattle.standing.specs.declared.Standing.the-variants as S
 use Rattle.standing.specs.declared.Place.{Place}
 use Rattle.ticks.specs.declared.Tick.{Tick}
 use Rattle.standing.specs.Stores.{reference, shownStore}
-use Rattle.standing.specs.Answered.{Said, reply}
+use Rattle.standing.specs.Answered.{Said}
 use Rattle.standing.specs.Answered as A
 use Rattle.standing.specs.Receive.{Buffers, place, earlierPlace, samePlace, isLost, Outcome, step}
-use Rattle.standing.specs.Run.{World, worldAfter, answers}
+use Rattle.standing.specs.Run.{worldAfter, answers}
 use Rattle.standing.specs.Shown.{whereShown, shownBy}
 use Rattle.salvaging.specs.Kept.{keptNumbers}
 use Rattle.salvaging.specs.Log.{LogEntry, kept, skipped, dropped, logFrom}
 use Rattle.salvaging.specs.Clip.{blankBuffers, freshWorld, answersTo}
-use Rattle.salvaging.specs.Salvage.{salvageFrom}
 use Rattle.demand3.specs.Clip.{Picture, PartOf, Clip, opening, blocksIn, picturesIn, Shows}
 use Rattle.demand3.specs.Arrives.{inTurn}
 use Rattle.demand3.proofs.Finished.{none-shown}
-use Rattle.demand3.proofs.Step.{Moment, worldAt, outcomeAt, bitsOf, refreshOf, tickOf, headerOf, further, arrived, Comes, Takes, takes-next, takes-anew, block-long}
+use Rattle.demand3.proofs.Step.{Moment, worldAt, outcomeAt, bitsOf, refreshOf, tickOf, headerOf, further, arrived, Takes, takes-next, takes-anew, block-long}
 use Rattle.demand3.proofs.Held.{Sound, Held, Fits, block-of, fits-next, fits-anew, goes-further, goes-answers, goes-arrived, held-further, held-drawn, line-of}
-use Rattle.demand3.proofs.InStep.{sender-opened, sound-clip, start, start-held}
+use Rattle.demand3.proofs.InStep.{sound-clip, start, start-held}
 use Rattle.demand3.proofs.WholeClip.{blocksEach, clip-in-turn}
 use Rattle.salvaged.specs.Told.{droppedIn}
-use Rattle.salvaged.specs.Replayed.{AllReadBits, InTurn, all-finished, shownAfter, storesShown}
+use Rattle.salvaged.specs.Replayed.{all-finished, shownAfter, storesShown}
 use Rattle.salvaged.specs.Again.{KeptAlone, storesSent, WholeComesBackAlways}
 use Rattle.salvaged.proofs.Told.{log-tells-all}
 use Rattle.salvaged.proofs.Follow.{Own, Finishes, more-part, more-picture}
@@ -64,6 +63,10 @@ shift p i = omega arith
 module _ {D : Type 0} {coding : Kind → Coding D} (lawful : AllLawful coding) {clip : ℕ} {kind : Kind} {sent : List (Picture D)} (sound : Sound coding clip kind sent) where
   abbrev count : Picture D → ℕ
   count x = partCount (length (bitsOf coding kind x))
+
+  -- in step at picture p, the store that is shown is the sender's
+  store-shown : (p : ℕ) (x : Picture D) → getElem? sent p ≡ some x → (store : List ℕ) → Shows sent (S.InStep p) store → store ≡ x .store
+  store-shown p x at store shown = shown .2 ∙ ap (λ (y : Picture D). y .store) (Option·some-injective (shown .0) x (sym (shown .1) ∙ at))
 
   -- ---- one block
   module _ {p part : ℕ} {block : List ℕ} (h : PartOf sent p part block) (m : Moment) (held : Held lawful sound m) where
@@ -138,11 +141,10 @@ module _ {D : Type 0} {coding : Kind → Coding D} (lawful : AllLawful coding) {
     is-finished t later wanted many e on =
         let f = goes-arrived lawful sound h m held (t .standing) (t .takes) (t .fits) e in
         let after = held-drawn lawful sound h m held (t .fits) in
-        let shown = after .shows in
         let tick : Tick = tickOf coding kind (h .picture) (m .last) p in
         let n : Moment = arrived m (headerOf coding kind (h .picture) clip p part) block (coding kind .render (h .picture .description) (reference (m .last .holder) (m .lent .both))) tick in
         by later (h .picture .store ∷ wanted) (suc many) (outcomeAt clip kind (A.picture p tick) n) (f .comes .is ∙ ap (λ (a : Said). outcomeAt clip kind a n) (f .answers))
-        (more-picture is-own tick _ (h .picture .store) (shown .2 ∙ ap (λ (x : Picture D). x .store) (Option·some-injective (shown .0) (h .picture) (sym (shown .1) ∙ h .at))) (on n after (wants-it refl refl)))
+        (more-picture is-own tick _ (h .picture .store) (store-shown p (h .picture) (h .at) _ (after .shows)) (on n after (wants-it refl refl)))
 
   -- ---- the rest of a picture's blocks
   parts-go : (p : ℕ) (x : Picture D) → getElem? sent p ≡ some x → (part : ℕ) (rest : List (List ℕ)) → ((i : ℕ) → getElem? rest i ≡ getElem? (x .blocks) (part + i)) → part + length rest ≡ length (x .blocks)

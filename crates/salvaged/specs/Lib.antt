@@ -1,3 +1,4 @@
 pub mod Told
 pub mod Replayed
 pub mod Again
+pub mod Wrong

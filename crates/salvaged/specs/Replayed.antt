@@ -16,8 +16,8 @@ use Rattle.standing.specs.Receive.{Buffers, freshReceiver, lentLengths, Outcome
 use Rattle.standing.specs.Run.{World, worldAfter, answers}
 use Rattle.standing.specs.Shown.{shownBy}
 use Rattle.salvaging.specs.Kept.{keptNumbers}
-use Rattle.salvaging.specs.Clip.{freshWorld}
-use Rattle.salvaging.specs.Salvage.{Salvage, salvageFrom}
+use Rattle.salvaging.specs.Clip.{freshWorld, answersTo}
+use Rattle.salvaging.specs.Salvage.{salvageFrom}
 use Rattle.demand3.specs.Ticks.{EachExact}
 use Rattle.salvaged.specs.Told.{numbersFrom}
 
@@ -75,3 +75,10 @@ CodingsReadBits = AllReadBits codingOf
 
 abbrev pub ClipFinishedMet : Type 0
 ClipFinishedMet = ClipFinished codingOf
+
+-- ---- what a fresh receiver answers doesn't depend on what its buffers hold
+abbrev pub AnswersAlike : {D : Type 0} → (Kind → Coding D) → Type 0
+AnswersAlike coding = (clip : ℕ) (kind : Kind) (lent : Buffers) → lentLengths (kindSize kind) lent ≡ true → (blocks : List (List ℕ)) → answers coding (openedWorld clip kind lent) blocks ≡ answersTo coding clip kind blocks
+
+abbrev pub AnswersAlikeAlways : Type 1
+AnswersAlikeAlways = (D : Type 0) (coding : Kind → Coding D) → AllLawful coding → AllReadBits coding → AnswersAlike coding

@@ -120,12 +120,12 @@ pub record RunsRestart (answered : List Said) (s : Salvage) : Type 0 where
   -- the first is where the old receiver's ticks turn estimated
   pub turn : exactTicks answered ≡ noRunBefore true (s .log)
 
--- ---- all of them, of every list of blocks
-pub record AllTold {D : Type 0} (coding : Kind → Coding D) (kind : Kind) (old new : ℕ) (blocks : List (List ℕ)) : Type 0 where
-  pub blocks-are : WrittenOrDropped new blocks (answersTo coding old kind blocks) (salvageFrom coding kind old new blocks)
-  pub numbers-are : NumbersCovered (answersTo coding old kind blocks) (salvageFrom coding kind old new blocks)
-  pub limits : LimitsKept blocks (salvageFrom coding kind old new blocks)
-  pub runs : RunsRestart (answersTo coding old kind blocks) (salvageFrom coding kind old new blocks)
+-- ---- all of them, of a salvage of these blocks
+pub record AllTold {D : Type 0} (coding : Kind → Coding D) (kind : Kind) (old new : ℕ) (blocks : List (List ℕ)) (s : Salvage) : Type 0 where
+  pub blocks-are : WrittenOrDropped new blocks (answersTo coding old kind blocks) s
+  pub numbers-are : NumbersCovered (answersTo coding old kind blocks) s
+  pub limits : LimitsKept blocks s
+  pub runs : RunsRestart (answersTo coding old kind blocks) s
 
 abbrev pub LogTellsAll : Type 1
-LogTellsAll = (D : Type 0) (coding : Kind → Coding D) (kind : Kind) (old new : ℕ) (blocks : List (List ℕ)) → AllTold coding kind old new blocks
+LogTellsAll = (D : Type 0) (coding : Kind → Coding D) (kind : Kind) (old new : ℕ) (blocks : List (List ℕ)) → AllTold coding kind old new blocks (salvageFrom coding kind old new blocks)

@@ -3,7 +3,7 @@ use borrow.Author.Needs.{needs}
 use native.Mathlib.Omega.{arith}
 use Prim.Native.Nat.{_-_}
 use lib.ListN.{length, length-set}
-use Rattle.levels.proofs.Cleared.{Zeroed, zeroed-none, zeroed-more, zeroed-all}
+use Rattle.levels.proofs.Buffers.{Zeroed, zeroed-none, zeroed-more, zeroed-all}
 use Rattle.levels.proofs.clear.Statement.{statement}
 use Rattle.levels.proofs.clear.Tie as tie
 

@@ -51,6 +51,7 @@ use Rattle.bit_reader.specs.declared.BitReader.{BitReader}
 use Rattle.bit_reader.proofs.Held.{B, OwnAt, twice-at, typed-in-body}
 use Rattle.fields.specs.Rules.{spares}
 use Rattle.fields.specs.Answer.{placeOf, leaving}
+use Rattle.fields.proofs.HeaderRow.{after-field, field-below}
 use Rattle.fields.specs.declared.PlaceRead.{PlaceRead}
 use Rattle.fields.proofs.PlaceRead as Q
 use Rattle.fields.proofs.PlaceRead.Laws as Q′
@@ -62,7 +63,7 @@ use Rattle.h263_layers.proofs.HeaderRead as Z
 use Rattle.h263_layers.proofs.HeaderRead.Laws as Z′
 use Rattle.h263_layers.specs.Grammar.{header}
 use Rattle.h263_layers.specs.Answer.{HeaderAsked, headerOf, asHeader}
-use Rattle.h263_layers.proofs.HeaderOf.{HeaderReads, header-read, after-field, field-below, field-spans, spare-placed}
+use Rattle.h263_layers.proofs.HeaderOf.{HeaderReads, header-read, field-spans, spare-placed}
 use Rattle.bit_reader.proofs.new as cn
 use Rattle.bit_reader.proofs.new.Symbol as cn-def
 use Rattle.bit_reader.proofs.new.Symbol.{name as #cn}

@@ -5,7 +5,8 @@ use borrow.Author.Needs.{needs}
 use Prim.Native.Nat.{ℕ, _+_}
 use Rattle.refusals.specs.declared.Reason.the-variants.{OptionalMode}
 use Rattle.h263_layers.specs.Answer.{againstAt}
-use Rattle.h263_layers.proofs.HeaderOf.{no-psc, bad-psc, no-tr, no-ptype, other-start, other-format, mode-set, mode-low, no-pquant, zero-pquant, no-cpm, set-cpm, no-spare, header-got, below-got, spans-got}
+use Rattle.fields.proofs.HeaderRow.{below-got}
+use Rattle.h263_layers.proofs.HeaderOf.{no-psc, bad-psc, no-tr, no-ptype, other-start, other-format, mode-set, mode-low, no-pquant, zero-pquant, no-cpm, set-cpm, no-spare, header-got, spans-got}
 use Rattle.h263_layers.proofs.head.header_of.Statement.{statement}
 use Rattle.h263_layers.proofs.head.header_of.Tie as tie
 
@@ -26,7 +27,7 @@ abbrev pquant-kept : tie.After-known-told5 → tie.Else5
 pquant-kept c = c .before .before .before
 
 returns : tie.Need-returns
-returns c = no-psc _ _ _ _ _ _ _ _ _ (c .before .before .match .keys2) (c .refused .ensures)
+returns c = no-psc _ _ _ _ _ _ _ _ _ (c .before .before .match .keys2) (c .field-stopped .ensures)
 
 returns-2 : tie.Need-returns-2
 returns-2 c = c .against .ensures ∙ bad-psc _ _ _ _ _ _ _ _ (c .before .before .before .psc .given .1) (c .before .if1 .taken)
@@ -34,13 +35,13 @@ returns-2 c = c .against .ensures ∙ bad-psc _ _ _ _ _ _ _ _ (c .before .before
 returns-3 : tie.Need-returns-3
 returns-3 c =
     let at-psc = c .before .before .before in
-    no-tr _ _ _ _ _ _ _ _ (at-psc .before .before .psc .given .1) (at-psc .if1 .left) _ (c .before .before .match2 .keys2) (c .refused2 .ensures)
+    no-tr _ _ _ _ _ _ _ _ (at-psc .before .before .psc .given .1) (at-psc .if1 .left) _ (c .before .before .match2 .keys2) (c .field-stopped2 .ensures)
 
 returns-4 : tie.Need-returns-4
 returns-4 c =
     let at-tr = c .before .before .before in
     let at-psc = psc-kept at-tr in
-    no-ptype _ _ _ _ _ _ _ _ (at-psc .before .before .psc .given .1) (at-psc .if1 .left) (at-tr .before .tr .given .1) _ (c .before .before .match3 .keys2) (c .refused3 .ensures)
+    no-ptype _ _ _ _ _ _ _ _ (at-psc .before .before .psc .given .1) (at-psc .if1 .left) (at-tr .before .tr .given .1) _ (c .before .before .match3 .keys2) (c .field-stopped3 .ensures)
 
 returns-5 : tie.Need-returns-5
 returns-5 c =
@@ -86,7 +87,7 @@ returns-8 c =
     let at-tr = tr-got at-ptype in
     let at-psc = psc-kept at-tr in
     no-pquant _ _ _ _ _ _ _ _ (at-psc .before .before .psc .given .1) (at-psc .if1 .left) (at-tr .before .tr .given .1) (at-ptype .before .ptype .given .1)
-    (at-code .before .if2 .left) (at-modes .before .if3 .left ∙ at-code .format-code .ensures) (at-modes .if4 .left) _ (c .before .before .match4 .keys2) (c .refused4 .ensures)
+    (at-code .before .if2 .left) (at-modes .before .if3 .left ∙ at-code .format-code .ensures) (at-modes .if4 .left) _ (c .before .before .match4 .keys2) (c .field-stopped4 .ensures)
 
 returns-9 : tie.Need-returns-9
 returns-9 c =
@@ -111,7 +112,7 @@ returns-10 c =
     let at-psc = psc-kept at-tr in
     no-cpm _ _ _ _ _ _ _ _ (at-psc .before .before .psc .given .1) (at-psc .if1 .left) (at-tr .before .tr .given .1) (at-ptype .before .ptype .given .1)
     (at-code .before .if2 .left) (at-modes .before .if3 .left ∙ at-code .format-code .ensures) (at-modes .if4 .left) (at-pquant .before .pquant .given .1) (at-quantiser .if5 .left)
-    _ (c .before .before .match5 .keys2) (c .refused5 .ensures)
+    _ (c .before .before .match5 .keys2) (c .field-stopped5 .ensures)
 
 returns-11 : tie.Need-returns-11
 returns-11 c =

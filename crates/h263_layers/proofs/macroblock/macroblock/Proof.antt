@@ -13,14 +13,13 @@ use Rattle.size.specs.Place.{macroblocksAcross}
 use Rattle.layout.specs.Value.{Vector, Macroblock}
 use Rattle.layout.specs.Flat.{index}
 use Rattle.fields.specs.Answer.{mapRead, asNumber}
-use Rattle.fields.proofs.Row.{Row, row-number, row-no-number, row-number-good}
+use Rattle.fields.proofs.Row.{Row, row-number, row-no-number, row-number-good, row-pair, row-no-pair, row-pair-good}
 use Rattle.fields.proofs.Told.{number-once, no-place, is-place}
 use Rattle.h263_words.specs.Tables.{cbpy}
 use Rattle.h263_words.specs.Words.{isInter, hasDQUANT, typeIn}
 use Rattle.h263_words.proofs.WordReads.{cbpy-reads}
 use Rattle.h263_layers.specs.Answer.{vectorOf, vectorKept, Sent, putSent}
 use Rattle.h263_layers.specs.Grammar.{macroblock}
-use Rattle.h263_layers.proofs.Told.{row-vector, row-no-vector, row-vector-good}
 use Rattle.h263_layers.proofs.MacroblockWhole as row
 use Rattle.h263_layers.proofs.MacroblockWhole.{Roomy, quantiser-after, vector-after, macroblock-begun, no-blocks, whole-macroblock, vector-low, quantiser-low, index-roomy}
 use borrow.Author.Needs.{needs}
@@ -117,14 +116,14 @@ module _ (c : tie.After-known-told3) where
 
   pointed : To start (afterVector start luminance₃ (quantiser told₃) (vectorOf across down)) (c .before .pointed .given .0 .1 .1 .0)
   pointed =
-      row-vector (λ P. vectorAfter start) (afterVector start luminance₃ (quantiser told₃)) (quantised told₃)
+      row-pair vectorOf (λ P. vectorAfter start) (afterVector start luminance₃ (quantiser told₃)) (quantised told₃)
       (vector-after (start .args .size) (start .args .number) (start .args .address) (predicted start) (start .args .mcbpc))
       (c .before .before .before .moved .ensures) (c .before .pointed .given .1)
 
   kept : (across ≤ 63) × (down ≤ 63)
   kept =
       vector-low (isInter (typeIn (start .args .mcbpc))) (start .args .size) (start .args .number) (start .args .address) across down
-      (row-vector-good (λ P. vectorAfter start) (afterVector start luminance₃ (quantiser told₃)) (quantised told₃)
+      (row-pair-good vectorOf (λ P. vectorAfter start) (afterVector start luminance₃ (quantiser told₃)) (quantised told₃)
       (vector-after (start .args .size) (start .args .number) (start .args .address) (predicted start) (start .args .mcbpc))
       (c .before .before .before .moved .ensures) (c .before .pointed .given .1))
 
@@ -179,7 +178,7 @@ returns-3 c =
     let at-moved = c .before .before .before in
     let told = at-moved .before in
     ap (mapRead (put (start₂ told)))
-    (row-no-vector (λ P. vectorAfter (start₂ told)) (afterVector (start₂ told) (luminance (told₂ told)) (quantiser told)) (quantised told) (at-moved .moved .result)
+    (row-no-pair vectorOf (λ P. vectorAfter (start₂ told)) (afterVector (start₂ told) (luminance (told₂ told)) (quantiser told)) (quantised told) (at-moved .moved .result)
     (c .before .before .match3 .keys2) (at-moved .moved .ensures) (c .pair-stopped .ensures))
 
 mul-index : tie.Need-mul-index
