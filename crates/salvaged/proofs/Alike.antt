@@ -13,7 +13,7 @@ use Rattle.refusals.specs.Told.{Told, accepted, refusedBy, refused}
 use Rattle.size.specs.declared.Size.{Size}
 use Rattle.coding.specs.declared.Kind.{Kind}
 use Rattle.coding.specs.Coding.{Coding}
-use Rattle.coding.specs.Kind.{kindSize, AllLawful}
+use Rattle.coding.specs.Kind.{kindSize, kindStandard, AllLawful}
 use Rattle.vault.specs.declared.Header.{Header}
 use Rattle.vault.specs.Block.{judgeOf}
 use Rattle.vault.specs.Parts.{placedPayload}
@@ -89,7 +89,7 @@ module _ {D : Type 0} {coding : Kind → Coding D} (lawful : AllLawful coding) (
 
     judged-alike : judgedBlock r block c ≡ judgedBlock r block b
     unfolding judgedBlock
-    judged-alike = ap (λ (t : Bool). pick t (judgeOf size (r .clip) block) (refused 1 0)) (same .named′ ∙ sym (same .named))
+    judged-alike = ap (λ (t : Bool). pick t (judgeOf size (kindStandard (r .kind)) (r .clip) block) (refused 1 0)) (same .named′ ∙ sym (same .named))
 
     decided-alike : decide coding r block c ≡ decide coding r block b
     unfolding decide byJudgement

@@ -13,7 +13,7 @@ use Rattle.size.specs.Size.{storeLength}
 use Rattle.coding.specs.declared.Kind.{Kind}
 use Rattle.coding.specs.declared.Kind.the-variants as K
 use Rattle.coding.specs.Coding.{Coding}
-use Rattle.coding.specs.Kind.{kindSize}
+use Rattle.coding.specs.Kind.{kindSize, kindStandard}
 use Rattle.vault.specs.declared.Header.{Header}
 use Rattle.vault.specs.Block.{pictures, judgeOf}
 use Rattle.vault.specs.Parts.{headerAt, blockAt, placedPayload}
@@ -56,13 +56,13 @@ size = kindSize kind
 
 -- picture p of clip 1, in one block
 abbrev whole : ℕ → List ℕ
-whole p = blockAt 1 p true [] 1 0
+whole p = blockAt (kindStandard kind) 1 p true [] 1 0
 
 abbrev header : ℕ → Header
-header p = headerAt 1 p true 1 0
+header p = headerAt (kindStandard kind) 1 p true 1 0
 
-whole-judged : (p : ℕ) → p + 1 ≤ pictures → judgeOf size 1 (whole p) ≡ accepted (header p)
-whole-judged p l = at-judged 1 p true [] 1 size 0 (record { clip-is = omega arith; picture-is = omega (arith, l); count-is = omega arith; part-is = omega arith })
+whole-judged : (p : ℕ) → p + 1 ≤ pictures → judgeOf size (kindStandard kind) 1 (whole p) ≡ accepted (header p)
+whole-judged p l = at-judged (kindStandard kind) 1 p true [] 1 size 0 (record { clip-is = omega arith; picture-is = omega (arith, l); count-is = omega arith; part-is = omega arith })
 
 abbrev late : List (List ℕ)
 late = whole 1 ∷ whole 0 ∷ []
@@ -74,7 +74,7 @@ fresh = freshReceiver 1 kind
 abbrev lent : Buffers
 lent = blankBuffers size
 
-judged-in : (r : Receiver) (b : Buffers) (p : ℕ) → judgeOf (kindSize (r .kind)) (r .clip) (whole p) ≡ accepted (header p) → lentLengths (kindSize (r .kind)) b ≡ true → judgedBlock r (whole p) b ≡ accepted (header p)
+judged-in : (r : Receiver) (b : Buffers) (p : ℕ) → judgeOf (kindSize (r .kind)) (kindStandard (r .kind)) (r .clip) (whole p) ≡ accepted (header p) → lentLengths (kindSize (r .kind)) b ≡ true → judgedBlock r (whole p) b ≡ accepted (header p)
 unfolding judgedBlock
 judged-in r b p j e = rw e j
 
@@ -91,7 +91,7 @@ shown = after (finished (header 1) tt)
 shown-named : lentLengths size (shown .lent) ≡ true
 shown-named =
     lengths-make size (placedPayload (whole 1) 0 (lent .collection)) (shown .lent .both)
-    (placed-length (whole 1) 0 (lent .collection) (at-length 1 1 true [] 1 0) (let l = collection-is size lent (blank-named size) in omega (arith, l)) ∙ collection-is size lent (blank-named size))
+    (placed-length (whole 1) 0 (lent .collection) (at-length (kindStandard kind) 1 1 true [] 1 0) (let l = collection-is size lent (blank-named size) in omega (arith, l)) ∙ collection-is size lent (blank-named size))
     (kept-sized size Neither (replicate (storeLength size) 0) (lent .both) (length-replicate {A = ℕ} (storeLength size) 0) (stores-are size lent (blank-named size)))
 
 -- ---- and picture 0 is old

@@ -8,7 +8,7 @@ use Rattle.laws.specs.Choice.{oneOf}
 use Rattle.refusals.specs.Told.{accepted}
 use Rattle.coding.specs.declared.Kind.{Kind}
 use Rattle.coding.specs.Coding.{Coding}
-use Rattle.coding.specs.Kind.{kindSize}
+use Rattle.coding.specs.Kind.{kindSize, kindStandard}
 use Rattle.vault.specs.declared.Header.{Header}
 use Rattle.vault.specs.Block.{judgeOf}
 use Rattle.salvaging.specs.Salvage.{Salvage, salvageFrom}
@@ -25,7 +25,7 @@ TellsAll salvage = (D : Type 0) (coding : Kind → Coding D) (kind : Kind) (old 
 -- ---- wrong: "one that keeps a picture that was never shown": each that a good block of the list is the whole of, also one that came too late
 abbrev pub KeepsUnshown : Program → Type 1
 KeepsUnshown salvage = (D : Type 0) (coding : Kind → Coding D) (kind : Kind) (old new : ℕ) (blocks : List (List ℕ)) (block : List ℕ) (header : Header) → List·Memᴰ block blocks
-    → judgeOf (kindSize kind) old block ≡ accepted header → header .part ≡ 0 → header .last ≡ true → oneOf (oldNumbers (salvage D coding kind old new blocks .log)) (header .picture) ≡ true
+    → judgeOf (kindSize kind) (kindStandard kind) old block ≡ accepted header → header .part ≡ 0 → header .last ≡ true → oneOf (oldNumbers (salvage D coding kind old new blocks .log)) (header .picture) ≡ true
 
 abbrev pub KeepsUnshownWrong : Type 1
 KeepsUnshownWrong = (salvage : Program) → KeepsUnshown salvage → TellsAll salvage → ⊥
