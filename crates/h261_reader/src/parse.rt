@@ -8,13 +8,14 @@ use fields::pair_stopped;
 use fields::place_stopped;
 use h261_groups::Format;
 use h261_layers::head::header;
+use levels::clear;
 use refusals::Reason;
 use refusals::Refusal;
 use refusals::Verdict;
 ghost use mathlib.Core.Path.{_≡_};
-ghost use Prim.Native.Nat.{_+_, _*_};
+ghost use Prim.Native.Nat.{_*_};
 ghost use lib.Dec.{ltb};
-ghost use lib.ListN.{length, replicate};
+ghost use lib.ListN.{length};
 ghost use Rattle.refusals.specs.Told.{toldVerdict, verdictOn};
 ghost use Rattle.fields.specs.Answer.{found};
 ghost use Rattle.laws.specs.Choice.{either};
@@ -44,16 +45,6 @@ fn refused(stopped: Stopped) -> PictureRead
     PictureRead {
         verdict: Verdict::Refused(why),
         reads: stopped.reads,
-    }
-}
-
-fn clear(buffer: &mut [u8])
-    ensures { λ _. ⌜ now (buffer .exit) ≡ replicate (length (now (buffer .entry))) 0 ⌝ }
-{
-    let mut i: usize = 0;
-    while i < buffer.len() {
-        buffer[i] = 0;
-        i += 1;
     }
 }
 

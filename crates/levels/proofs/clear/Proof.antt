@@ -1,11 +1,11 @@
--- `h261_reader::parse::clear` meets its contract: by turns, the bytes before are zeros.
+-- `levels::clear` meets its contract: by turns, the bytes before are zeros.
 use borrow.Author.Needs.{needs}
 use native.Mathlib.Omega.{arith}
 use Prim.Native.Nat.{_-_}
 use lib.ListN.{length, length-set}
-use Rattle.h261_reader.proofs.ParseSteps.{Zeroed, zeroed-none, zeroed-more, zeroed-all}
-use Rattle.h261_reader.proofs.parse.clear.Statement.{statement}
-use Rattle.h261_reader.proofs.parse.clear.Tie as tie
+use Rattle.levels.proofs.Cleared.{Zeroed, zeroed-none, zeroed-more, zeroed-all}
+use Rattle.levels.proofs.clear.Statement.{statement}
+use Rattle.levels.proofs.clear.Tie as tie
 
 abbrev Inv-loop : tie.InvT-loop
 Inv-loop buffer₀ i₀ buffer i = Zeroed buffer₀ buffer i
