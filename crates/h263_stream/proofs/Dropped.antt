@@ -1,6 +1,6 @@
 -- What is dropped after a picture, by the windows at two places. Assumes nothing.
 use Prim.Native.Nat.{ℕ, zero, suc, _+_, _-_, _*_, _/_, _^_, _<_, _≤_, min}
-use native.Mathlib.Nat.{not-suc-le-zero}
+use native.Mathlib.Nat.{not-suc-le-zero, min-le-right}
 use native.Mathlib.Omega.{arith}
 use borrow.Author.Tests.{lt-ltb, le-ltb, le-leb, lt-leb, eq-eqb, ne-eqb}
 use mathlib.Core.Path.{_≡_, refl, sym, ap, _∙_}
@@ -13,11 +13,12 @@ use Rattle.bits.specs.Bits.{value}
 use Rattle.bits.proofs.Value.{window-first}
 use Rattle.fields.specs.Answer.{found}
 use Rattle.size.specs.declared.Size.{Size}
+use Rattle.size.specs.declared.Size.the-variants.{SubQcif, Qcif, Cif}
 use Rattle.size.specs.Size.{limit}
 use Rattle.layout.specs.Flat.{Flat}
 use Rattle.h263_reader.specs.Described.{described}
 use Rattle.h263_reader.specs.ReadOf.{readOf}
-use Rattle.h263_stream.specs.Filled.{fillsFrom, endsAfter, endsWithin, isDropped, allBits, bitsTo, bitsRefused, bitsBy, pictureBits, pictureRead}
+use Rattle.h263_stream.specs.Filled.{fillsFrom, endsAfter, endsWithin, isDropped, roomOf, allBits, bitsTo, bitsRefused, bitsBy, pictureBits, pictureRead}
 
 -- ---- zeros
 module _ (bytes : List ℕ) (all at : ℕ) {left : ℕ} (l : left ≡ all - at) where
@@ -82,8 +83,17 @@ within-none bytes all at k l =
     ap (λ (n : ℕ). endsWithin bytes all at n) none
 
 -- ---- N
-pub all-bits : {size other : Size} (count : ℕ) {n : ℕ} → size ≡ other → n ≡ min count (limit other / 8 + 8) → 8 * n ≡ allBits size count
-all-bits count e m = ap (λ (k : ℕ). 8 * k) m ∙ sym (ap (λ (x : Size). allBits x count) e)
+room-few : (size : Size) → roomOf size ≤ 32776
+room-few SubQcif = omega arith
+room-few Qcif = omega arith
+room-few Cif = omega arith
+
+module _ (size : Size) {count room n : ℕ} (r : room ≡ roomOf size) (m : n ≡ min count room) where
+  pub bytes-few : n ≤ 32776
+  bytes-few = omega (arith, m, min-le-right count room, r, room-few size)
+
+  pub all-bits : 8 * n ≡ allBits size count
+  all-bits = ap (λ (k : ℕ). 8 * k) (m ∙ ap (λ (k : ℕ). min count k) r)
 
 pub judged : {size other : Size} (bytes : List ℕ) (count : ℕ) {v : Told (Unit {0})} → size ≡ other → v ≡ verdictOn (found (described other bytes count))
     → v ≡ verdictOn (found (described size bytes count))

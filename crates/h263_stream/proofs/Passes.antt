@@ -29,9 +29,9 @@ pub reaches-all : {bytes : List ℕ} {s : Stream} {at : ℕ} {picture : List ℕ
     → (t ≡ ranFrom s (beforeCode s (drop at bytes))) × ((there ≡ at + length (beforeCode s (drop at bytes))) × (left ≡ keptFrom s (beforeCode s (drop at bytes)) picture))
 reaches-all {bytes} {s} {at} {picture} {t} {there} {left} h e =
     let none : there + 0 ≡ there = omega arith in (
-  sym (h .state ∙ ap (λ (l : List ℕ). ranFrom t l) e),
-  (sym (h .place ∙ ap (λ (l : List ℕ). there + length l) e ∙ none), sym (h .kept ∙ ap (λ (l : List ℕ). keptFrom t l left) e)),
-)
+      sym (h .state ∙ ap (λ (l : List ℕ). ranFrom t l) e),
+      (sym (h .place ∙ ap (λ (l : List ℕ). there + length l) e ∙ none), sym (h .kept ∙ ap (λ (l : List ℕ). keptFrom t l left) e)),
+    )
 
 module _ (bytes : List ℕ) (t : Stream) (there : ℕ) where
   -- at the bytes' end

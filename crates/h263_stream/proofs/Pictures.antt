@@ -66,7 +66,7 @@ module _ (room : ℕ) where
       go (inr l) =
           ap (λ (xs : List ℕ). take (length own) xs) (take-append-le room own more l)
           ∙ take-all (length own) (take room own) (omega (arith, length-take-le room own l, l))
-          
+
   held-begun : (buffer : List ℕ) (a b c : ℕ) → length buffer ≡ room → a ≡ 0 → b ≡ 0 → Held (beginning c buffer) (a ∷ b ∷ c ∷ [])
   held-begun buffer a b c l e f =
       subst (λ (x : ℕ). Held (beginning c buffer) (x ∷ b ∷ c ∷ [])) (sym e)

@@ -1,6 +1,6 @@
 -- A picture of a stream, and what stands between it and the next code at a byte: up to seven zeros, or up to seven and an end code, are no part of it. "The place of 13 says where it
 -- ends." Assumes nothing.
-use Prim.Native.Nat.{ℕ, zero, suc, _+_, _-_, _*_, _/_, min}
+use Prim.Native.Nat.{ℕ, zero, suc, _+_, _-_, _*_, min}
 use mathlib.Core.Bool.{Bool, true, false}
 use mathlib.Core.List.{List}
 use lib.Dec.{eqb, ltb, leb}
@@ -9,6 +9,7 @@ use Rattle.refusals.specs.Told.{Numbers, Told, accepted, refusedBy, verdictOn}
 use Rattle.bits.specs.Bits.{value}
 use Rattle.fields.specs.Answer.{found}
 use Rattle.size.specs.declared.Size.{Size}
+use Rattle.size.specs.declared.Size.the-variants.{SubQcif, Qcif, Cif}
 use Rattle.size.specs.Size.{limit}
 use Rattle.layout.specs.Flat.{Flat}
 use Rattle.h263_reader.specs.Described.{described}
@@ -32,10 +33,15 @@ abbrev pub isDropped : List ℕ → ℕ → ℕ → Bool
 isDropped bytes all at = either (fillsFrom bytes all at) (endsWithin bytes all at 8)
 
 -- ---- N
--- all bits of a picture of so many bytes. Of a longer one no more than eight bytes past the limit matter: it is refused for its length, and an end code after a last macroblock
--- within the limit ends within them
+-- of a picture's bytes no more than eight past the limit matter: a longer one is refused for its length, and an end code after a last macroblock within the limit ends within them
+abbrev pub roomOf : Size → ℕ
+roomOf SubQcif = 8200
+roomOf Qcif = 8200
+roomOf Cif = 32776
+
+-- all bits of a picture of so many bytes
 abbrev pub allBits : Size → ℕ → ℕ
-allBits size count = 8 * min count (limit size / 8 + 8)
+allBits size count = 8 * min count (roomOf size)
 
 -- up to the last macroblock's end, if the rest is dropped
 abbrev pub bitsTo : List ℕ → ℕ → ℕ → ℕ

@@ -13,7 +13,7 @@ ghost use Rattle.layout.specs.Flat.{flat};
 ghost use Rattle.h263_reader.specs.Described.{described};
 ghost use Rattle.h263_stream.specs.Stream.{oneMore, freshStream, isCode, startsAt, endsAt, codeAt, begunBy, endedBy, longerBy, streamAfter, beginning, keptAfter};
 ghost use Rattle.h263_stream.specs.Passed.{ranFrom, keptFrom, beforeCode};
-ghost use Rattle.h263_stream.specs.Filled.{fillsFrom, endsAfter, endsWithin, isDropped, allBits, bitsTo, bitsRefused, pictureBits, pictureRead};
+ghost use Rattle.h263_stream.specs.Filled.{fillsFrom, endsAfter, endsWithin, isDropped, roomOf, allBits, bitsTo, bitsRefused, pictureBits, pictureRead};
 
 // What has gone by of a stream.
 pub struct Stream {
@@ -272,14 +272,22 @@ fn is_dropped(bytes: &[u8], all: usize, at: usize) -> bool
     ends_within(bytes, all, at)
 }
 
+// How many of a picture's bytes matter: more of them are never looked at.
+pub fn room(size: Size) -> usize
+    ensures { λ r. ⌜ r ≡ roomOf size ⌝ }
+{
+    match size {
+        Size::SubQcif => 8200,
+        Size::Qcif => 8200,
+        Size::Cif => 32776,
+    }
+}
+
 fn all_bits(size: Size, count: usize) -> usize
     ensures { λ r. ⌜ r ≡ allBits size count ⌝ }
 {
-    match size {
-        Size::SubQcif => 8 * smaller(count, 8200),
-        Size::Qcif => 8 * smaller(count, 8200),
-        Size::Cif => 8 * smaller(count, 32776),
-    }
+    let most = room(size);
+    8 * smaller(count, most)
 }
 
 fn bits_to(bytes: &[u8], all: usize, end: usize) -> usize

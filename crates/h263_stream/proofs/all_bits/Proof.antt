@@ -1,18 +1,15 @@
--- `h263_stream::all_bits` meets its contract: by the size. Assumes nothing.
+-- `h263_stream::all_bits` meets its contract. Assumes nothing.
+use native.Mathlib.Omega.{arith}
 use borrow.Author.Needs.{needs}
-use Rattle.h263_stream.proofs.Dropped.{all-bits}
+use Rattle.h263_stream.proofs.Dropped.{bytes-few, all-bits}
 use Rattle.h263_stream.proofs.all_bits.Statement.{statement}
 use Rattle.h263_stream.proofs.all_bits.Tie as tie
 
+mul-result : tie.Need-mul-result
+mul-result c = omega (arith, bytes-few (c .before .before .args .size) (c .before .room .ensures) (c .smaller .ensures))
+
 returns : tie.Need-returns
-returns c = all-bits (c .before .before .before .args .count) (c .before .enum-told .given .1) (c .smaller .ensures)
-
-returns-2 : tie.Need-returns-2
-returns-2 c = all-bits (c .before .before .before .args .count) (c .before .enum-told2 .given .1) (c .smaller2 .ensures)
-
-returns-3 : tie.Need-returns-3
-returns-3 c = all-bits (c .before .before .before .args .count) (c .before .enum-told3 .given .1) (c .smaller3 .ensures)
-
+returns c = all-bits (c .before .before .args .size) (c .before .room .ensures) (c .smaller .ensures)
 
 pub all-bits-spec : {M : Type 1} → statement M
-all-bits-spec = tie.close (tie.spec (λ c. search needs) (λ c κs. search needs) (λ c. search needs) (λ c. search needs) (λ c κs. search needs) (λ c. search needs) (λ c. search needs) (λ c κs. search needs) (λ c. search needs) returns returns-2 returns-3)
+all-bits-spec = tie.close (tie.spec (λ c κs. search needs) (λ c κs. search needs) mul-result returns)

@@ -9,6 +9,5 @@ returns c =
     let a = c .before .before .args in
     begun (a .stream) (a .byte) (c .before .one-more .ensures) (c .left-from .ensures)
 
-
 pub begun-by-spec : {M : Type 1} → statement M
 begun-by-spec = tie.close (tie.spec (λ c κs. search needs) (λ c κs. search needs) returns)

@@ -10,6 +10,5 @@ returns c = thirteen _ (c .before .before .before .before .args .all) (c .before
 returns-2 : tie.Need-returns-2
 returns-2 c = not-thirteen _ (c .before .before .before .args .all) (c .before .number-of .ensures) (c .if1 .left)
 
-
 pub bits-refused-spec : {M : Type 1} → statement M
 bits-refused-spec = tie.close (tie.spec (λ c κs. search needs) (λ c κs. search needs) returns returns-2)

@@ -14,6 +14,5 @@ returns-2 c =
     let a = c .before .before .before .args in
     unpicked (a .end) (a .all) (c .before .is-dropped .ensures) (c .if1 .left)
 
-
 pub bits-to-spec : {M : Type 1} → statement M
 bits-to-spec = tie.close (tie.spec (λ c κs. search needs) returns returns-2)

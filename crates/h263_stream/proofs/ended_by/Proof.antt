@@ -9,6 +9,5 @@ returns c =
     let a = c .before .args in
     ended (a .stream) (a .byte) (c .one-more .ensures)
 
-
 pub ended-by-spec : {M : Type 1} → statement M
 ended-by-spec = tie.close (tie.spec (λ c κs. search needs) returns)

@@ -19,6 +19,5 @@ returns-3 c =
     let a = c .before .before .before .before .before .before .args in
     by-ones (a .bytes .now) (a .all) (a .at) (c .before .before .before .before .left-from .ensures) (a .zeros) (c .before .before .before .if1 .left) (c .before .before .window .ensures) (c .before .before .before .before .before .before .pre) (c .before .if2 .left) (c .window2 .ensures)
 
-
 pub ends-after-spec : {M : Type 1} → statement M
 ends-after-spec = tie.close (tie.spec (λ c κs. search needs) (λ c. search needs) returns (λ c κs. search needs) returns-2 (λ c. search needs) (λ c κs. search needs) (λ c. search needs) (λ c. search needs) (λ c. search needs) returns-3)

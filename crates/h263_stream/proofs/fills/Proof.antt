@@ -14,6 +14,5 @@ returns-2 c =
     let a = c .before .before .before .before .args in
     by-zeros (a .bytes .now) (a .all) (a .at) (c .before .before .left-from .ensures) (c .before .if1 .left) (c .window .ensures)
 
-
 pub fills-spec : {M : Type 1} → statement M
 fills-spec = tie.close (tie.spec (λ c κs. search needs) returns (λ c κs. search needs) (λ c. search needs) (λ c. search needs) (λ c. search needs) returns-2)

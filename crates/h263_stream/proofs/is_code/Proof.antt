@@ -18,6 +18,5 @@ returns-3 c =
     let a = c .before .before .args in
     by-third (a .six) (a .a) (a .b) (a .c) (c .before .if1 .left) (c .if2 .left)
 
-
 pub is-code-spec : {M : Type 1} → statement M
 is-code-spec = tie.close (tie.spec returns returns-2 returns-3)

@@ -19,6 +19,5 @@ returns-3 c =
     let a = c .before .before .before .before .args in
     judged (a .bytes .now) (a .count) (c .before .enum-told3 .given .1) (c .judge-cif .ensures)
 
-
 pub judge-spec : {M : Type 1} → statement M
 judge-spec = tie.close (tie.spec (λ c. search needs) (λ c κs. search needs) (λ c. search needs) (λ c κs. search needs) (λ c. search needs) (λ c κs. search needs) returns returns-2 returns-3)

@@ -10,6 +10,5 @@ returns-2 c =
     let a = c .before .args in
     sym (set-out (a .picture .now) (a .at) (a .byte) (c .if1 .left))
 
-
 pub keep-spec : {M : Type 1} → statement M
 keep-spec = tie.close (tie.spec (λ c. search needs) (λ c. search needs) (λ c. search needs) returns-2)

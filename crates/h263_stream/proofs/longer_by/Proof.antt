@@ -9,6 +9,5 @@ returns c =
     let a = c .before .before .args in
     longer (a .stream) (a .byte) (c .before .one-more .ensures) (c .one-more2 .ensures)
 
-
 pub longer-by-spec : {M : Type 1} → statement M
 longer-by-spec = tie.close (tie.spec (λ c κs. search needs) (λ c κs. search needs) returns)

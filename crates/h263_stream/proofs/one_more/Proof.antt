@@ -10,6 +10,5 @@ returns c = more-below (c .before .args .n) (c .if1 .taken)
 returns-2 : tie.Need-returns-2
 returns-2 c = more-last (c .before .args .n) (c .if1 .left)
 
-
 pub one-more-spec : {M : Type 1} → statement M
 one-more-spec = tie.close (tie.spec (λ c. search needs) returns returns-2)

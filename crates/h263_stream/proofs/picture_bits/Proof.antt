@@ -15,7 +15,7 @@ returns c =
     let a = at-all .before .before .args in
     c .bits-to .ensures
     ∙ bits-by (a .size) (a .bytes .now) (a .count) (at-all .all-bits .ensures) (at-limit .limit .ensures) (at-smaller .smaller .ensures)
-      (sym (ap toldVerdict (c .before .enum-told .given .1)) ∙ at-judge .judge .ensures)
+    (sym (ap toldVerdict (c .before .enum-told .given .1)) ∙ at-judge .judge .ensures)
 
 returns-2 : tie.Need-returns-2
 returns-2 c =
@@ -26,7 +26,7 @@ returns-2 c =
     let a = at-all .before .before .args in
     c .bits-refused .ensures
     ∙ bits-by (a .size) (a .bytes .now) (a .count) (at-all .all-bits .ensures) (at-limit .limit .ensures) (at-smaller .smaller .ensures)
-      (sym (ap toldVerdict (c .before .before .verdict .given .1)) ∙ at-judge .judge .ensures)
+    (sym (ap toldVerdict (c .before .before .verdict .given .1)) ∙ at-judge .judge .ensures)
 
 pub picture-bits-spec : {M : Type 1} → statement M
 picture-bits-spec = tie.close (tie.spec (λ c κs. search needs) (λ c κs. search needs) (λ c κs. search needs) (λ c κs. search needs) (λ c. search needs) (λ c κs. search needs) (λ c. search needs) (λ c κs. search needs) returns returns-2)
