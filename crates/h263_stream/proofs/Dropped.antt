@@ -3,12 +3,12 @@ use Prim.Native.Nat.{ℕ, zero, suc, _+_, _-_, _*_, _/_, _^_, _<_, _≤_, min}
 use native.Mathlib.Nat.{not-suc-le-zero, min-le-right}
 use native.Mathlib.Omega.{arith}
 use borrow.Author.Tests.{lt-ltb, le-ltb, le-leb, lt-leb, eq-eqb, ne-eqb}
-use mathlib.Core.Path.{_≡_, refl, sym, ap, _∙_}
+use mathlib.Core.Path.{_≡_, sym, ap, _∙_}
 use mathlib.Core.Bool.{Bool, true, false}
 use mathlib.Core.List.{List}
-use lib.Dec.{eqb, leb, ltb}
+use lib.Dec.{eqb, leb}
 use Rattle.laws.specs.Choice.{pick, both, either}
-use Rattle.refusals.specs.Told.{Numbers, Told, accepted, refusedBy, verdictOn, foundOr}
+use Rattle.refusals.specs.Told.{Told, verdictOn, foundOr}
 use Rattle.bits.specs.Bits.{value}
 use Rattle.bits.proofs.Value.{window-first}
 use Rattle.fields.specs.Answer.{found}
@@ -18,7 +18,7 @@ use Rattle.size.specs.Size.{limit}
 use Rattle.layout.specs.Flat.{Flat}
 use Rattle.h263_reader.specs.Described.{described}
 use Rattle.h263_reader.specs.ReadOf.{readOf}
-use Rattle.h263_stream.specs.Filled.{fillsFrom, endsAfter, endsWithin, isDropped, roomOf, allBits, bitsTo, bitsRefused, bitsBy, pictureBits, pictureRead}
+use Rattle.h263_stream.specs.Filled.{fillsFrom, endsAfter, endsWithin, roomOf, allBits, bitsBy, pictureBits, pictureRead}
 
 -- ---- zeros
 module _ (bytes : List ℕ) (all at : ℕ) {left : ℕ} (l : left ≡ all - at) where
@@ -88,7 +88,7 @@ room-few SubQcif = omega arith
 room-few Qcif = omega arith
 room-few Cif = omega arith
 
-module _ (size : Size) {count room n : ℕ} (r : room ≡ roomOf size) (m : n ≡ min count room) where
+module _ (size : Size) (count : ℕ) {room n : ℕ} (r : room ≡ roomOf size) (m : n ≡ min count room) where
   pub bytes-few : n ≤ 32776
   bytes-few = omega (arith, m, min-le-right count room, r, room-few size)
 

@@ -15,7 +15,7 @@ use Rattle.laws.proofs.Choice.{two-of}
 use Rattle.laws.proofs.Rows.{lt-or-ge}
 use Rattle.h263_stream.specs.declared.Stream.{Stream}
 use Rattle.h263_stream.specs.Stream.{oneMore, isCode, startsAt, endsAt, begunBy, endedBy, longerBy, streamAfter, beginning, keptAfter, freshStream}
-use Rattle.h263_stream.specs.Pictures.{untilCode, Stretch, picturesFrom, Met, metAt, metFrom, asMet, PicturesMet}
+use Rattle.h263_stream.specs.Pictures.{untilCode, picturesFrom, Met, metAt, metFrom, asMet, PicturesMet}
 use Rattle.h263_stream.proofs.StreamLaws.{more-below}
 
 -- a code's first two bytes are zeros

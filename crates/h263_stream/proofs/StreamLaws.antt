@@ -1,15 +1,14 @@
 -- A byte more, over plain variables. Assumes nothing.
 use Prim.Native.Nat.{ℕ, _+_, _-_, _/_, _<_, _≤_}
-use native.Mathlib.Omega.{arith}
 use borrow.Author.Tests.{lt-ltb, le-ltb, eq-eqb, ne-eqb}
-use mathlib.Core.Path.{_≡_, refl, sym, ap, _∙_}
+use mathlib.Core.Path.{_≡_, sym, ap, _∙_}
 use mathlib.Core.Bool.{Bool, true, false}
 use mathlib.Core.List.{List}
 use lib.Dec.{eqb}
 use lib.ListN.{set}
 use Rattle.laws.specs.Choice.{pick, both, either}
 use Rattle.h263_stream.specs.declared.Stream.{Stream}
-use Rattle.h263_stream.specs.Stream.{oneMore, isCode, startsAt, endsAt, codeAt, begunBy, endedBy, longerBy, streamAfter, beginning, keptAfter}
+use Rattle.h263_stream.specs.Stream.{oneMore, isCode, startsAt, endsAt, begunBy, endedBy, longerBy, streamAfter, beginning, keptAfter}
 
 pub more-below : (n : ℕ) → n < 18446744073709551615 → n + 1 ≡ oneMore n
 more-below n l = sym (ap (λ (t : Bool). pick t (n + 1) n) (lt-ltb n 18446744073709551615 l))

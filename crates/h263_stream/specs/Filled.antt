@@ -1,7 +1,7 @@
 -- A picture of a stream, and what stands between it and the next code at a byte: up to seven zeros, or up to seven and an end code, are no part of it. "The place of 13 says where it
 -- ends." Assumes nothing.
 use Prim.Native.Nat.{ℕ, zero, suc, _+_, _-_, _*_, min}
-use mathlib.Core.Bool.{Bool, true, false}
+use mathlib.Core.Bool.{Bool, false}
 use mathlib.Core.List.{List}
 use lib.Dec.{eqb, ltb, leb}
 use Rattle.laws.specs.Choice.{pick, both, either}

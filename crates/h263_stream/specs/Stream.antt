@@ -1,7 +1,7 @@
 -- A raw H.263 stream, byte by byte: a picture reaches from its start code, at a byte, to the next start code or end code at a byte, or to the stream's end. Assumes nothing.
 use Prim.Native.Nat.{ℕ, _+_, _-_, _/_}
 use mathlib.Core.Bool.{Bool, true, false}
-use mathlib.Core.List.{List, [], _∷_}
+use mathlib.Core.List.{List}
 use lib.Dec.{eqb, ltb}
 use lib.ListN.{set}
 use Rattle.laws.specs.Choice.{pick, both, either}
