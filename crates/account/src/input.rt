@@ -1,4 +1,4 @@
-// Standard input, where a read that fails is told from the input's end.
+// A program's input, where a read that fails is told from the input's end.
 use libc::STDIN_FILENO;
 ghost use Rattle.io.specs.Counts.{Counts};
 
@@ -8,13 +8,13 @@ pub struct Filled {
     pub failed: bool,
 }
 
-// Reads until the buffer is full, the input ends or a read fails.
-pub fn fill(buffer: &mut [u8]) -> Filled
+// Reads a file until the buffer is full, the file ends or a read fails.
+pub fn fill_from(file: i32, buffer: &mut [u8]) -> Filled
     ensures { λ r. ⌜ Counts (r .count) (now (buffer .exit)) ⌝ }
 {
     let mut done: usize = 0;
     while done < buffer.len() {
-        let got = libc::read(STDIN_FILENO, &mut buffer[done..]);
+        let got = libc::read(file, &mut buffer[done..]);
         let more = io::count(got, &buffer[done..]);
         if more == 0 {
             return Filled {
@@ -28,4 +28,11 @@ pub fn fill(buffer: &mut [u8]) -> Filled
         count: done,
         failed: false,
     }
+}
+
+// The same of standard input.
+pub fn fill(buffer: &mut [u8]) -> Filled
+    ensures { λ r. ⌜ Counts (r .count) (now (buffer .exit)) ⌝ }
+{
+    fill_from(STDIN_FILENO, buffer)
 }

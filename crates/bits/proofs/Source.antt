@@ -1,10 +1,12 @@
 -- The bits of a slice, by bytes and by place: the same. Assumes nothing.
-use mathlib.Core.Path.{_≡_, refl}
+use mathlib.Core.Path.{_≡_, refl, _∙_}
 use mathlib.Core.List.{List, [], _∷_, _++_}
 use Prim.Native.Nat.{ℕ, zero, suc, _+_, _-_, _*_, _/_, _%_, _≤_}
 use native.Mathlib.Omega.{arith}
+use native.Mathlib.Nat.{sub-zero}
 use lib.ListN.{length, take}
 use Rattle.bits.specs.Bits.{bitsOf, bitsIn, source, bitNum, bitAt, bitsFrom, bitsLeft}
+use Rattle.bits.proofs.Value.{length-bits}
 
 bit-later : (b : ℕ) (s : List ℕ) (i : ℕ) → bitAt (b ∷ s) (i + 8) ≡ bitAt s i
 unfolding bitAt bitNum
@@ -49,3 +51,6 @@ source-left s n h =
     let e : length s * 8 ≡ n + (length s * 8 - n) = omega arith in
     let z : n - 0 ≡ n = omega arith in
     rw (all-bits s, e, z) (take-from s 0 n (length s * 8 - n))
+
+pub length-source : (s : List ℕ) (n : ℕ) → n ≤ 8 * length s → length (source s n) ≡ n
+length-source s n h = rw (source-left s n h) (length-bits s 0 (n - 0) ∙ sub-zero n)

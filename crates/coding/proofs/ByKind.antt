@@ -1,5 +1,5 @@
 -- What a function of H.261's says of the kind's format is what the kind's coding says. Assumes nothing.
-use mathlib.Core.Path.{_≡_, refl, sym, ap, subst, _∙_}
+use mathlib.Core.Path.{_≡_, sym, ap, subst, _∙_}
 use mathlib.Core.Bool.{Bool, true}
 use mathlib.Core.List.{List, []}
 use Prim.Native.Nat.{ℕ}
@@ -7,7 +7,6 @@ use lib.Dec.{T}
 use lib.ListN.{length}
 use Rattle.laws.proofs.Choice.{true-T}
 use Rattle.refusals.specs.Told.{Told, verdictOn, foundOr}
-use Rattle.bits.specs.Read.{Read, got, endless, refused as unread}
 use Rattle.size.specs.Size.{storeLength, outputLength}
 use Rattle.h261_groups.specs.declared.Format.{Format}
 use Rattle.h261_groups.specs.Format.{sizeOf, macroblocksLength}
@@ -16,7 +15,7 @@ use Rattle.h261_description.specs.Fields.{refresh}
 use Rattle.h261_description.specs.Valid.{valid}
 use Rattle.h261_description.proofs.Pictured.{valid-lists}
 use Rattle.fields.specs.Answer.{found}
-use Rattle.h261_reader.specs.Described.{Blank, described, zeros, laidOr}
+use Rattle.h261_reader.specs.Described.{Blank, described, zeros}
 use Rattle.h261_writer.specs.Output.{pictureBits, filledWithin}
 use Rattle.h261_render.specs.Sample.{rendered}
 use Rattle.h261_render.specs.Turn.{PictureOf}
@@ -24,11 +23,6 @@ use Rattle.coding.specs.declared.Kind.{Kind}
 use Rattle.h261_layers.specs.Grammar.{readWidths}
 use Rattle.coding.specs.Kind.{formatOf, kindSize, codingOf, readsOf}
 use Rattle.coding.specs.Described.{BlankFor, outputWith, Writable, Drawable}
-
-laid-or : (f : Format) (before : Flat) → before ≡ zeros f → (x : Read Flat) → laidOr f x ≡ foundOr before (found x)
-laid-or f before e (got d left at) = refl
-laid-or f before e (unread why) = sym e
-laid-or f before e endless = sym e
 
 module _ (k : Kind) {f : Format} (is : f ≡ formatOf k) where
   -- ---- reading
@@ -40,11 +34,11 @@ module _ (k : Kind) {f : Format} (is : f ≡ formatOf k) where
     unfolding codingOf
     parsed-verdict e = e ∙ ap (λ (g : Format). verdictOn (found (described g bytes n))) is
 
-    pub parsed-buffers : {d : Flat} → d ≡ laidOr f (described f bytes n) → d ≡ foundOr (flat head macroblocks levels) (codingOf k .read bytes n)
+    pub parsed-buffers : {d : Flat} → d ≡ foundOr (zeros f) (found (described f bytes n)) → d ≡ foundOr (flat head macroblocks levels) (codingOf k .read bytes n)
     unfolding codingOf
     parsed-buffers e =
-        e ∙ ap (λ (g : Format). laidOr g (described g bytes n)) is
-        ∙ laid-or (formatOf k) (flat head macroblocks levels) (λ i. flat (b .head-blank i) (b .ms-blank i) (b .ls-blank i)) (described (formatOf k) bytes n)
+        e ∙ ap (λ (g : Format). foundOr (zeros g) (found (described g bytes n))) is
+        ∙ (λ i. foundOr (flat (sym (b .head-blank) i) (sym (b .ms-blank) i) (sym (b .ls-blank) i)) (found (described (formatOf k) bytes n)))
 
   pub parsed-reads : (bytes : List ℕ) (n : ℕ) {reads : ℕ} → reads ≡ length (readWidths f bytes n) → reads ≡ readsOf k bytes n
   unfolding readsOf

@@ -1,3 +1,4 @@
 pub mod H261
+pub mod H263
 pub mod Scratch
 mod ByKind

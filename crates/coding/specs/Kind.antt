@@ -3,6 +3,8 @@ use Prim.Native.Nat.{ℕ}
 use mathlib.Core.List.{List}
 use lib.ListN.{length}
 use Rattle.size.specs.declared.Size.{Size}
+use Rattle.vault.specs.declared.Standard.{Standard}
+use Rattle.vault.specs.declared.Standard.the-variants.{H261}
 use Rattle.h261_groups.specs.declared.Format.{Format}
 use Rattle.h261_groups.specs.Format.{sizeOf, headLength, macroblocksLength, levelsLength}
 use Rattle.layout.specs.Flat.{Flat}
@@ -25,6 +27,11 @@ kindOf F.Cif = K.H261Cif
 
 abbrev pub kindSize : Kind → Size
 kindSize k = sizeOf (formatOf k)
+
+-- what its blocks are marked with
+abbrev pub kindStandard : Kind → Standard
+kindStandard K.H261Qcif = H261
+kindStandard K.H261Cif = H261
 
 -- ---- the lengths of a description's three slices
 abbrev pub headLengthOf : Kind → ℕ

@@ -3,12 +3,13 @@ use fields::PictureRead;
 use h261_groups::Format;
 use refusals::Verdict;
 use size::Size;
+use vault::Standard;
 ghost use mathlib.Core.Path.{_≡_};
 ghost use mathlib.Core.Bool.{true};
 ghost use lib.ListN.{length};
 ghost use Rattle.refusals.specs.Told.{toldVerdict, verdictOn, foundOr};
 ghost use Rattle.layout.specs.Flat.{flat};
-ghost use Rattle.coding.specs.Kind.{formatOf, kindOf, kindSize, headLengthOf, macroblocksLengthOf, levelsLengthOf, codingOf, readsOf};
+ghost use Rattle.coding.specs.Kind.{formatOf, kindOf, kindSize, kindStandard, headLengthOf, macroblocksLengthOf, levelsLengthOf, codingOf, readsOf};
 ghost use Rattle.coding.specs.Described.{BlankFor, outputWith, Writable, Drawable};
 
 // A standard, with the size of its pictures.
@@ -41,6 +42,15 @@ pub fn size_of(kind: Kind) -> Size
     ensures { λ r. ⌜ r ≡ kindSize kind ⌝ }
 {
     h261_groups::size_of(format_of(kind))
+}
+
+pub fn standard_of(kind: Kind) -> Standard
+    ensures { λ r. ⌜ r ≡ kindStandard kind ⌝ }
+{
+    match kind {
+        Kind::H261Qcif => Standard::H261,
+        Kind::H261Cif => Standard::H261,
+    }
 }
 
 // ---- the lengths of a description's three slices

@@ -9,7 +9,8 @@ use Rattle.refusals.specs.Told.{Numbers, untabled, Told, accepted, refusedBy, r
 use Rattle.size.specs.declared.Size.{Size}
 use Rattle.layout.specs.Flat.{Flat}
 use Rattle.coding.specs.declared.Kind.{Kind}
-use Rattle.coding.specs.Kind.{kindSize, codingOf}
+use Rattle.coding.specs.Kind.{kindSize, kindStandard, codingOf}
+use Rattle.vault.specs.declared.Standard.{Standard}
 use Rattle.vault.specs.declared.Header.{Header}
 use Rattle.vault.specs.Block.{judgeOf}
 use Rattle.vault.specs.Parts.{placedPayload}
@@ -61,15 +62,15 @@ module _ {right : Bool} {size : Size} (r : Receiver) (block collection first sec
   unfolding decide
   judged k e = ap (λ (k : Told Header). endedAfter (byJudgement codingOf k r block collection)) e
 
-  by-lengths : (b : Bool) → right ≡ b → pick b (judgeOf size (r .clip) block) (refused 1 0) ≡ judgedBlock r block lent
+  by-lengths : (b : Bool) → right ≡ b → pick b (judgeOf size (kindStandard (r .kind)) (r .clip) block) (refused 1 0) ≡ judgedBlock r block lent
   unfolding judgedBlock
   by-lengths b e =
-      ap (λ (t : Bool). pick t (judgeOf size (r .clip) block) (refused 1 0)) (sym e ∙ is)
-      ∙ ap (λ (z : Size). pick (namedLengths z (length collection) (length first) (length second)) (judgeOf z (r .clip) block) (refused 1 0)) sz
+      ap (λ (t : Bool). pick t (judgeOf size (kindStandard (r .kind)) (r .clip) block) (refused 1 0)) (sym e ∙ is)
+      ∙ ap (λ (z : Size). pick (namedLengths z (length collection) (length first) (length second)) (judgeOf z (kindStandard (r .kind)) (r .clip) block) (refused 1 0)) sz
 
-  module _ {found : Told Header} (t : right ≡ true) (f : found ≡ judgeOf size (r .clip) block) where
+  module _ {found : Told Header} {standard : Standard} (st : standard ≡ kindStandard (r .kind)) (t : right ≡ true) (f : found ≡ judgeOf size standard (r .clip) block) where
     judged-so : (k : Told Header) → found ≡ k → k ≡ judgedBlock r block lent
-    judged-so k e = sym e ∙ f ∙ by-lengths true t
+    judged-so k e = sym e ∙ f ∙ ap (λ (s : Standard). judgeOf size s (r .clip) block) st ∙ by-lengths true t
 
     pub good-ends : {header : Header} {x : Ending} → found ≡ accepted header → x ≡ endedBy (lineOf (r .progress) header) header → x ≡ endedAfter (decide codingOf r block lent)
     unfolding byJudgement

@@ -65,7 +65,8 @@ fn ended_after(
     let kind = receiver.kind;
     let size = coding::size_of(kind);
     if standing::named(size, collection.len(), first.len(), second.len()) {
-        match vault::judge(size, receiver.clip, block) {
+        let standard = coding::standard_of(kind);
+        match vault::judge(size, standard, receiver.clip, block) {
             Checked::Good(header) => {
                 let progress = receiver.progress;
                 ended_by(progress, header)

@@ -15,9 +15,10 @@ use Rattle.size.specs.declared.Size.{Size}
 use Rattle.size.specs.Size.{limit}
 use Rattle.layout.specs.Flat.{Flat}
 use Rattle.coding.specs.declared.Kind.{Kind}
-use Rattle.coding.specs.Kind.{formatOf, kindSize, codingOf}
+use Rattle.coding.specs.Kind.{formatOf, kindSize, kindStandard, codingOf}
+use Rattle.vault.specs.declared.Standard.{Standard}
 use Rattle.vault.specs.declared.Header.{Header}
-use Rattle.vault.specs.Block.{clipOf, partOf, lastOf, checkSumOf, headerOf, headerRuled, fieldsFollow, sumOf, pictures, checkOf, ofClip, judgeOf}
+use Rattle.vault.specs.Block.{clipOf, partOf, lastOf, standardOf, checkSumOf, headerOf, headerRuled, fieldsFollow, sumOf, pictures, checkOf, ofClip, sameStandard, ofStandard, judgeOf}
 use Rattle.vault.specs.Parts.{placedPayload}
 use Rattle.standing.specs.declared.Line.{Line}
 use Rattle.standing.specs.declared.Line.the-variants.{Earlier, Next, Anew, Otherwise}
@@ -62,27 +63,36 @@ pub check-is : (size : Size) (block : List ℕ) → checkOf size block ≡ withV
 unfolding checkOf
 check-is size block = checked (eqb (length block) 512) (eqb (sumOf block) (checkSumOf block)) (fieldsFollow size block) (headerOf block)
 
-of-clip : (v : Verdict) (header : Header) (clip : ℕ) → ofClip clip (withValue header v) ≡ withValue header (orElse v (firstOf (when 23 (opposite (eqb (header .clip) clip)) ∷ [])))
-of-clip (refusedBy numbers) header clip = refl
-of-clip (accepted t) header clip = go (eqb (header .clip) clip)
+-- 5, where nothing else refuses
+by-standard : {A : Type 0} (a : A) (same : Bool) → pick same (accepted a) (refused 5 0) ≡ withValue a (firstOf (when 5 (opposite same) ∷ []))
+by-standard a true = refl
+by-standard a false = refl
+
+-- of this clip, and of its standard
+of-clip : (v : Verdict) (header : Header) (standard : Standard) (clip : ℕ) → ofStandard standard (ofClip clip (withValue header v))
+    ≡ withValue header (orElse v (firstOf (when 23 (opposite (eqb (header .clip) clip)) ∷ when 5 (opposite (sameStandard (header .standard) standard)) ∷ [])))
+of-clip (refusedBy numbers) header standard clip = refl
+of-clip (accepted t) header standard clip = go (eqb (header .clip) clip)
   where
-    go : (same : Bool) → pick same (accepted header) (refused 23 0) ≡ withValue header (firstOf (when 23 (opposite same) ∷ []))
-    go true = refl
+    go : (same : Bool) → ofStandard standard (pick same (accepted header) (refused 23 0))
+        ≡ withValue header (firstOf (when 23 (opposite same) ∷ when 5 (opposite (sameStandard (header .standard) standard)) ∷ []))
+    go true = by-standard header (sameStandard (header .standard) standard)
     go false = refl
 
-pub judge-is : (size : Size) (clip : ℕ) (block : List ℕ) → judgeOf size clip block ≡ withValue (headerOf block) (firstOf (judgeRules size clip block))
+pub judge-is : (size : Size) (standard : Standard) (clip : ℕ) (block : List ℕ) → judgeOf size standard clip block ≡ withValue (headerOf block) (firstOf (judgeRules size standard clip block))
 unfolding judgeOf
-judge-is size clip block =
-    ap (ofClip clip) (check-is size block) ∙ of-clip (firstOf (checkRules size block)) (headerOf block) clip
-    ∙ ap (withValue (headerOf block)) (sym (first-append (checkRules size block) (when 23 (opposite (eqb (clipOf block) clip)) ∷ [])))
+judge-is size standard clip block =
+    ap (λ (x : Told Header). ofStandard standard (ofClip clip x)) (check-is size block) ∙ of-clip (firstOf (checkRules size block)) (headerOf block) standard clip
+    ∙ ap (withValue (headerOf block))
+    (sym (first-append (checkRules size block) (when 23 (opposite (eqb (clipOf block) clip)) ∷ when 5 (opposite (sameStandard (standardOf block) standard)) ∷ [])))
 
 judged-is : (r : Receiver) (block : List ℕ) (b : Buffers) → judgedBlock r block b ≡ withValue (headerOf block) (firstOf (blockRules r block b))
 unfolding judgedBlock
 judged-is r block b = go (R.lentLengths (kindSize (r .kind)) b)
   where
-    go : (named : Bool) → pick named (judgeOf (kindSize (r .kind)) (r .clip) block) (refused 1 0)
-        ≡ withValue (headerOf block) (firstOf (when 1 (opposite named) ∷ judgeRules (kindSize (r .kind)) (r .clip) block))
-    go true = judge-is (kindSize (r .kind)) (r .clip) block
+    go : (named : Bool) → pick named (judgeOf (kindSize (r .kind)) (kindStandard (r .kind)) (r .clip) block) (refused 1 0)
+        ≡ withValue (headerOf block) (firstOf (when 1 (opposite named) ∷ judgeRules (kindSize (r .kind)) (kindStandard (r .kind)) (r .clip) block))
+    go true = judge-is (kindSize (r .kind)) (kindStandard (r .kind)) (r .clip) block
     go false = refl
 
 -- ---- a good block
@@ -220,31 +230,33 @@ module _ (kind : Kind) (block : List ℕ) where
   abbrev own : Receiver
   own = freshReceiver (clipOf block) kind
 
-  found-is : foundBy kind block ≡ withValue own (firstOf (checkRules (kindSize kind) block))
+  abbrev same : Bool
+  same = sameStandard (standardOf block) (kindStandard kind)
+
+  -- its own clip's block is no other's: only 5 is left
+  abbrev ownVerdict : Verdict
+  ownVerdict = orElse (firstOf (checkRules (kindSize kind) block)) (firstOf (when 5 (opposite same) ∷ []))
+
+  found-is : foundBy kind block ≡ withValue own ownVerdict
   unfolding foundBy openedBy
   found-is = ap (openedBy kind) (check-is (kindSize kind) block) ∙ go (firstOf (checkRules (kindSize kind) block)) refl
     where
-      go : (v : Verdict) → firstOf (checkRules (kindSize kind) block) ≡ v → openedBy kind (withValue (headerOf block) v) ≡ withValue own v
+      go : (v : Verdict) → firstOf (checkRules (kindSize kind) block) ≡ v → openedBy kind (withValue (headerOf block) v) ≡ withValue own (orElse v (firstOf (when 5 (opposite same) ∷ [])))
       go (refusedBy numbers) e = refl
       go (accepted t) e =
-          ap (λ (z : Bool). pick z (refused 22 0) (accepted own))
+          ap (λ (z : Bool). pick same (pick z (refused 22 0) (accepted own)) (refused 5 0))
           (clip-some (kindSize kind) block (all-fine (eqb (length block) 512) (eqb (sumOf block) (checkSumOf block)) (fieldsFollow (kindSize kind) block) e))
+          ∙ by-standard own same
 
-  -- its own clip's block is no other's
-  own-rules : firstOf (judgeRules (kindSize kind) (clipOf block) block) ≡ firstOf (checkRules (kindSize kind) block)
+  own-rules : firstOf (judgeRules (kindSize kind) (kindStandard kind) (clipOf block) block) ≡ ownVerdict
   own-rules =
-      first-append (checkRules (kindSize kind) block) (when 23 (opposite (eqb (clipOf block) (clipOf block))) ∷ [])
-      ∙ ap (λ (z : Bool). orElse (firstOf (checkRules (kindSize kind) block)) (firstOf (when 23 (opposite z) ∷ []))) (eq-eqb (clipOf block) (clipOf block) refl)
-      ∙ or-none (firstOf (checkRules (kindSize kind) block))
-    where
-      or-none : (v : Verdict) → orElse v (accepted tt) ≡ v
-      or-none (accepted t) = refl
-      or-none (refusedBy numbers) = refl
+      first-append (checkRules (kindSize kind) block) (when 23 (opposite (eqb (clipOf block) (clipOf block))) ∷ when 5 (opposite same) ∷ [])
+      ∙ ap (λ (z : Bool). orElse (firstOf (checkRules (kindSize kind) block)) (firstOf (when 23 (opposite z) ∷ when 5 (opposite same) ∷ []))) (eq-eqb (clipOf block) (clipOf block) refl)
 
   opened-is : (b : Buffers) → pick (R.lentLengths (kindSize kind) b) (foundBy kind block) (refused 1 0) ≡ withValue own (firstOf (blockRules own block b))
   opened-is b = go (R.lentLengths (kindSize kind) b)
     where
-      go : (named : Bool) → pick named (foundBy kind block) (refused 1 0) ≡ withValue own (firstOf (when 1 (opposite named) ∷ judgeRules (kindSize kind) (clipOf block) block))
+      go : (named : Bool) → pick named (foundBy kind block) (refused 1 0) ≡ withValue own (firstOf (when 1 (opposite named) ∷ judgeRules (kindSize kind) (kindStandard kind) (clipOf block) block))
       go true = found-is ∙ ap (withValue own) (sym own-rules)
       go false = refl
 

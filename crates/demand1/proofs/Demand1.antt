@@ -51,7 +51,7 @@ promises-meet p keeps = record {
     unchanged = λ numbers h. keeps .write-leaves f d out ∙ untouched out (pictureBits f d) (writeOf f d (length out)) numbers (sym (ap verdictOn (keeps .write-says f d out)) ∙ h);
   };
   checks = λ size block. ap verdictOn (keeps .check-is size block ∙ check-is size block) ∙ value-verdict (headerOf block) (firstOf (checkRules size block));
-  judges = λ size clip block. ap verdictOn (keeps .judge-is size clip block ∙ judge-is size clip block) ∙ value-verdict (headerOf block) (firstOf (judgeRules size clip block));
+  judges = λ size standard clip block. ap verdictOn (keeps .judge-is size standard clip block ∙ judge-is size standard clip block) ∙ value-verdict (headerOf block) (firstOf (judgeRules size standard clip block));
   opens-receiver = λ clip kind. ap verdictOn (keeps .open-receiver-is clip kind) ∙ opening-due (eqb clip 0) (freshReceiver clip kind);
   receives = λ r block b.
       subst (λ (x : Outcome). BlockRefuses r block b r (λ s. s) (x .gave .answer) (x .gave .next) (x .left)) (sym (keeps .receive-does r block b)) (step-refuses r block b);

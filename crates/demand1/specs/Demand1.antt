@@ -15,6 +15,7 @@ use Rattle.refusals.specs.declared.Written.{Written}
 use Rattle.refusals.specs.Writing.{toldWritten}
 use Rattle.h261_writer.specs.Output.{WriteSays, WriteLeaves}
 use Rattle.coding.specs.declared.Kind.{Kind}
+use Rattle.vault.specs.declared.Standard.{Standard}
 use Rattle.vault.specs.declared.Checked.{Checked}
 use Rattle.vault.specs.Block.{clipOf, partOf, headerOf, toldChecked, checkOf, judgeOf}
 use Rattle.vault.specs.Parts.{placedPayload}
@@ -51,7 +52,7 @@ pub record Programs : Type 0 where
   pub decode : Kind → List ℕ → ℕ → List ℕ → List ℕ → Left Verdict (List ℕ)
   pub write : Format → Flat → List ℕ → Left Written (List ℕ)
   pub check : Size → List ℕ → Checked
-  pub judge : Size → ℕ → List ℕ → Checked
+  pub judge : Size → Standard → ℕ → List ℕ → Checked
   pub openReceiver : ℕ → Kind → RO.Opened
   pub receive : Receiver → List ℕ → Buffers → Left Received Buffers
   pub openSender : ℕ → Kind → SO.Opened
@@ -90,7 +91,7 @@ pub record Demand1 (p : Programs) : Type 0 where
       → Refuses (decodeRules k bytes n reference store) (toldVerdict (p .decode k bytes n reference store .answer)) store (p .decode k bytes n reference store .left)
   pub writes : (f : Format) (d : Flat) (out : List ℕ) → Refuses (writeRules f d (length out)) (verdictOn (toldWritten (p .write f d out .answer))) out (p .write f d out .left)
   pub checks : (size : Size) (block : List ℕ) → verdictOn (toldChecked (p .check size block)) ≡ firstOf (checkRules size block)
-  pub judges : (size : Size) (clip : ℕ) (block : List ℕ) → verdictOn (toldChecked (p .judge size clip block)) ≡ firstOf (judgeRules size clip block)
+  pub judges : (size : Size) (standard : Standard) (clip : ℕ) (block : List ℕ) → verdictOn (toldChecked (p .judge size standard clip block)) ≡ firstOf (judgeRules size standard clip block)
   pub opens-receiver : (clip : ℕ) (kind : Kind) → verdictOn (A.toldOpened (p .openReceiver clip kind)) ≡ firstOf (openRules clip)
   pub receives : (r : Receiver) (block : List ℕ) (b : Buffers)
       → BlockRefuses r block b r (λ s. s) (said (p .receive r block b .answer .answer)) (p .receive r block b .answer .next) (p .receive r block b .left)
@@ -110,7 +111,7 @@ pub record Keeps (p : Programs) : Type 0 where
   pub write-says : (f : Format) (d : Flat) (out : List ℕ) → WriteSays f d out (p .write f d out .answer)
   pub write-leaves : (f : Format) (d : Flat) (out : List ℕ) → WriteLeaves f d out (p .write f d out .left)
   pub check-is : (size : Size) (block : List ℕ) → toldChecked (p .check size block) ≡ checkOf size block
-  pub judge-is : (size : Size) (clip : ℕ) (block : List ℕ) → toldChecked (p .judge size clip block) ≡ judgeOf size clip block
+  pub judge-is : (size : Size) (standard : Standard) (clip : ℕ) (block : List ℕ) → toldChecked (p .judge size standard clip block) ≡ judgeOf size standard clip block
   pub open-receiver-is : (clip : ℕ) (kind : Kind) → A.toldOpened (p .openReceiver clip kind) ≡ R.openedReceiver clip kind
   pub receive-does : (r : Receiver) (block : List ℕ) (b : Buffers) → ReceiveDoes r block b (p .receive r block b .answer) (p .receive r block b .left)
   pub open-sender-is : (clip : ℕ) (kind : Kind) → S.toldOpened (p .openSender clip kind) ≡ S.openedSender clip kind

@@ -19,9 +19,10 @@ use Rattle.h261_description.specs.Valid.{lengthsOf, valid}
 use Rattle.h261_layers.specs.Grammar.{picture}
 use Rattle.h261_writer.specs.Output.{pictureBits, lentLengths}
 use Rattle.coding.specs.declared.Kind.{Kind}
-use Rattle.coding.specs.Kind.{formatOf, kindSize, codingOf}
+use Rattle.coding.specs.Kind.{formatOf, kindSize, kindStandard, codingOf}
+use Rattle.vault.specs.declared.Standard.{Standard}
 use Rattle.vault.specs.declared.Header.{Header}
-use Rattle.vault.specs.Block.{clipOf, partOf, lastOf, checkSumOf, headerOf, fieldsFollow, sumOf, pictures}
+use Rattle.vault.specs.Block.{clipOf, partOf, lastOf, standardOf, checkSumOf, headerOf, fieldsFollow, sumOf, pictures, sameStandard}
 use Rattle.vault.specs.Parts.{placedPayload}
 use Rattle.standing.specs.declared.Line.{Line}
 use Rattle.standing.specs.declared.Line.the-variants.{Earlier, Next, Anew, Otherwise}
@@ -65,15 +66,16 @@ sendRules s d b =
 abbrev pub openRules : ℕ → List Verdict
 openRules clip = when 22 (eqb clip 0) ∷ []
 
--- ---- "Blocks: 1, 21, 22, 23." 21: "block check wrong"; 22: "block field against its rule"; 23: "another clip's block"
+-- ---- "Blocks: 1, 21, 22, 23." 21: "block check wrong"; 22: "block field against its rule"; 23: "another clip's block". Document 02, T-04: "a block of the other standard is 5 (place 0, after 23)"
 abbrev pub checkRules : Size → List ℕ → List Verdict
 checkRules size block = when 1 (opposite (eqb (length block) 512)) ∷ when 21 (opposite (eqb (sumOf block) (checkSumOf block))) ∷ when 22 (opposite (fieldsFollow size block)) ∷ []
 
-abbrev pub judgeRules : Size → ℕ → List ℕ → List Verdict
-judgeRules size clip block = checkRules size block ++ (when 23 (opposite (eqb (clipOf block) clip)) ∷ [])
+abbrev pub judgeRules : Size → Standard → ℕ → List ℕ → List Verdict
+judgeRules size standard clip block =
+    checkRules size block ++ (when 23 (opposite (eqb (clipOf block) clip)) ∷ when 5 (opposite (sameStandard (standardOf block) standard)) ∷ [])
 
 abbrev pub blockRules : Receiver → List ℕ → Buffers → List Verdict
-blockRules r block b = when 1 (opposite (R.lentLengths (kindSize (r .kind)) b)) ∷ judgeRules (kindSize (r .kind)) (r .clip) block
+blockRules r block b = when 1 (opposite (R.lentLengths (kindSize (r .kind)) b)) ∷ judgeRules (kindSize (r .kind)) (kindStandard (r .kind)) (r .clip) block
 
 -- ---- "A last part is read at once": the lines by which a block is taken
 abbrev pub takes : Line → Bool

@@ -22,7 +22,7 @@ use Rattle.sender.specs.Run.{Call, clipOf}
 use Rattle.standing.specs.declared.Receiver.{Receiver}
 use Rattle.standing.specs.Answered.{Said}
 use Rattle.coding.specs.Coding.{Coding}
-use Rattle.coding.specs.Kind.{kindSize, AllLawful}
+use Rattle.coding.specs.Kind.{kindSize, kindStandard, AllLawful}
 use Rattle.standing.specs.Receive.{place, Buffers, lentLengths, judgedBlock, byJudgement, decide, freshReceiver, openedReceiver, noneFinished, Outcome, cameTo, step}
 use Rattle.standing.specs.Shown.{whereShown, refusedLength, shownBy}
 use Rattle.standing.specs.Run.{World}
@@ -106,7 +106,7 @@ module _ {D : Type 0} {coding : Kind → Coding D} (lawful : AllLawful coding) w
       pub short : (block : List ℕ) → step coding (freshReceiver clip kind) block lent ≡ outcomeAt clip kind (A.refused (untabled 1 0)) (start lent)
       unfolding step decide judgedBlock byJudgement cameTo
       short block =
-          ap (λ (t : Bool). cameTo coding (freshReceiver clip kind) block lent (byJudgement coding (pick t (judgeOf (kindSize kind) clip block) (refused 1 0)) (freshReceiver clip kind) block (lent .collection))) e
+          ap (λ (t : Bool). cameTo coding (freshReceiver clip kind) block lent (byJudgement coding (pick t (judgeOf (kindSize kind) (kindStandard kind) clip block) (refused 1 0)) (freshReceiver clip kind) block (lent .collection))) e
 
       pub short-run : (blocks : List (List ℕ)) → worldGiven (step coding) (worldAt clip kind (start lent)) blocks ≡ worldAt clip kind (start lent)
       unfolding worldGiven

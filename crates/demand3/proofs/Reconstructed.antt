@@ -17,7 +17,7 @@ use Rattle.bits.specs.Bits.{Bit}
 use Rattle.layout.specs.Flat.{Flat}
 use Rattle.coding.specs.declared.Kind.{Kind}
 use Rattle.coding.specs.Coding.{Coding}
-use Rattle.coding.specs.Kind.{kindSize, codingOf, AllLawful}
+use Rattle.coding.specs.Kind.{kindSize, kindStandard, codingOf, AllLawful}
 use Rattle.coding.specs.Described.{bytesIn}
 use Rattle.coding.proofs.H261.{coding-lawful}
 use Rattle.vault.specs.Block.{headerOf, payloadOf}
@@ -94,7 +94,7 @@ module _ {D : Type 0} {coding : Kind → Coding D} (lawful : AllLawful coding) (
     payload-of : (i : ℕ) (block : List ℕ) → getElem? (x .blocks) i ≡ some block → payloadOf block ≡ payloadAt (bytesIn bits) count (0 + i)
     payload-of i block e =
         ap payloadOf (sym (whole .parts i block e .1))
-        ∙ at-payload (c .number) p (coding (c .kind) .refresh (x .description)) (bytesIn bits) count i
+        ∙ at-payload (kindStandard (c .kind)) (c .number) p (coding (c .kind) .refresh (x .description)) (bytesIn bits) count i
         ∙ ap (payloadAt (bytesIn bits) count) (sym (zero-add i))
 
     all-payloads : payloads (x .blocks) ≡ row (500 * partCount count) (keptByte (bytesIn bits) count)
@@ -114,8 +114,8 @@ module _ {D : Type 0} {coding : Kind → Coding D} (lawful : AllLawful coding) (
     count-of i block e l =
         let refresh : Bool = coding (c .kind) .refresh (x .description) in
         ap (λ (b : List ℕ). countOf (headerOf b)) (sym (whole .parts i block e .1))
-        ∙ ap countOf (made-header (headerAt (c .number) p refresh count i) (payloadAt (bytesIn bits) count i) (payload-length (bytesIn bits) count i))
-        ∙ count-back (c .number) p refresh (bytesIn bits) count i (lawful .each (c .kind) .has-bits (x .description)) l
+        ∙ ap countOf (made-header (headerAt (kindStandard (c .kind)) (c .number) p refresh count i) (payloadAt (bytesIn bits) count i) (payload-length (bytesIn bits) count i))
+        ∙ count-back (kindStandard (c .kind)) (c .number) p refresh (bytesIn bits) count i (lawful .each (c .kind) .has-bits (x .description)) l
 
     counted : countIn (x .blocks) ≡ count
     counted = go (x .blocks) refl

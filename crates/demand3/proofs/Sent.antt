@@ -22,7 +22,7 @@ use Rattle.vault.proofs.Collected.{nth}
 use Rattle.standing.specs.Stores.{goesInto, reference, storesWith, shownStore}
 use Rattle.sender.specs.declared.Sender.{Sender}
 use Rattle.coding.specs.Coding.{Coding}
-use Rattle.coding.specs.Kind.{kindSize}
+use Rattle.coding.specs.Kind.{kindSize, kindStandard}
 use Rattle.coding.specs.Described.{bytesIn}
 use Rattle.sender.specs.Send.{Buffers, Judgement, sends, refuses, Outcome, lentLengths, judge, blocksSent, cameTo, step}
 use Rattle.sender.specs.Run.{Call, World, cut, blocksAdded, callOutcome, worldAfter, clipOf}
@@ -72,7 +72,7 @@ module _ {D : Type 0} (coding : Kind → Coding D) where
     pub count : length (x .blocks) ≡ partCount (length (coding kind .written (x .description)))
     pub parts : (part : ℕ) (block : List ℕ) → getElem? (x .blocks) part ≡ some block
         → (part < partCount (length (coding kind .written (x .description))))
-        × (blockAt clip p (coding kind .refresh (x .description)) (bytesIn (coding kind .written (x .description))) (length (coding kind .written (x .description))) part ≡ block)
+        × (blockAt (kindStandard kind) clip p (coding kind .refresh (x .description)) (bytesIn (coding kind .written (x .description))) (length (coding kind .written (x .description))) part ≡ block)
 
   -- pictures in a row, from number n on, over this reference
   abbrev pub Row : ℕ → Kind → ℕ → List ℕ → List (Picture D) → Type 0
@@ -127,7 +127,7 @@ module _ {D : Type 0} (coding : Kind → Coding D) where
             count = cut-length (partCount (length bits)) _;
             parts = λ part block g.
                 let c = cut-at (partCount (length bits)) _ part block g in
-                (c .0, sym (nth (s .clip) (s .picture) (coding (s .kind) .refresh (call .description)) (bytesIn bits) (length bits) (partCount (length bits)) part _ (c .0)) ∙ c .1);
+                (c .0, sym (nth (kindStandard (s .kind)) (s .clip) (s .picture) (coding (s .kind) .refresh (call .description)) (bytesIn bits) (length bits) (partCount (length bits)) part _ (c .0)) ∙ c .1);
           },
           is,
           subst (λ (l : List ℕ). Row (s .clip) (s .kind) (s .picture + 1) l rest) (kept-reference (s .holder) drawn (w .both) ∙ sym is) h,

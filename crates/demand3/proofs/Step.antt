@@ -32,7 +32,7 @@ use Rattle.standing.specs.declared.Line.{Line}
 use Rattle.standing.specs.declared.Line.the-variants.{Earlier, Next, Anew, Otherwise}
 use Rattle.standing.specs.Answered.{Said, reply}
 use Rattle.coding.specs.Coding.{Coding}
-use Rattle.coding.specs.Kind.{kindSize, AllLawful}
+use Rattle.coding.specs.Kind.{kindSize, kindStandard, AllLawful}
 use Rattle.standing.specs.Receive.{place, progress, lastIn, tickIn, Event, old, taken, lost, finished, Buffers, lentLengths, judgedBlock, lineOf, endedPicture, tookOf, byLine, byJudgement, decide, Outcome, cameTo, step}
 use Rattle.standing.specs.Shown.{refusedLength}
 use Rattle.standing.specs.Run.{World}
@@ -107,21 +107,21 @@ module _ {D : Type 0} (coding : Kind → Coding D) (kind : Kind) (x : Picture D)
   tickOf last p = tickIn (coding kind .modulus) last p (coding kind .tr (x .description))
 
   abbrev pub headerOf : ℕ → ℕ → ℕ → Header
-  headerOf clip p part = headerAt clip p refreshOf (length bitsOf) part
+  headerOf clip p part = headerAt (kindStandard kind) clip p refreshOf (length bitsOf) part
 
   pub record Block (clip p part : ℕ) (block : List ℕ) : Type 0 where
     pub part-is : K.Part (kindSize kind) clip p (length bitsOf) part
-    pub is : blockAt clip p refreshOf (bytesIn bitsOf) (length bitsOf) part ≡ block
+    pub is : blockAt (kindStandard kind) clip p refreshOf (bytesIn bitsOf) (length bitsOf) part ≡ block
 
   module _ {clip p part : ℕ} {block : List ℕ} (b : Block clip p part block) where
-    pub block-judged : judgeOf (kindSize kind) clip block ≡ accepted (headerOf clip p part)
-    block-judged = ap (judgeOf (kindSize kind) clip) (sym (b .is)) ∙ at-judged clip p refreshOf (bytesIn bitsOf) (length bitsOf) (kindSize kind) part (b .part-is)
+    pub block-judged : judgeOf (kindSize kind) (kindStandard kind) clip block ≡ accepted (headerOf clip p part)
+    block-judged = ap (judgeOf (kindSize kind) (kindStandard kind) clip) (sym (b .is)) ∙ at-judged (kindStandard kind) clip p refreshOf (bytesIn bitsOf) (length bitsOf) (kindSize kind) part (b .part-is)
 
     pub block-payload : payloadOf block ≡ payloadAt (bytesIn bitsOf) (length bitsOf) part
-    block-payload = ap payloadOf (sym (b .is)) ∙ at-payload clip p refreshOf (bytesIn bitsOf) (length bitsOf) part
+    block-payload = ap payloadOf (sym (b .is)) ∙ at-payload (kindStandard kind) clip p refreshOf (bytesIn bitsOf) (length bitsOf) part
 
     pub block-long : length block ≡ 512
-    block-long = ap length (sym (b .is)) ∙ at-length clip p refreshOf (bytesIn bitsOf) (length bitsOf) part
+    block-long = ap length (sym (b .is)) ∙ at-length (kindStandard kind) clip p refreshOf (bytesIn bitsOf) (length bitsOf) part
 
 -- ---- lengths
 pub collection-is : (size : Size) (b : Buffers) → lentLengths size b ≡ true → length (b .collection) ≡ collectionLength size
@@ -242,7 +242,7 @@ module _ {D : Type 0} {coding : Kind → Coding D} (lawful : AllLawful coding) (
           let all : Collected (bytesIn (bitsOf coding kind x)) count (partCount count) after =
           subst (λ (n : ℕ). Collected (bytesIn (bitsOf coding kind x)) count n after) last-part (collected-part collected) in
           let room : 500 * partCount count ≤ length after = omega (arith, has-room .1, after-long, collection-is (kindSize kind) (m .lent) named) in
-          ap (coding kind .read after) (count-back clip p (refreshOf coding kind x) (bytesIn (bitsOf coding kind x)) count part (lawful .each kind .has-bits (x .description)) last-part)
+          ap (coding kind .read after) (count-back (kindStandard kind) clip p (refreshOf coding kind x) (bytesIn (bitsOf coding kind x)) count part (lawful .each kind .has-bits (x .description)) last-part)
           ∙ lawful .each kind .reads (x .description) after valid (b .part-is .count-is) (collected-holds (bitsOf coding kind x) after room all)
 
       true-mark : (a c : Bool) → a ≡ c → alike a c ≡ true

@@ -12,7 +12,7 @@ use Rattle.refusals.specs.Told.{untabled, Told, accepted, refusedBy, refused}
 use Rattle.refusals.proofs.Told.{accepted-once, told-apart}
 use Rattle.coding.specs.declared.Kind.{Kind}
 use Rattle.coding.specs.Coding.{Coding}
-use Rattle.coding.specs.Kind.{kindSize, AllLawful}
+use Rattle.coding.specs.Kind.{kindSize, kindStandard, AllLawful}
 use Rattle.vault.specs.declared.Header.{Header}
 use Rattle.vault.specs.Block.{pictures, judgeOf}
 use Rattle.vault.proofs.Judged.{judged-good, good-sound}
@@ -121,8 +121,8 @@ module _ {D : Type 0} {coding : Kind → Coding D} (lawful : AllLawful coding) w
       few : (header : Header) → judgedBlock r block b ≡ accepted header → header .picture < pictures
       few header e = by (lentLengths (kindSize (r .kind)) b) e
         where
-          by : (t : Bool) → pick t (judgeOf (kindSize (r .kind)) (r .clip) block) (refused 1 0) ≡ accepted header → header .picture < pictures
-          by true g = good-sound (kindSize (r .kind)) block header (judged-good (kindSize (r .kind)) (r .clip) block header g .0) .picture-is
+          by : (t : Bool) → pick t (judgeOf (kindSize (r .kind)) (kindStandard (r .kind)) (r .clip) block) (refused 1 0) ≡ accepted header → header .picture < pictures
+          by true g = good-sound (kindSize (r .kind)) block header (judged-good (kindSize (r .kind)) (kindStandard (r .kind)) (r .clip) block header g .0) .picture-is
           by false g = absurd (told-apart (sym g))
 
       go : (t : Told Header) → judgedBlock r block b ≡ t → Known r (byJudgement coding t r block (b .collection))

@@ -61,7 +61,7 @@ use Rattle.standing.specs.Receive as R
 use Rattle.sender.specs.Send as S
 
 -- ---- an equation with the answer, with a buffer, or with both
-same-as : {A : Type 0} {a x y : A} → x ≡ a → y ≡ a → x ≡ y
+pub same-as : {A : Type 0} {a x y : A} → x ≡ a → y ≡ a → x ≡ y
 same-as e f = e ∙ sym f
 
 pub once : EquationOnce
@@ -103,7 +103,7 @@ pub hands-back-once : HandsBackOnce
 hands-back-once size holder first second x y h k = (same-as (h .begins) (k .begins), same-as (h .bytes) (k .bytes))
 
 -- ---- an equation with what the answer says: nothing of the answer is lost by that
-through : {A B : Type 0} (says : A → B) (of : B → A) → ((x : A) → of (says x) ≡ x) → {b : B} {x y : A} → says x ≡ b → says y ≡ b → x ≡ y
+pub through : {A B : Type 0} (says : A → B) (of : B → A) → ((x : A) → of (says x) ≡ x) → {b : B} {x y : A} → says x ≡ b → says y ≡ b → x ≡ y
 through says of back {b} {x} {y} e f = sym (back x) ∙ ap of (e ∙ sym f) ∙ back y
 
 module _ (s : List ℕ) (n : ℕ) where

@@ -4,3 +4,5 @@ pub mod Row
 pub mod RuleTurn
 pub mod RuleReads
 pub mod Uncounted
+pub mod PictureAnswer
+pub mod HeaderRow

@@ -12,15 +12,18 @@ use Rattle.bits.specs.Answer.{Placed}
 use Rattle.bits.specs.declared.Place.{Place}
 use Rattle.bits.specs.declared.Stopped.{Stopped}
 use Rattle.bits.proofs.Logic.{Reads}
-use Rattle.fields.specs.Answer.{asNumber, leaving, numberStopped, placeStopped}
+use Rattle.fields.specs.Answer.{asNumber, asMeant, asMeantPair, leaving, numberStopped, placeStopped, pairStopped}
 use Rattle.fields.specs.declared.NumberRead.{NumberRead}
 use Rattle.fields.specs.declared.NumberRead.the-variants.{Got as GotNumber}
 use Rattle.fields.proofs.NumberRead.{the-type as number-type}
 use Rattle.fields.specs.declared.PlaceRead.{PlaceRead}
 use Rattle.fields.specs.declared.PlaceRead.the-variants.{At}
 use Rattle.fields.proofs.PlaceRead.{the-type as place-type}
+use Rattle.fields.specs.declared.PairRead.{PairRead}
+use Rattle.fields.specs.declared.PairRead.the-variants.{Got as GotPair}
+use Rattle.fields.proofs.PairRead.{the-type as pair-type}
 use Rattle.fields.proofs.Meaning.{onward}
-use Rattle.fields.proofs.Told.{no-number, is-number, no-place, is-place, within-next}
+use Rattle.fields.proofs.Told.{no-number, is-number, no-meant, is-meant, no-pair, is-pair, no-place, is-place, within-next}
 
 pub record Row {A : Type 0} (whole : ReadIn counted A) (s : List ℕ) (n : ℕ) (rest : ReaderIn counted A) (p : Place) : Type 0 where
   pub placed : Placed s n p
@@ -63,3 +66,24 @@ module _ {A : Type 0} (r : AnyReader ℕ) (k : ℕ → ReaderIn counted A) {whol
   pub row-number-good : {least : ℕ} {Good : ℕ → List Bit → Type 0} {x : NumberRead} {v : ℕ} {q : Place} → Reads (suc (length (bitsLeft s n (p .bit)))) least Good r
       → asNumber s n x ≡ r counted (bitsLeft s n (p .bit)) p → x ≡ GotNumber v q → Good v (bitsLeft s n (q .bit))
   row-number-good {x = x} {v} {q} reads w e = row-good r k h v q reads (is-number s n x v q w e)
+
+-- ---- by a number, or a pair, that stands for something
+module _ {A B : Type 0} (f : ℕ → B) (r : AnyReader B) (k : B → ReaderIn counted A) {whole : ReadIn counted A} {s : List ℕ} {n : ℕ} {p : Place} (h : Row whole s n (r counted >>= k) p) where
+  pub row-meant : {least : ℕ} {Good : B → List Bit → Type 0} {x : NumberRead} {v : ℕ} {q : Place} → Reads (suc (length (bitsLeft s n (p .bit)))) least Good r
+      → asMeant f s n x ≡ r counted (bitsLeft s n (p .bit)) p → x ≡ GotNumber v q → Row whole s n (k (f v)) q
+  row-meant {x = x} {v} {q} reads w e = row-next r k h (f v) q reads (is-meant f s n x v q w e)
+
+  pub row-no-meant : (x : NumberRead) {y : Stopped} → tagOf number-type x ≡ 1 → asMeant f s n x ≡ r counted (bitsLeft s n (p .bit)) p → y ≡ numberStopped x → refused y ≡ whole
+  row-no-meant x t w e = ap (λ (z : Stopped). refused z) e ∙ row-refused r k h (numberStopped x) (no-meant f s n x t w)
+
+module _ {A B : Type 0} (f : ℕ → ℕ → B) (r : AnyReader B) (k : B → ReaderIn counted A) {whole : ReadIn counted A} {s : List ℕ} {n : ℕ} {p : Place} (h : Row whole s n (r counted >>= k) p) where
+  pub row-pair : {least : ℕ} {Good : B → List Bit → Type 0} {x : PairRead} {a b : ℕ} {q : Place} → Reads (suc (length (bitsLeft s n (p .bit)))) least Good r
+      → asMeantPair f s n x ≡ r counted (bitsLeft s n (p .bit)) p → x ≡ GotPair a b q → Row whole s n (k (f a b)) q
+  row-pair {x = x} {a} {b} {q} reads w e = row-next r k h (f a b) q reads (is-pair f s n x a b q w e)
+
+  pub row-no-pair : (x : PairRead) {y : Stopped} → tagOf pair-type x ≡ 1 → asMeantPair f s n x ≡ r counted (bitsLeft s n (p .bit)) p → y ≡ pairStopped x → refused y ≡ whole
+  row-no-pair x t w e = ap (λ (z : Stopped). refused z) e ∙ row-refused r k h (pairStopped x) (no-pair f s n x t w)
+
+  pub row-pair-good : {least : ℕ} {Good : B → List Bit → Type 0} {x : PairRead} {a b : ℕ} {q : Place} → Reads (suc (length (bitsLeft s n (p .bit)))) least Good r
+      → asMeantPair f s n x ≡ r counted (bitsLeft s n (p .bit)) p → x ≡ GotPair a b q → Good (f a b) (bitsLeft s n (q .bit))
+  row-pair-good {x = x} {a} {b} {q} reads w e = row-good r k h (f a b) q reads (is-pair f s n x a b q w e)

@@ -14,13 +14,16 @@ use Rattle.bits.specs.declared.FieldRead.{FieldRead}
 use Rattle.bits.specs.declared.FieldRead.the-variants.{Got as GotField, Refused as NoField}
 use Rattle.bits.proofs.Logic.{Reads}
 use Rattle.bits.proofs.Once.{counting, Once}
-use Rattle.fields.specs.Answer.{readOnce, asNumber, leaving, numberStopped, placeStopped}
+use Rattle.fields.specs.Answer.{readOnce, asNumber, asMeant, asMeantPair, leaving, numberStopped, placeStopped, pairStopped}
 use Rattle.fields.specs.declared.NumberRead.{NumberRead}
 use Rattle.fields.specs.declared.NumberRead.the-variants.{Got as GotNumber, Refused as NoNumber}
 use Rattle.fields.proofs.NumberRead.{the-type as number-type}
 use Rattle.fields.specs.declared.PlaceRead.{PlaceRead}
 use Rattle.fields.specs.declared.PlaceRead.the-variants.{At, Refused}
 use Rattle.fields.proofs.PlaceRead.{the-type as place-type}
+use Rattle.fields.specs.declared.PairRead.{PairRead}
+use Rattle.fields.specs.declared.PairRead.the-variants.{Got as GotPair, Refused as NoPair}
+use Rattle.fields.proofs.PairRead.{the-type as pair-type}
 use Rattle.fields.proofs.Meaning.{onward}
 
 -- ---- numbers
@@ -31,6 +34,23 @@ module _ {x : ReadIn counted ℕ} (s : List ℕ) (n : ℕ) where
 
   pub is-number : (r : NumberRead) (v : ℕ) (p : Place) → asNumber s n r ≡ x → r ≡ GotNumber v p → x ≡ got v (bitsLeft s n (p .bit)) p
   is-number r v p w e = sym w ∙ ap (asNumber s n) e
+
+-- numbers and pairs that stand for something
+module _ {A : Type 0} (f : ℕ → A) {x : ReadIn counted A} (s : List ℕ) (n : ℕ) where
+  pub no-meant : (r : NumberRead) → tagOf number-type r ≡ 1 → asMeant f s n r ≡ x → x ≡ refused (numberStopped r)
+  no-meant (GotNumber v p) e w = absurd (omega arith)
+  no-meant (NoNumber r) e w = sym w
+
+  pub is-meant : (r : NumberRead) (v : ℕ) (p : Place) → asMeant f s n r ≡ x → r ≡ GotNumber v p → x ≡ got (f v) (bitsLeft s n (p .bit)) p
+  is-meant r v p w e = sym w ∙ ap (asMeant f s n) e
+
+module _ {A : Type 0} (f : ℕ → ℕ → A) {x : ReadIn counted A} (s : List ℕ) (n : ℕ) where
+  pub no-pair : (r : PairRead) → tagOf pair-type r ≡ 1 → asMeantPair f s n r ≡ x → x ≡ refused (pairStopped r)
+  no-pair (GotPair a b p) e w = absurd (omega arith)
+  no-pair (NoPair r) e w = sym w
+
+  pub is-pair : (r : PairRead) (a b : ℕ) (p : Place) → asMeantPair f s n r ≡ x → r ≡ GotPair a b p → x ≡ got (f a b) (bitsLeft s n (p .bit)) p
+  is-pair r a b p w e = sym w ∙ ap (asMeantPair f s n) e
 
 -- a field or codeword that is one read, counted
 pub number-once : {r : AnyReader ℕ} → Once r → (s : List ℕ) (n : ℕ) (at : Place) (x : FieldRead) {y : NumberRead} → y ≡ readOnce at x

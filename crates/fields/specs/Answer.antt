@@ -2,11 +2,13 @@
 use Prim.Native.Nat.{ℕ}
 use mathlib.Core.List.{List}
 use Rattle.refusals.specs.declared.Reason.the-variants.{BitsEnd}
+use Rattle.refusals.specs.declared.Verdict.the-variants.{Refused as RefusedVerdict}
 use Rattle.refusals.specs.Number.{refusal}
 use Rattle.refusals.specs.Told.{numbersOf, Told, accepted, refusedBy, refused as unread}
 use Rattle.bits.specs.Bits.{bitsLeft}
 use Rattle.bits.specs.Places.{Places, counted, pastIn, stopIn}
 use Rattle.bits.specs.Read.{ReadIn, Read, got, refused, endless}
+use Rattle.bits.specs.Answer.{fieldRefusal}
 use Rattle.bits.specs.declared.Place.{Place}
 use Rattle.bits.specs.declared.Stopped.{Stopped}
 use Rattle.bits.specs.declared.FieldRead.{FieldRead}
@@ -15,6 +17,7 @@ use Rattle.fields.specs.declared.NumberRead.{NumberRead}
 use Rattle.fields.specs.declared.NumberRead.the-variants.{Got as GotNumber, Refused as NoNumber}
 use Rattle.fields.specs.declared.PlaceRead.{PlaceRead}
 use Rattle.fields.specs.declared.PlaceRead.the-variants.{At, Refused}
+use Rattle.fields.specs.declared.PictureRead.{PictureRead}
 use Rattle.fields.specs.declared.PairRead.{PairRead}
 use Rattle.fields.specs.declared.PairRead.the-variants.{Got as GotPair, Refused as NoPair}
 
@@ -44,6 +47,15 @@ abbrev pub asNumber : List ℕ → ℕ → NumberRead → ReadIn counted ℕ
 asNumber s n (GotNumber v p) = got v (bitsLeft s n (p .bit)) p
 asNumber s n (NoNumber r) = refused r
 
+-- a number, or a pair, that stands for this
+abbrev pub asMeant : {A : Type 0} → (ℕ → A) → List ℕ → ℕ → NumberRead → ReadIn counted A
+asMeant f s n (GotNumber v p) = got (f v) (bitsLeft s n (p .bit)) p
+asMeant f s n (NoNumber r) = refused r
+
+abbrev pub asMeantPair : {A : Type 0} → (ℕ → ℕ → A) → List ℕ → ℕ → PairRead → ReadIn counted A
+asMeantPair f s n (GotPair x y p) = got (f x y) (bitsLeft s n (p .bit)) p
+asMeantPair f s n (NoPair r) = refused r
+
 -- a layer's answer, with what it left in the buffers; on a refusal that is not said
 abbrev pub leaving : {A : Type 0} → List ℕ → ℕ → PlaceRead → A → ReadIn counted A
 leaving s n (At p) a = got a (bitsLeft s n (p .bit)) p
@@ -58,6 +70,9 @@ plainSpares (Refused r) = NoField (r .refusal)
 abbrev pub bitsEndAt : Place → Stopped
 bitsEndAt p = stopIn counted (refusal BitsEnd (p .bit)) p
 
+abbrev pub fieldStopped : ℕ → FieldRead → Stopped
+fieldStopped reads read = record { refusal = fieldRefusal read; reads = reads }
+
 abbrev pub numberStopped : NumberRead → Stopped
 numberStopped (GotNumber v p) = bitsEndAt p
 numberStopped (NoNumber r) = r
@@ -69,3 +84,7 @@ placeStopped (Refused r) = r
 abbrev pub pairStopped : PairRead → Stopped
 pairStopped (GotPair x y p) = bitsEndAt p
 pairStopped (NoPair r) = r
+
+-- the report of a picture that was refused
+abbrev pub refusedPicture : Stopped → PictureRead
+refusedPicture r = record { verdict = RefusedVerdict (r .refusal); reads = r .reads }

@@ -5,15 +5,18 @@ use bits::FieldRead;
 use bits::Place;
 use bits::Stopped;
 use bits::field;
+use bits::field_refusal;
 use refusals::Reason;
 use refusals::Refusal;
 use refusals::Verdict;
 ghost use mathlib.Core.Path.{_≡_};
-ghost use Prim.Native.Nat.{_≤_, _<_};
+ghost use Prim.Native.Nat.{_*_, _≤_, _<_};
+ghost use lib.Dec.{ltb};
+ghost use Rattle.laws.specs.Choice.{either};
 ghost use Rattle.bits.specs.Bits.{bitsLeft};
 ghost use Rattle.bits.specs.Answer.{Placed};
 ghost use Rattle.bit_reader.specs.Reader.{readerBits};
-ghost use Rattle.fields.specs.Answer.{readOnce, asNumber, leaving, numberStopped, placeStopped, pairStopped, placeOf, plainSpares};
+ghost use Rattle.fields.specs.Answer.{readOnce, asNumber, leaving, fieldStopped, numberStopped, placeStopped, pairStopped, placeOf, plainSpares, refusedPicture};
 ghost use Rattle.fields.specs.Rules.{expect as expected, quantiser as quantiserRead, spares as sparesRead};
 
 // A field's number, or what a codeword means, with the next place; or the refusal.
@@ -36,6 +39,14 @@ pub fn number_stopped(read: NumberRead) -> Stopped
         },
         NumberRead::Refused(stopped) => stopped,
     }
+}
+
+// The refusal of a field that was refused, after so many reads.
+pub fn field_stopped(reads: usize, read: FieldRead) -> Stopped
+    ensures { λ r. ⌜ r ≡ fieldStopped reads read ⌝ }
+{
+    let refusal = field_refusal(read);
+    Stopped { refusal, reads }
 }
 
 // Where a layer ended, or the refusal.
@@ -86,6 +97,28 @@ pub fn pair_stopped(read: PairRead) -> Stopped
 pub struct PictureRead {
     pub verdict: Verdict,
     pub reads: usize,
+}
+
+// A picture that was refused.
+pub fn refused_picture(stopped: Stopped) -> PictureRead
+    ensures { λ r. ⌜ r ≡ refusedPicture stopped ⌝ }
+{
+    let why = stopped.refusal;
+    PictureRead {
+        verdict: Verdict::Refused(why),
+        reads: stopped.reads,
+    }
+}
+
+// Whether N is above 8 times the slice, or above the limit.
+pub fn count_above(length: usize, count: usize, limit: usize) -> bool
+    ensures { λ r. ⌜ r ≡ either (ltb (8 * length) count) (ltb limit count) ⌝ }
+{
+    let started = count / 8 + (count % 8 + 7) / 8;
+    if length < started {
+        return true;
+    }
+    limit < count
 }
 
 // A field or a codeword that was read at a place, counted: one read, whether it was refused or not.

@@ -11,7 +11,7 @@ use Rattle.bits.specs.declared.Place.{Place}
 use Rattle.fields.specs.Rules.{expect, quantiser, spares}
 use Rattle.fields.proofs.Row.{Row}
 use Rattle.h261_groups.specs.declared.Format.{Format}
-use Rattle.h261_layers.specs.Grammar.{ptypeOf, groupHead, header, Header}
+use Rattle.h261_layers.specs.Grammar.{ptypeOf, groupHead, Header}
 
 -- ---- a group's
 abbrev pub afterQuantiser : ℕ → ReaderIn counted ℕ
@@ -37,8 +37,3 @@ afterTr f tr = judgedRead (field 6) (ptypeOf f) >>= afterPtype tr
 
 abbrev pub afterStart : Format → ReaderIn counted Header
 afterStart f = field 5 >>= afterTr f
-
-pub header-begun : (f : Format) (s : List ℕ) (n : ℕ) (p : Place) → Placed s n p
-    → Row (header f (bitsLeft s n (p .bit)) p) s n (expect 20 16 NoStartCode >>= λ psc. afterStart f) p
-unfolding header
-header-begun f s n p w = record { placed = w; same = refl }

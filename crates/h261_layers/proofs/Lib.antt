@@ -1,4 +1,3 @@
-pub mod Told
 pub mod HeadTurn
 pub mod HeaderSteps
 pub mod CoefficientsTurn

@@ -1,20 +1,16 @@
 -- The code's answers as reads that count. A layer writes the description as it reads: its answer is the place where it ended, or the refusal. Assumes nothing.
-use Prim.Native.Nat.{ℕ, _+_, _*_, _≤_, _<_}
+use Prim.Native.Nat.{ℕ, _*_, _≤_, _<_}
 use mathlib.Core.List.{List}
 use lib.IntN.{ℤ, pos, _-ℤ_}
 use lib.Dec.{eqb}
 use lib.Seq.{sets}
 use Rattle.laws.specs.Choice.{pick}
 use Rattle.refusals.specs.declared.Reason.the-variants.{NoStartCode}
-use Rattle.refusals.specs.Number.{refusal}
 use Rattle.bits.specs.Bits.{bitsLeft}
-use Rattle.bits.specs.Places.{counted, stopIn}
+use Rattle.bits.specs.Places.{counted}
 use Rattle.bits.specs.Read.{ReadIn, got, refused, Judged, fine, against}
-use Rattle.bits.specs.Answer.{fieldRefusal}
-use Rattle.bits.specs.declared.Place.{Place}
 use Rattle.bits.specs.declared.Stopped.{Stopped}
 use Rattle.bits.specs.declared.FieldRead.{FieldRead}
-use Rattle.bits.specs.declared.FieldRead.the-variants.{Got as GotField, Refused as NoField}
 use Rattle.h261_groups.specs.declared.Format.{Format}
 use Rattle.h261_words.specs.declared.CoefficientRead.{CoefficientRead}
 use Rattle.h261_words.specs.declared.CoefficientRead.the-variants.{Coefficient, EndOfBlock, Refused as NoCoefficient}
@@ -22,9 +18,9 @@ use Rattle.layout.specs.Value.{Vector, Macroblock}
 use Rattle.h261_description.specs.Vector.{Before}
 use Rattle.h261_description.specs.Value.{beforeNext}
 use Rattle.layout.specs.Flat.{index, fieldsOf, putBlocks}
-use Rattle.fields.specs.Answer.{placeOf, bitsEndAt}
+use Rattle.fields.specs.Answer.{placeOf, bitsEndAt, asMeant, asMeantPair}
+use Rattle.fields.specs.Header.{andThen, ruled, afterSpare}
 use Rattle.fields.specs.declared.NumberRead.{NumberRead}
-use Rattle.fields.specs.declared.NumberRead.the-variants.{Got as GotNumber, Refused as NoNumber}
 use Rattle.fields.specs.declared.PairRead.{PairRead}
 use Rattle.fields.specs.declared.PairRead.the-variants.{Got as GotPair, Refused as NoPair}
 use Rattle.fields.specs.declared.PlaceRead.{PlaceRead}
@@ -60,12 +56,10 @@ abbrev pub vectorOf : ℕ → ℕ → Vector
 vectorOf h v = record { horizontal = componentOf h; vertical = componentOf v }
 
 abbrev pub asComponent : List ℕ → ℕ → NumberRead → ReadIn counted ℤ
-asComponent s n (GotNumber x p) = got (componentOf x) (bitsLeft s n (p .bit)) p
-asComponent s n (NoNumber r) = refused r
+asComponent = asMeant componentOf
 
 abbrev pub asVector : List ℕ → ℕ → PairRead → ReadIn counted Vector
-asVector s n (GotPair h v p) = got (vectorOf h v) (bitsLeft s n (p .bit)) p
-asVector s n (NoPair r) = refused r
+asVector = asMeantPair vectorOf
 
 -- ---- macroblocks
 abbrev pub beforeOf : Behind → Before
@@ -106,45 +100,24 @@ abbrev pub asHeader : List ℕ → ℕ → PairRead → ReadIn counted Header
 asHeader s n (GotPair tr ptype p) = got (record { tr = tr; ptype = ptype }) (bitsLeft s n (p .bit)) p
 asHeader s n (NoPair r) = refused r
 
--- a field that was got is below m
-abbrev pub Below : ℕ → FieldRead → Type 0
-Below m (GotField x p) = x < m
-Below m (NoField r) = Unit {0}
-
 -- spares that were got have a low number of reads
 abbrev pub Counted : PlaceRead → Type 0
 Counted (At p) = p .reads < 4294967296
 Counted (Refused r) = Unit {0}
 
--- the refusal of a field that was refused, with so many reads; of another it is never asked
-abbrev pub refusedAfter : ℕ → FieldRead → Stopped
-refusedAfter reads read = record { refusal = fieldRefusal read; reads = reads }
-
--- a field after so many reads: its refusal, one read more; else what comes of its meaning and its next place
-abbrev pub andThen : ℕ → FieldRead → (ℕ → Place → PairRead) → PairRead
-andThen reads (GotField x p) rest = rest x (placeOf p (reads + 1))
-andThen reads (NoField r) rest = NoPair (record { refusal = r; reads = reads + 1 })
-
--- the refusal of a field against its rule, placed where it began, else what comes of its meaning
-abbrev pub ruled : Judged ℕ → ℕ → Place → (ℕ → PairRead) → PairRead
-ruled (fine x) at next rest = rest x
-ruled (against reason) at next rest = NoPair (stopIn counted (refusal reason at) next)
-
--- what comes of the spares
-abbrev pub afterSpare : PlaceRead → (Place → PairRead) → PairRead
-afterSpare (At p) rest = rest p
-afterSpare (Refused r) rest = NoPair r
-
 -- refusal 4: "PSC or GBSC expected and not there"
 abbrev pub codeIs : ℕ → ℕ → Judged ℕ
 codeIs code x = pick (eqb x code) (fine x) (against NoStartCode)
 
+abbrev pub noHeader : Stopped → PairRead
+noHeader r = NoPair r
+
 -- what the five reads of a header come to
 unfoldable pub headerOf : Format → ℕ → FieldRead → FieldRead → FieldRead → PlaceRead → FieldRead → PairRead
 headerOf f at psc tr ptype spare gbsc =
-    andThen 0 psc (λ x p. ruled (codeIs 16 x) at p (λ start.
-    andThen 1 tr (λ reference at-ptype.
-    andThen 2 ptype (λ y q. ruled (ptypeOf f y) (at-ptype .bit) q (λ information.
-    afterSpare spare (λ at-gbsc.
-    andThen (at-gbsc .reads) gbsc (λ z next. ruled (codeIs 1 z) (at-gbsc .bit) next (λ group.
+    andThen noHeader 0 psc (λ x p. ruled noHeader (codeIs 16 x) at p (λ start.
+    andThen noHeader 1 tr (λ reference at-ptype.
+    andThen noHeader 2 ptype (λ y q. ruled noHeader (ptypeOf f y) (at-ptype .bit) q (λ information.
+    afterSpare noHeader spare (λ at-gbsc.
+    andThen noHeader (at-gbsc .reads) gbsc (λ z next. ruled noHeader (codeIs 1 z) (at-gbsc .bit) next (λ group.
     GotPair reference information next))))))))

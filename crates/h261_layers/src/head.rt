@@ -2,12 +2,12 @@
 use bits::FieldRead;
 use bits::Place;
 use bits::Stopped;
-use bits::field_refusal;
 use fields::NumberRead;
 use fields::PairRead;
 use fields::PlaceRead;
 use fields::drop_spares;
 use fields::expect;
+use fields::field_stopped;
 use fields::number_stopped;
 use fields::place_stopped;
 use fields::plain_spares;
@@ -21,7 +21,8 @@ ghost use Prim.Native.Nat.{_<_};
 ghost use Rattle.bits.specs.Bits.{bitsLeft};
 ghost use Rattle.bits.specs.Answer.{Placed};
 ghost use Rattle.fields.specs.Answer.{asNumber, placeOf};
-ghost use Rattle.h261_layers.specs.Answer.{Below, Counted, refusedAfter, headerOf, asHeader};
+ghost use Rattle.fields.specs.Header.{Below};
+ghost use Rattle.h261_layers.specs.Answer.{Counted, headerOf, asHeader};
 ghost use Rattle.h261_layers.specs.Grammar.{groupHead, header as headerRead};
 
 // GN, GQUANT and the spares of a group: its GQUANT.
@@ -44,14 +45,6 @@ pub fn group_head(bytes: &[u8], count: usize, at: Place, number: u32) -> NumberR
     NumberRead::Got(gquant, next)
 }
 
-// The refusal of a field that was refused, after so many reads.
-fn refused(reads: usize, read: FieldRead) -> Stopped
-    ensures { λ r. ⌜ r ≡ refusedAfter reads read ⌝ }
-{
-    let refusal = field_refusal(read);
-    Stopped { refusal, reads }
-}
-
 // What the reads of a picture's header come to: the first that was refused or is against its rule; else TR and PTYPE bits 1 to 3. PSC, TR and PTYPE
 // are the first three reads, and GBSC is one read more than the spares came to.
 fn header_of(
@@ -67,7 +60,7 @@ fn header_of(
     ensures { λ r. ⌜ r ≡ headerOf format at psc tr ptype spare gbsc ⌝ }
 {
     let FieldRead::Got(start, _) = psc else {
-        return PairRead::Refused(refused(1, psc));
+        return PairRead::Refused(field_stopped(1, psc));
     };
     if start != 16 {
         return PairRead::Refused(Stopped {
@@ -79,10 +72,10 @@ fn header_of(
         });
     }
     let FieldRead::Got(reference, at_ptype) = tr else {
-        return PairRead::Refused(refused(2, tr));
+        return PairRead::Refused(field_stopped(2, tr));
     };
     let FieldRead::Got(information, _) = ptype else {
-        return PairRead::Refused(refused(3, ptype));
+        return PairRead::Refused(field_stopped(3, ptype));
     };
     let wanted = h261_groups::bit(format) as u32;
     if information / 4 % 2 != wanted {
@@ -108,7 +101,7 @@ fn header_of(
     };
     let reads = at_gbsc.reads + 1;
     let FieldRead::Got(group, next) = gbsc else {
-        return PairRead::Refused(refused(reads, gbsc));
+        return PairRead::Refused(field_stopped(reads, gbsc));
     };
     if group != 1 {
         return PairRead::Refused(Stopped {

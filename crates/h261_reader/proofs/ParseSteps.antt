@@ -1,25 +1,19 @@
 -- From bits to a description in buffers, step by step. Assumes nothing.
-use mathlib.Core.Path.{_≡_, refl, sym, ap, subst, _∙_}
+use mathlib.Core.Path.{_≡_, sym, ap, _∙_}
 use mathlib.Core.Bool.{Bool, true, false}
 use mathlib.Core.List.{List, _∷_}
-use mathlib.Core.Logic.{_⊎_, inl, inr}
-use Prim.Native.Nat.{ℕ, suc, _+_, _*_, _/_, _%_, _≤_, _<_}
-use native.Mathlib.Nat.{eq-or-lt-of-le, not-suc-le-zero}
+use Prim.Native.Nat.{ℕ, suc, _+_, _*_, _≤_, _<_}
 use native.Mathlib.Omega.{arith}
-use borrow.Author.Tests.{lt-ltb, le-ltb, ltb-false}
-use lib.Dec.{T, ltb, lit<}
-use lib.ListN.{length, getD, set, replicate, length-set, length-replicate, getD-replicate}
-use lib.Seq.{getD-set-same, getD-set-other, ext-getD}
+use lib.Dec.{ltb, lit<}
+use lib.ListN.{length, set, replicate}
 use denote.Enum.Declared.{tagOf}
 use Rattle.laws.specs.Choice.{either}
 use Rattle.refusals.specs.declared.Reason.the-variants.{Count}
 use Rattle.refusals.specs.Number.{refusal}
-use Rattle.refusals.specs.Told.{toldVerdict, verdictOn}
 use Rattle.bits.specs.Bits.{bitsLeft}
 use Rattle.bits.proofs.Source.{source-left}
 use Rattle.bits.specs.Places.{counted, stopIn}
-use Rattle.bits.specs.Read.{ReadIn, Read, got, refused}
-use Rattle.bits.specs.Answer.{Placed}
+use Rattle.bits.specs.Read.{ReadIn, got, refused}
 use Rattle.bits.specs.declared.Place.{Place}
 use Rattle.bits.specs.declared.Stopped.{Stopped}
 use Rattle.size.specs.Size.{limit}
@@ -28,20 +22,18 @@ use Rattle.h261_groups.specs.declared.Format.{Format}
 use Rattle.h261_groups.specs.declared.Format.the-variants.{Qcif, Cif}
 use Rattle.layout.specs.Flat.{Flat, putGroups, flat}
 use Rattle.h261_description.specs.Value.{laidPicture, shape}
-use Rattle.fields.specs.Answer.{mapRead, found, leaving, placeOf, placeStopped, pairStopped}
+use Rattle.fields.specs.Answer.{mapRead, leaving, placeOf, pairStopped, refusedPicture}
 use Rattle.fields.specs.declared.PictureRead.{PictureRead}
-use Rattle.fields.proofs.Uncounted.{uncounted, countIn}
+use Rattle.fields.proofs.PictureAnswer.{Answers, not-above, answers-refused, answers-laid}
 use Rattle.h261_layers.specs.Answer.{asHeader}
 use Rattle.h261_layers.specs.Grammar.{header, groupsRead, picture, readWidths}
-use Rattle.h261_reader.specs.Described.{Blank, described, laidOr}
-use Rattle.h261_reader.specs.ReadOf.{refusedPicture}
+use Rattle.h261_reader.specs.Described.{Blank, described, zeros}
 use Rattle.h261_reader.proofs.Counted.{describedCounted, described-uncounted, described-count-is}
 use Rattle.fields.specs.declared.PairRead.{PairRead}
 use Rattle.fields.specs.declared.PairRead.the-variants.{Got, Refused as NoHeader}
 use Rattle.fields.proofs.PairRead.{the-type as pair-type}
 use Rattle.fields.specs.declared.PlaceRead.{PlaceRead}
-use Rattle.fields.specs.declared.PlaceRead.the-variants.{At, Refused}
-use Rattle.fields.proofs.PlaceRead.{the-type as place-type}
+use Rattle.fields.specs.declared.PlaceRead.the-variants.{At}
 use Rattle.refusals.specs.declared.Verdict.the-variants.{Accepted}
 use Rattle.fields.proofs.Meaning.{map-done}
 
@@ -52,37 +44,23 @@ cleared c tr ptype bit l e =
     ap (λ (x : List ℕ). set (set (set x 0 tr) 1 ptype) 2 bit) (e ∙ ap (λ (m : ℕ). replicate m 0) k)
 
 -- ---- N
-module _ (len n : ℕ) (f : Format) where
-  pub above-slice : len < n / 8 + (n % 8 + 7) / 8 → true ≡ either (ltb (8 * len) n) (ltb (limit (sizeOf f)) n)
-  above-slice l = rw (lt-ltb (8 * len) n (omega arith))
-
-  pub above-limit : n / 8 + (n % 8 + 7) / 8 ≤ len → ltb (limit (sizeOf f)) n ≡ either (ltb (8 * len) n) (ltb (limit (sizeOf f)) n)
-  above-limit l = rw (le-ltb (8 * len) n (omega arith))
-
 -- a place has room for as many reads
 pub limit-low : (f : Format) → limit (sizeOf f) < 4294967296
 limit-low Qcif = lit< tt
 limit-low Cif = lit< tt
-
-no-either : (a b : Bool) → either a b ≡ false → (a ≡ false) × (b ≡ false)
-no-either true b e = absurd (subst (λ (x : Bool). T x) e tt)
-no-either false b e = (refl, e)
 
 module _ (f : Format) (s : List ℕ) (n : ℕ) (a : Bool) (w : a ≡ either (ltb (8 * length s) n) (ltb (limit (sizeOf f)) n)) where
   pub described-count : a ≡ true → describedCounted f s n ≡ refused (stopIn counted (refusal Count 0) (placeOf 0 0))
   described-count e = let z : either (ltb (8 * length s) n) (ltb (limit (sizeOf f)) n) ≡ true = sym w ∙ e in rw z
 
   -- N is low, and the bytes have N bits
-  pub counted-is : a ≡ false → n ≤ limit (sizeOf f)
-  counted-is e = ltb-false (limit (sizeOf f)) n (no-either (ltb (8 * length s) n) (ltb (limit (sizeOf f)) n) (sym w ∙ e) .1)
-
-  pub lent-is : a ≡ false → n ≤ 8 * length s
-  lent-is e = ltb-false (8 * length s) n (no-either (ltb (8 * length s) n) (ltb (limit (sizeOf f)) n) (sym w ∙ e) .0)
+  pub bounds : a ≡ false → (n ≤ 8 * length s) × (n ≤ limit (sizeOf f))
+  bounds e = not-above (length s) n (limit (sizeOf f)) (sym w ∙ e)
 
   described-bits : a ≡ false → describedCounted f s n ≡ mapRead (laidPicture f) (picture f (bitsLeft s n 0) (placeOf 0 0))
   described-bits e =
       let z : either (ltb (8 * length s) n) (ltb (limit (sizeOf f)) n) ≡ false = sym w ∙ e in
-      rw (z, source-left s n (lent-is e))
+      rw (z, source-left s n (bounds e .0))
 
   module _ (e : a ≡ false) (h : PairRead) (v : asHeader s n h ≡ header f (bitsLeft s n 0) (placeOf 0 0)) where
     pub described-no-header : tagOf pair-type h ≡ 1 → describedCounted f s n ≡ refused (pairStopped h)
@@ -111,63 +89,14 @@ module _ (f : Format) (s : List ℕ) (n : ℕ) (a : Bool) (w : a ≡ either (ltb
         z ∙ (λ i. mapRead (putGroups (shape f) 0 (flat (hd i) (blank .ms-blank i) (blank .ls-blank i))) (groupsRead f (groupNumbers f) (bitsLeft s n (p .bit)) p))
         ∙ sym (described-groups tr ptype p d)
 
--- ---- the buffers
-pub cleared-as : (m k : ℕ) (x : List ℕ) → x ≡ replicate m 0 → m ≡ k → x ≡ replicate k 0
-cleared-as m k x e d = e ∙ ap (λ (j : ℕ). replicate j 0) d
-
--- zeros stored up to i
-pub record Zeroed (l₀ l : List ℕ) (i : ℕ) : Type 0 where
-  pub long : length l ≡ length l₀
-  pub zero-to : (k : ℕ) → k < i → getD l k 0 ≡ 0
-
-pub zeroed-none : (l : List ℕ) → Zeroed l l 0
-zeroed-none l = record { long = refl; zero-to = λ k h. absurd (not-suc-le-zero h) }
-
-pub zeroed-more : (l₀ l : List ℕ) (i : ℕ) → Zeroed l₀ l i → i < length l → Zeroed l₀ (set l i 0) (i + 1)
-zeroed-more l₀ l i h m = record { long = length-set l i 0 ∙ h .long; zero-to = λ k q. go k (eq-or-lt-of-le (at-most k q)) }
-  where
-    at-most : (k : ℕ) → k < i + 1 → k ≤ i
-    at-most k q = omega arith
-
-    apart : (k : ℕ) → k < i → k ≡ i → ⊥
-    apart k q e = omega arith
-
-    go : (k : ℕ) → (k ≡ i) ⊎ (k < i) → getD (set l i 0) k 0 ≡ 0
-    go k (inl e) = ap (λ (j : ℕ). getD (set l i 0) j 0) e ∙ getD-set-same l i 0 0 m
-    go k (inr q) = getD-set-other l i k 0 0 (apart k q) ∙ h .zero-to k q
-
-pub zeroed-all : (l₀ l : List ℕ) (i : ℕ) → Zeroed l₀ l i → length l ≤ i → l ≡ replicate (length l₀) 0
-zeroed-all l₀ l i h m =
-    ext-getD 0 l (replicate (length l₀) 0) (h .long ∙ sym (length-replicate (length l₀) 0))
-    (λ k q. h .zero-to k (up k (length l) q m) ∙ sym (getD-replicate (length l₀) k 0 0 (subst (λ (j : ℕ). k < j) (h .long) q)))
-  where
-    up : (k m : ℕ) → k < m → m ≤ i → k < i
-    up k m q l = omega arith
-
 -- ---- the answers
 module _ (f : Format) (s : List ℕ) (n : ℕ) where
-  -- what is answered and left by what is read in counted places is so of what the rules give
-  answers : (r : PictureRead) (d : Flat) (x : ReadIn counted Flat) → x ≡ describedCounted f s n → toldVerdict (r .verdict) ≡ verdictOn (found (uncounted x)) → d ≡ laidOr f (uncounted x) → r .reads ≡ countIn x
-      → (toldVerdict (r .verdict) ≡ verdictOn (found (described f s n))) × ((d ≡ laidOr f (described f s n)) × (r .reads ≡ length (readWidths f s n)))
-  answers r d x e v b c =
-      let is : uncounted x ≡ described f s n = ap (λ (y : ReadIn counted Flat). uncounted y) e ∙ described-uncounted f s n in
-      (v ∙ ap (λ (y : Read Flat). verdictOn (found y)) is, (b ∙ ap (laidOr f) is, c ∙ ap (λ (y : ReadIn counted Flat). countIn y) e ∙ described-count-is f s n))
-
   -- refused, with the buffers as they were or cleared
   pub refused-blank : {x : Stopped} {r : PictureRead} {a b c : List ℕ} → describedCounted f s n ≡ refused x → r ≡ refusedPicture x → Blank f a b c
-      → (toldVerdict (r .verdict) ≡ verdictOn (found (described f s n))) × ((flat a b c ≡ laidOr f (described f s n)) × (r .reads ≡ length (readWidths f s n)))
-  refused-blank {x} {r} e d blank =
-      answers r _ (refused x) (sym e) (ap (λ (y : PictureRead). toldVerdict (y .verdict)) d) (λ i. flat (blank .head-blank i) (blank .ms-blank i) (blank .ls-blank i)) (ap (λ (y : PictureRead). y .reads) d)
+      → Answers (zeros f) (described f s n) (length (readWidths f s n)) r (flat a b c)
+  refused-blank e d blank = answers-refused (zeros f) (described-uncounted f s n) (described-count-is f s n) e d (λ i. flat (blank .head-blank i) (blank .ms-blank i) (blank .ls-blank i))
 
-  module _ (r : PlaceRead) (d : Flat) (v : leaving s n r d ≡ describedCounted f s n) where
-    -- accepted, and laid out
-    pub read-laid : (p : Place) → r ≡ At p
-        → (toldVerdict Accepted ≡ verdictOn (found (described f s n))) × ((d ≡ laidOr f (described f s n)) × (p .reads ≡ length (readWidths f s n)))
-    read-laid p e = answers (record { verdict = Accepted; reads = p .reads }) d (got d (bitsLeft s n (p .bit)) p) (sym (ap (λ (y : PlaceRead). leaving s n y d) e) ∙ v) refl refl refl
-
-    pub unread : tagOf place-type r ≡ 1 → describedCounted f s n ≡ refused (placeStopped r)
-    unread t = no r t v
-      where
-        no : (r : PlaceRead) → tagOf place-type r ≡ 1 → leaving s n r d ≡ describedCounted f s n → describedCounted f s n ≡ refused (placeStopped r)
-        no (At p) t v = absurd (omega arith)
-        no (Refused r) t v = sym v
+  -- accepted, and laid out
+  pub read-laid : (r : PlaceRead) (d : Flat) → leaving s n r d ≡ describedCounted f s n → (p : Place) → r ≡ At p
+      → Answers (zeros f) (described f s n) (length (readWidths f s n)) (record { verdict = Accepted; reads = p .reads }) d
+  read-laid r d v p e = answers-laid (zeros f) (described-uncounted f s n) (described-count-is f s n) s n r d v p e

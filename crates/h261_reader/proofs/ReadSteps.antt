@@ -1,66 +1,33 @@
 -- Parsing into scratch and copying on acceptance, on plain values. Assumes nothing.
-use mathlib.Core.Path.{_≡_, refl, sym, ap, _∙_}
+use mathlib.Core.Path.{_≡_, sym, ap, _∙_}
 use mathlib.Core.Bool.{Bool, true, false}
-use mathlib.Core.List.{List, _++_, append-nil}
-use Prim.Native.Nat.{ℕ, _+_, _*_, _≤_}
-use native.Mathlib.Omega.{arith}
+use mathlib.Core.List.{List}
+use Prim.Native.Nat.{ℕ, _+_, _*_}
 use lib.Dec.{T, eqb, eqb→eq}
-use lib.ListN.{length, take, drop, drop-of-length-le}
-use lib.Seq.{take-length}
-use denote.Enum.Declared.{tagOf}
+use lib.ListN.{length}
 use Rattle.laws.specs.Choice.{pick, both}
 use Rattle.laws.proofs.Choice.{both-left, both-right, true-T}
 use Rattle.refusals.specs.declared.Reason.the-variants.{Length}
-use Rattle.refusals.specs.declared.Refusal.{Refusal}
 use Rattle.refusals.specs.Number.{refusal, number, readTable}
 use Rattle.refusals.specs.Told.{toldVerdict, verdictOn, foundOr, refused as unread}
-use Rattle.refusals.proofs.Told.{told-apart}
-use Rattle.bits.specs.Read.{Read, got, refused, endless}
 use Rattle.fields.specs.Answer.{found}
+use Rattle.fields.proofs.PictureAnswer.{accepted-found}
 use Rattle.fields.specs.declared.PictureRead.{PictureRead}
 use Rattle.h261_groups.specs.Format.{groupCount}
 use Rattle.h261_groups.specs.declared.Format.{Format}
 use Rattle.layout.specs.Flat.{Flat, flat}
 use Rattle.h261_description.specs.Valid.{lengthsOf}
 use Rattle.h261_layers.specs.Grammar.{readWidths}
-use Rattle.h261_reader.specs.Described.{Lengths, described, laidOr}
+use Rattle.h261_reader.specs.Described.{Lengths, described, zeros}
 use Rattle.h261_reader.specs.ReadOf.{readOf, readCount}
 use Rattle.refusals.specs.declared.Verdict.{Verdict}
 use Rattle.refusals.specs.declared.Verdict.the-variants.{Accepted, Refused}
-use Rattle.refusals.proofs.Verdict.{the-type as verdict-type}
-
-pub accepted-tag : (v : Verdict) → tagOf verdict-type v ≡ 0 → v ≡ Accepted
-accepted-tag Accepted t = refl
-accepted-tag (Refused r) t = absurd (omega arith)
-
--- ---- copying a whole slice over another of its length
-pub copied : (from to out : List ℕ) → length from ≡ length to → out ≡ take (length from) from ++ drop (length from) to → out ≡ from
-copied from to out e c =
-    let short : length to ≤ length from = omega arith in
-    c ∙ rw (take-length, drop-of-length-le to short, append-nil)
 
 -- ---- what the three buffers are in the end
-module _ (f : Format) (s : List ℕ) (n : ℕ) (v : Verdict) (w : toldVerdict v ≡ verdictOn (found (described f s n))) where
-  taken : (x : Read Flat) (d before : Flat) → v ≡ Accepted → toldVerdict v ≡ verdictOn (found x) → d ≡ laidOr f x → d ≡ foundOr before (found x)
-  taken (got e bs at) d before a w b = b
-  taken (refused r) d before a w b = absurd (told-apart (sym (ap toldVerdict a) ∙ w))
-  taken endless d before a w b = absurd (told-apart (sym (ap toldVerdict a) ∙ w))
-
-  kept : (x : Read Flat) (r : Refusal) (before : Flat) → v ≡ Refused r → toldVerdict v ≡ verdictOn (found x) → before ≡ foundOr before (found x)
-  kept (got e bs at) r before a w = absurd (told-apart (sym w ∙ ap toldVerdict a))
-  kept (refused q) r before a w = refl
-  kept endless r before a w = refl
-
-  pub accepted-buffers : {head macroblocks levels : List ℕ} → flat head macroblocks levels ≡ laidOr f (described f s n) → v ≡ Accepted → (before : Flat) (h m l : List ℕ)
-      → h ≡ head → m ≡ macroblocks → l ≡ levels → flat h m l ≡ foundOr before (found (described f s n))
-  accepted-buffers b a before h m l eh em el = (λ i. flat (eh i) (em i) (el i)) ∙ taken (described f s n) _ before a w b
-
-  pub refused-unchanged : tagOf verdict-type v ≡ 1 → (before : Flat) → before ≡ foundOr before (found (described f s n))
-  refused-unchanged t before = by v t refl
-    where
-      by : (u : Verdict) → tagOf verdict-type u ≡ 1 → v ≡ u → before ≡ foundOr before (found (described f s n))
-      by Accepted t a = absurd (omega arith)
-      by (Refused r) t a = kept (described f s n) r before a w
+pub accepted-buffers : (f : Format) (s : List ℕ) (n : ℕ) (v : Verdict) → toldVerdict v ≡ verdictOn (found (described f s n)) → {head macroblocks levels : List ℕ}
+    → flat head macroblocks levels ≡ foundOr (zeros f) (found (described f s n)) → v ≡ Accepted → (before : Flat) (h m l : List ℕ)
+    → h ≡ head → m ≡ macroblocks → l ≡ levels → flat h m l ≡ foundOr before (found (described f s n))
+accepted-buffers f s n v w b a before h m l eh em el = (λ i. flat (eh i) (em i) (el i)) ∙ accepted-found (described f s n) v w (zeros f) before _ a b
 
 -- ---- the lengths
 named-lengths : (f : Format) (before : Flat) → lengthsOf f before ≡ true → Lengths f (before .head) (before .macroblocks) (before .levels)

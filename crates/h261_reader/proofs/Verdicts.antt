@@ -1,24 +1,23 @@
 -- Reading always ends, by a refusal of the table or with all bits taken, and what is accepted is valid. Assumes nothing.
-use Prim.Native.Nat.{ℕ, suc, _+_, _-_, _*_, _≤_}
-use mathlib.Core.Path.{_≡_, refl, ap, subst, _∙_}
+use Prim.Native.Nat.{ℕ, suc, _+_, _*_, _≤_}
+use mathlib.Core.Path.{_≡_, refl, ap, subst}
 use mathlib.Core.Bool.{Bool, true, false}
 use mathlib.Core.List.{List, []}
 use native.Mathlib.Omega.{arith}
-use native.Mathlib.Nat.{le-refl, sub-zero}
+use native.Mathlib.Nat.{le-refl}
 use lib.Dec.{leb, ltb, leb→le, le→leb}
 use lib.ListN.{length}
 use borrow.Author.Tests.{le-ltb, ltb-false}
 use Rattle.laws.specs.Choice.{pick, either}
 use Rattle.laws.proofs.Choice.{both-left, both-right, both-make}
-use Rattle.refusals.specs.declared.Reason.{Reason}
 use Rattle.refusals.specs.declared.Reason.the-variants.{Count}
 use Rattle.refusals.specs.declared.Refusal.{Refusal}
 use Rattle.refusals.specs.Number.{number}
 use Rattle.bits.specs.Bits.{Bit, source}
 use Rattle.bits.specs.Read.{Read, got, refused, endless, bad}
-use Rattle.bits.proofs.Value.{length-bits}
-use Rattle.bits.proofs.Source.{source-left}
+use Rattle.bits.proofs.Source.{length-source}
 use Rattle.bits.proofs.Logic.{Holds, holds-weaker, Fair, Took, gives}
+use Rattle.bits.proofs.ListOfReads.{read-reason}
 use Rattle.h261_groups.specs.Format.{sizeOf}
 use Rattle.size.specs.Size.{limit}
 use Rattle.h261_groups.specs.declared.Format.{Format}
@@ -36,11 +35,6 @@ pub record Accepts (f : Format) (n : ℕ) (p : Picture) (left : List Bit) (at : 
   pub allRead : left ≡ []
   pub exactly : at ≡ n
 
--- reading the bits themselves never counts them
-two : (reason : Reason) → reason ≡ Count → 3 ≤ number reason → ⊥
-unfolding number
-two reason c l = let e : number reason ≡ 2 = ap number c in omega arith
-
 fair-refuses : (n end : ℕ) (r : Refusal) → end ≡ n → Fair end r → Refuses n r
 fair-refuses n end r e h =
     let low : 3 ≤ number (r .reason) = leb→le 3 (number (r .reason)) (both-left (leb 3 (number (r .reason))) (leb (number (r .reason)) 13) (h .listed)) in
@@ -48,11 +42,8 @@ fair-refuses n end r e h =
       listed = both-make (leb 2 (number (r .reason))) (leb (number (r .reason)) 13) (le→leb 2 (number (r .reason)) (omega arith))
           (both-right (leb 3 (number (r .reason))) (leb (number (r .reason)) 13) (h .listed));
       within = omega arith;
-      counted = λ c. absurd (two (r .reason) c low);
+      counted = λ c. absurd (read-reason (r .reason) c low);
     }
-
-pub length-source : (s : List ℕ) (n : ℕ) → n ≤ 8 * length s → length (source s n) ≡ n
-length-source s n h = rw (source-left s n h) (length-bits s 0 (n - 0) ∙ sub-zero n)
 
 picture-gives : (f : Format) (s : List ℕ) (n : ℕ) → n ≤ 8 * length s → Holds (Accepts f n) (Refuses n) (picture f (source s n) 0)
 picture-gives f s n h =

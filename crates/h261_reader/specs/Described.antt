@@ -3,7 +3,7 @@ use Prim.Native.Nat.{ℕ, _+_, _*_}
 use mathlib.Core.Path.{_≡_}
 use mathlib.Core.List.{List}
 use lib.ListN.{length, replicate}
-use Rattle.bits.specs.Read.{Read, got, refused, endless}
+use Rattle.bits.specs.Read.{Read}
 use Rattle.h261_groups.specs.Format.{groupCount}
 use Rattle.h261_groups.specs.declared.Format.{Format}
 use Rattle.layout.specs.Flat.{Flat, flat}
@@ -30,9 +30,3 @@ described f bytes n = mapRead (laidPicture f) (reading f bytes n)
 -- zeros in the format's lengths
 abbrev pub zeros : Format → Flat
 zeros f = flat (replicate (3 + groupCount f) 0) (replicate (groupCount f * 132) 0) (replicate (groupCount f * 12672) 0)
-
--- the description, or zeros
-abbrev pub laidOr : Format → Read Flat → Flat
-laidOr f (got d bs at) = d
-laidOr f (refused r) = zeros f
-laidOr f endless = zeros f

@@ -10,9 +10,6 @@ use Rattle.h261_groups.specs.declared.Format.{Format}
 use Rattle.layout.specs.Flat.{Flat}
 use Rattle.h261_description.specs.Valid.{lengthsOf}
 use Rattle.refusals.specs.declared.Verdict.{Verdict}
-use Rattle.refusals.specs.declared.Verdict.the-variants.{Refused}
-use Rattle.bits.specs.declared.Stopped.{Stopped}
-use Rattle.fields.specs.declared.PictureRead.{PictureRead}
 use Rattle.h261_layers.specs.Grammar.{readWidths}
 use Rattle.h261_reader.specs.Described.{described}
 
@@ -23,10 +20,6 @@ readOf f bytes n before = pick (lengthsOf f before) (found (described f bytes n)
 -- document 02, T-13: "The number equals the length of the list of reads that the rules give for those bits, also up to a refusal. .. Refusals 1 and 2 report 0."
 unfoldable pub readCount : Format → List ℕ → ℕ → Flat → ℕ
 readCount f bytes n before = pick (lengthsOf f before) (length (readWidths f bytes n)) 0
-
--- the report of a picture that was refused
-abbrev pub refusedPicture : Stopped → PictureRead
-refusedPicture r = record { verdict = Refused (r .refusal); reads = r .reads }
 
 -- ---- what `read` promises of its answer, and of what it leaves in the buffers
 abbrev pub ReadSays : Format → List ℕ → ℕ → Flat → Verdict → Type 0

@@ -36,6 +36,16 @@ some-down SubQcif = omega arith
 some-down Qcif = omega arith
 some-down Cif = omega arith
 
+pub across-most : (size : Size) → macroblocksAcross size ≤ 22
+across-most SubQcif = omega arith
+across-most Qcif = omega arith
+across-most Cif = omega arith
+
+pub down-most : (size : Size) → macroblocksDown size ≤ 18
+down-most SubQcif = omega arith
+down-most Qcif = omega arith
+down-most Cif = omega arith
+
 pub row-in : (size : Size) (n : ℕ) → n < macroblocksDown size * macroblocksAcross size → n / macroblocksAcross size < macroblocksDown size
 row-in size n l = div-lt-iff-lt-mul {k = macroblocksAcross size} {x = n} {y = macroblocksDown size} (some-across size) .1 l
 

@@ -12,3 +12,4 @@ pub mod Relaid
 pub mod Landing
 pub mod Predictor
 pub mod Kept
+pub mod FirstVectors

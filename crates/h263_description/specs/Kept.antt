@@ -1,7 +1,7 @@
 -- The vectors that a description's bytes say, and the predictor of them: how the code keeps them, and what it asks. Assumes nothing.
-use Prim.Native.Nat.{ℕ, _+_, _*_, _%_, _≤_, _<_, max, min}
+use Prim.Native.Nat.{ℕ, zero, suc, _+_, _*_, _%_, _≤_, _<_, max, min}
 use mathlib.Core.Path.{_≡_}
-use mathlib.Core.List.{List}
+use mathlib.Core.List.{List, [], _∷_, _++_}
 use lib.Dec.{T}
 use lib.ListN.{length, getD}
 use Rattle.layout.specs.Value.{Vector}
@@ -24,6 +24,11 @@ medianKept a b c = record {
 -- the vectors that the four bytes of each macroblock say, whatever its type: "The description's unused vector bytes are 0"
 abbrev pub vectorsIn : List ℕ → Vectors
 vectorsIn macroblocks n = byteVector (getD macroblocks (n * 4 + 2) 0) (getD macroblocks (n * 4 + 3) 0)
+
+-- the first n of them
+unfoldable pub firstVectors : List ℕ → ℕ → List Vector
+firstVectors macroblocks zero = []
+firstVectors macroblocks (suc n) = firstVectors macroblocks n ++ vectorsIn macroblocks n ∷ []
 
 -- macroblock k has its four bytes, and says a vector in range
 pub record BytesNear (macroblocks : List ℕ) (k : ℕ) : Type 0 where

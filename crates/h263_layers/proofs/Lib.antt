@@ -1,5 +1,13 @@
 pub mod StartLaws
 pub mod Layers
+pub mod HeaderReads
+pub mod PictureReads
 pub mod EventsTurn
 pub mod BlockSteps
 pub mod BlocksTurn
+pub mod VectorSteps
+pub mod HeadSteps
+pub mod HeaderOf
+pub mod MacroblockSteps
+pub mod OpenedTurn
+pub mod MacroblockWhole

@@ -10,8 +10,8 @@ use Rattle.refusals.specs.declared.Reason.the-variants.{Count, BitsEnd, NoStart
 use Rattle.refusals.specs.declared.Table.the-variants.{McbpcInter}
 use Rattle.refusals.specs.Number.{refusal}
 use Rattle.bits.specs.Bits.{Bit, O, I, bitsOf, source}
-use Rattle.bits.specs.Places.{Places, PlaceIn, bitIn, stopIn}
-use Rattle.bits.specs.Read.{Read, bad, ReaderIn, refused, failed, _>>=_, done, next, field, Judged, fine, against, judgedRead, loop, never}
+use Rattle.bits.specs.Places.{Places, plain, listed, PlaceIn, bitIn, stopIn, unreadPlace}
+use Rattle.bits.specs.Read.{ReadIn, Read, ReaderIn, refused, failed, widthsIn, _>>=_, done, next, field, Judged, fine, against, judgedRead, loop, never}
 use Rattle.bits.specs.Code.{CodeTable, word}
 use Rattle.fields.specs.Rules.{expect, quantiser, spares, optional}
 use Rattle.size.specs.declared.Size.{Size}
@@ -68,11 +68,15 @@ blocksRead intra (b ∷ pattern) = do
   done (block ∷ rest)
 
 -- ---- macroblocks
+-- DQUANT, in a byte of two's complement
+abbrev pub dquantRead : {P : Places} → ReaderIn P ℕ
+dquantRead = field 2 >>= λ x. done (dquantIn x)
+
 -- "Order: COD (INTER pictures), MCBPC, CBPY, DQUANT, MVD, blocks." COD and MCBPC are read; the pattern is CBPY's four bits, then CBPC's two
 unfoldable pub macroblock : {P : Places} → Size → ℕ → ℕ → Vector → ℕ → ReaderIn P Macroblock
 macroblock size number address predicted kind = do
   luminance ← word cbpy
-  dquant ← optional (hasDQUANT (typeIn kind)) 0 (field 2 >>= λ x. done (dquantIn x))
+  dquant ← optional (hasDQUANT (typeIn kind)) 0 dquantRead
   vector ← optional (isInter (typeIn kind)) zeroVector (vectorRead size number address predicted)
   blocks ← blocksRead (isIntra (typeIn kind)) (bitsOf 6 (turned (isIntra (typeIn kind)) luminance * 4 + chromaIn kind))
   done (record { address = address; type = typeIn kind; quant = dquant; vector = vector; blocks = blocks })
@@ -187,17 +191,23 @@ pub record Ptype : Type 0 where
   pub ptype : ℕ
   pub type : ℕ
 
+abbrev pub ptypeIn : ℕ → Ptype
+ptypeIn x = record { ptype = x / 256 % 8; type = x / 16 % 2 }
+
 abbrev pub modesOf : {P : Places} → PlaceIn P → ℕ → ReaderIn P Ptype
 modesOf {P} start x = λ bs at.
-    pick (eqb (x % 16) 0) (done (record { ptype = x / 256 % 8; type = x / 16 % 2 }) bs at) (refused (stopIn P (refusal OptionalMode (bitIn P start + modeBit x)) at))
+    pick (eqb (x % 16) 0) (done (ptypeIn x) bs at) (refused (stopIn P (refusal OptionalMode (bitIn P start + modeBit x)) at))
 
 -- "PTYPE is one field"
 unfoldable pub ptypeRead : {P : Places} → Size → ReaderIn P Ptype
 ptypeRead size = λ bs at. next (judgedRead (field 13) (formatOf size) bs at) (modesOf at)
 
 -- "14 at 48 for CPM 1"
+abbrev pub cpmOf : ℕ → Judged ℕ
+cpmOf cpm = pick (eqb cpm 0) (fine cpm) (against OptionalMode)
+
 abbrev pub cpmRead : {P : Places} → ReaderIn P ℕ
-cpmRead = judgedRead (field 1) (λ cpm. pick (eqb cpm 0) (fine cpm) (against OptionalMode))
+cpmRead = judgedRead (field 1) cpmOf
 
 pub record Header : Type 0 where
   pub tr : ℕ
@@ -226,7 +236,17 @@ picture size = do
   groups ← groupsRead size (isIntraType (head .type)) (groupNumbers size) []
   ended (record { tr = head .tr; ptype = head .ptype; type = head .type; pquant = head .pquant; groups = groups })
 
--- refusal 2, as in H.261
+-- refusal 2, as in H.261. From a place before all bits
+abbrev pub readingFrom : {P : Places} → PlaceIn P → Size → List ℕ → ℕ → ReadIn P Picture
+readingFrom {P} start size bytes n =
+    pick (either (ltb (8 * length bytes) n) (ltb (limit size) n)) (refused (stopIn P (refusal Count 0) start)) (picture size (source bytes n) start)
+
 unfoldable pub reading : Size → List ℕ → ℕ → Read Picture
-reading size bytes n =
-    pick (either (ltb (8 * length bytes) n) (ltb (limit size) n)) (bad Count 0) (picture size (source bytes n) 0)
+reading size bytes n = readingFrom {P = plain} 0 size bytes n
+
+-- ---- document 02, T-13: "the list of reads that the rules give for those bits, also up to a refusal"
+unfoldable pub readingListed : Size → List ℕ → ℕ → ReadIn listed Picture
+readingListed size bytes n = readingFrom unreadPlace size bytes n
+
+abbrev pub readWidths : Size → List ℕ → ℕ → List ℕ
+readWidths size bytes n = widthsIn (readingListed size bytes n)

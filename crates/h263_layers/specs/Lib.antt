@@ -3,3 +3,4 @@ pub mod Start
 pub mod Grammar
 pub mod Answer
 pub mod Ready
+pub mod Among

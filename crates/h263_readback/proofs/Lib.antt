@@ -9,4 +9,5 @@ pub mod ReadBack
 pub mod Logic
 pub mod Layers
 pub mod Verdicts
+pub mod ListOfReads
 pub mod Range

@@ -1,14 +1,14 @@
 -- A logic of reads beside the same reads with more bits after them: a rule for each way to read. Assumes nothing.
--- `Sound bound least Good r s`: with fewer than `bound` bits left r ends; it gives a Good meaning, having read `least` bits or more, or a refusal of the grammar's at a place among those bits or at their end.
--- And of the same bits with more after them s gives that meaning and leaves those bits too, or refuses alike, unless r lacked bits. s is r, but for a loop, which has more turns where there are more bits.
-use Prim.Native.Nat.{ℕ, zero, suc, _+_, _*_, _^_, _≤_, _<_, zero-le}
+-- `Stays r s`: what r refuses, it refuses for a reason of reading bits. And of the same bits with more after them s gives the meaning that r gives and leaves those bits too, or refuses alike, unless r lacked bits.
+-- s is r, but for a loop, which has more turns where there are more bits. Of a read that doesn't end nothing is said.
+use Prim.Native.Nat.{ℕ, zero, suc, _+_, _*_, _≤_}
 use mathlib.Core.Path.{_≡_, refl, sym, ap, subst, _∙_}
 use mathlib.Core.Bool.{Bool, true, false}
 use mathlib.Core.List.{List, [], _∷_, _++_}
 use native.Mathlib.Omega.{arith}
-use native.Mathlib.Nat.{pow-suc, le-refl, not-suc-le-zero}
-use lib.Dec.{T, lit<}
-use lib.ListN.{length, drop, length-append, length-drop}
+use native.Mathlib.Nat.{le-refl}
+use lib.Dec.{T, eqb}
+use lib.ListN.{length, drop, length-append}
 use lib.Seq.{drop-append-le}
 use Rattle.laws.specs.Choice.{pick, both, either, opposite}
 use Rattle.laws.proofs.Choice.{both-left, both-right, T-true, true-T, true-false}
@@ -18,24 +18,22 @@ use Rattle.refusals.specs.declared.Table.{Table}
 use Rattle.refusals.specs.declared.Refusal.{Refusal}
 use Rattle.refusals.specs.Number.{number}
 use Rattle.bits.specs.Bits.{Bit, O, I, num}
-use Rattle.bits.specs.Read.{Read, got, refused, endless, bad, Reader, next, _>>=_, done, fieldFrom, field, Judged, fine, against, settle, judgedRead, movedRead, whole, loop}
+use Rattle.bits.specs.Read.{Read, got, refused, endless, bad, Reader, next, _>>=_, done, fieldFrom, field, Judged, fine, against, settle, judgedRead, movedRead, whole, loop, never}
 use Rattle.bits.specs.Code.{Entry, entry, CodeTable, starts, longer, lookup, word}
 use Rattle.bits.proofs.Tree.{hit, miss}
-use Rattle.bits.proofs.Codes.{each}
-use Rattle.bits.proofs.Numbers.{num-small}
-use Rattle.bits.proofs.Logic.{Holds, Took}
-use Rattle.layout.specs.Numbers.{within}
 use Rattle.layout.specs.Proper.{If}
 use Rattle.fields.specs.Rules.{optional}
-use Rattle.h263_readback.specs.Verdict.{ofBits, bitsEnd}
+use Rattle.h263_readback.specs.Verdict.{fromTo, bitsEnd}
 
 -- ---- one read
-pub record Fair (end : ℕ) (r : Refusal) : Type 0 where
-  pub listed : T (ofBits (r .reason))
-  pub within : r .place ≤ end
+-- the reasons that reading bits gives: 3 to 8, 10 to 12 and 14. 13 is given for bits that are left
+abbrev pub ofBits : Reason → Bool
+ofBits reason = both (fromTo 3 14 reason) (opposite (eqb (number reason) 13))
 
-abbrev pub Gives : {A : Type 0} → ℕ → (A → Type 0) → List Bit → ℕ → Read A → Type 0
-Gives least Good bs at x = Holds (λ a left place. Took least bs at left place × Good a) (Fair (at + length bs)) x
+abbrev pub Refusing : {A : Type 0} → Read A → Type 0
+Refusing (got a left p) = Unit {0}
+Refusing (refused why) = T (ofBits (why .reason))
+Refusing endless = Unit {0}
 
 -- what is given, beside what is given once more bits follow
 abbrev pub Grown : {A : Type 0} → List Bit → Read A → Read A → Type 0
@@ -43,9 +41,9 @@ Grown more (got a left p) y = y ≡ got a (left ++ more) p
 Grown more (refused why) y = If (bitsEnd (why .reason)) (Unit {0}) (y ≡ refused why)
 Grown more endless y = Unit {0}
 
-pub record Sound {A : Type 0} (bound least : ℕ) (Good : A → Type 0) (r s : Reader A) : Type 0 where
-  pub gives : (bs : List Bit) (at : ℕ) → length bs < bound → Gives least Good bs at (r bs at)
-  pub grows : (bs more : List Bit) (at : ℕ) → length bs < bound → Grown more (r bs at) (s (bs ++ more) at)
+pub record Stays {A : Type 0} (r s : Reader A) : Type 0 where
+  pub refuses : (bs : List Bit) (at : ℕ) → Refusing (r bs at)
+  pub grows : (bs more : List Bit) (at : ℕ) → Grown more (r bs at) (s (bs ++ more) at)
 
 -- refused alike
 pub grown-alike : {A : Type 0} (more : List Bit) (why : Refusal) (y : Read A) → y ≡ refused why → Grown more (refused why) y
@@ -55,72 +53,49 @@ grown-alike more why y e = go (bitsEnd (why .reason))
     go true = tt
     go false = e
 
-pub still : (bs : List Bit) (at : ℕ) → Took 0 bs at bs at
-still bs at = record { end = refl; onward = omega arith }
-
 -- ---- one read after another
-onwards : {A : Type 0} (least more : ℕ) (Good : A → Type 0) (bs : List Bit) (at : ℕ) (left : List Bit) (place : ℕ) (x : Read A)
-    → Took least bs at left place → Gives more Good left place x → Gives least Good bs at x
-onwards least more Good bs at left place (got a rest p) t h = (record { end = h .0 .end ∙ t .end; onward = omega (arith, t, h .0) }, h .1)
-onwards least more Good bs at left place (refused r) t h = record { listed = h .listed; within = omega (arith, t, h) }
-onwards least more Good bs at left place endless t h = h
-
 module _ {A B : Type 0} (k l : A → Reader B) where
-  pub after : (least more : ℕ) (Good : A → Type 0) (Fine : B → Type 0) (bs : List Bit) (at : ℕ) (x : Read A) → Gives least Good bs at x
-      → ((a : A) (left : List Bit) (place : ℕ) → Took least bs at left place → Good a → Gives more Fine left place (k a left place)) → Gives least Fine bs at (next x k)
-  after least more Good Fine bs at (got a left p) h f = onwards least more Fine bs at left p (k a left p) (h .0) (f a left p (h .0) (h .1))
-  after least more Good Fine bs at (refused r) h f = h
-  after least more Good Fine bs at endless h f = h
+  pub refusing-after : (x : Read A) → Refusing x → ((a : A) (left : List Bit) (place : ℕ) → Refusing (k a left place)) → Refusing (next x k)
+  refusing-after (got a left p) h f = f a left p
+  refusing-after (refused why) h f = h
+  refusing-after endless h f = tt
 
-  pub grown-after : (least : ℕ) (Good : A → Type 0) (bs more : List Bit) (at : ℕ) (x y : Read A) → Gives least Good bs at x → Grown more x y
-      → ((a : A) (left : List Bit) (place : ℕ) → Took least bs at left place → Good a → Grown more (k a left place) (l a (left ++ more) place)) → Grown more (next x k) (next y l)
-  grown-after least Good bs more at (got a left p) y h e f = subst (λ (z : Read A). Grown more (k a left p) (next z l)) (sym e) (f a left p (h .0) (h .1))
-  grown-after least Good bs more at (refused why) y h e f = go (bitsEnd (why .reason)) e
+  pub grown-after : (more : List Bit) (x y : Read A) → Grown more x y
+      → ((a : A) (left : List Bit) (place : ℕ) → Grown more (k a left place) (l a (left ++ more) place)) → Grown more (next x k) (next y l)
+  grown-after more (got a left p) y e f = subst (λ (z : Read A). Grown more (k a left p) (next z l)) (sym e) (f a left p)
+  grown-after more (refused why) y e f = go (bitsEnd (why .reason)) e
     where
       go : (b : Bool) → If b (Unit {0}) (y ≡ refused why) → If b (Unit {0}) (next y l ≡ refused why)
       go true e = tt
       go false e = ap (λ (z : Read A). next z l) e
-  grown-after least Good bs more at endless y h e f = tt
+  grown-after more endless y e f = tt
 
 -- ---- the rules
 module _ {A : Type 0} where
-  pub sound-weaker : {bound least less : ℕ} {Good Fine : A → Type 0} {r s : Reader A} → Sound bound least Good r s → less ≤ least → ((a : A) → Good a → Fine a) → Sound bound less Fine r s
-  sound-weaker {bound} {least} {less} {Good} {Fine} {r} {s} h l f = record { gives = λ bs at b. go bs at (r bs at) (h .gives bs at b); grows = h .grows }
-    where
-      go : (bs : List Bit) (at : ℕ) (x : Read A) → Gives least Good bs at x → Gives less Fine bs at x
-      go bs at (got a left p) g = (record { end = g .0 .end; onward = omega (arith, l, g .0) }, f a (g .1))
-      go bs at (refused r) g = g
-      go bs at endless g = g
+  pub stays-done : {a : A} → Stays (done a) (done a)
+  stays-done = record { refuses = λ bs at. tt; grows = λ bs more at. refl }
 
-  -- that bits are read need not be said
-  pub sound-any : {bound least : ℕ} {Good : A → Type 0} {r s : Reader A} → Sound bound least Good r s → Sound bound 0 Good r s
-  sound-any h = sound-weaker h zero-le (λ a g. g)
-
-  pub sound-done : {bound : ℕ} {Good : A → Type 0} {a : A} → Good a → Sound bound 0 Good (done a) (done a)
-  sound-done g = record { gives = λ bs at b. (still bs at, g); grows = λ bs more at b. refl }
-
-  -- no bit is fewer than none
-  pub sound-never : {least : ℕ} {Good : A → Type 0} {r s : Reader A} → Sound 0 least Good r s
-  sound-never = record { gives = λ bs at b. absurd (not-suc-le-zero b); grows = λ bs more at b. absurd (not-suc-le-zero b) }
+  pub stays-never : {s : Reader A} → Stays never s
+  stays-never = record { refuses = λ bs at. tt; grows = λ bs more at. tt }
 
   -- a loop has a turn more than there are bits
-  pub sound-loop : {bound least : ℕ} {Good : A → Type 0} {turn : ℕ → Reader A} → ((n m : ℕ) → n ≤ m → Sound n least Good (turn n) (turn m)) → Sound bound least Good (loop turn) (loop turn)
-  sound-loop h = record {
-    gives = λ bs at b. h (suc (length bs)) (suc (length bs)) (omega arith) .gives bs at (le-refl (suc (length bs)));
-    grows = λ bs more at b. h (suc (length bs)) (suc (length (bs ++ more))) (omega (arith, length-append bs more)) .grows bs more at (le-refl (suc (length bs)));
+  pub stays-loop : {turn : ℕ → Reader A} → ((n m : ℕ) → n ≤ m → Stays (turn n) (turn m)) → Stays (loop turn) (loop turn)
+  stays-loop h = record {
+    refuses = λ bs at. h (suc (length bs)) (suc (length bs)) (le-refl (suc (length bs))) .refuses bs at;
+    grows = λ bs more at. h (suc (length bs)) (suc (length (bs ++ more))) (omega (arith, length-append bs more)) .grows bs more at;
   }
 
   -- several fields that are one codeword
-  pub sound-whole : {bound least : ℕ} {Good : A → Type 0} {r s : Reader A} → Sound bound least Good r s → Sound bound least Good (whole r) (whole s)
-  sound-whole {bound} {least} {Good} {r} {s} h = record {
-    gives = λ bs at b. back bs at (r bs at) (h .gives bs at b);
-    grows = λ bs more at b. beside at more (r bs at) (s (bs ++ more) at) (h .grows bs more at b);
+  pub stays-whole : {r s : Reader A} → Stays r s → Stays (whole r) (whole s)
+  stays-whole {r} {s} h = record {
+    refuses = λ bs at. moved at (r bs at) (h .refuses bs at);
+    grows = λ bs more at. beside at more (r bs at) (s (bs ++ more) at) (h .grows bs more at);
   }
     where
-      back : (bs : List Bit) (at : ℕ) (x : Read A) → Gives least Good bs at x → Gives least Good bs at (movedRead at x)
-      back bs at (got a left p) g = g
-      back bs at (refused why) g = record { listed = g .listed; within = omega arith }
-      back bs at endless g = g
+      moved : (at : ℕ) (x : Read A) → Refusing x → Refusing (movedRead at x)
+      moved at (got a left p) g = tt
+      moved at (refused why) g = g
+      moved at endless g = tt
 
       beside : (at : ℕ) (more : List Bit) (x y : Read A) → Grown more x y → Grown more (movedRead at x) (movedRead at y)
       beside at more (got a left p) y e = ap (movedRead at) e
@@ -132,107 +107,73 @@ module _ {A : Type 0} where
       beside at more endless y e = tt
 
   -- a read that the type may leave out
-  pub sound-optional : {bound least : ℕ} {Good : A → Type 0} {r s : Reader A} (t : Bool) (a : A) → (T t → Sound bound least Good r s)
-      → Sound bound 0 (λ b. If t (Good b) (b ≡ a)) (optional t a r) (optional t a s)
-  sound-optional true a h = sound-any (h tt)
-  sound-optional false a h = sound-done refl
+  pub stays-optional : {r s : Reader A} (t : Bool) (a : A) → Stays r s → Stays (optional t a r) (optional t a s)
+  stays-optional true a h = h
+  stays-optional false a h = stays-done
 
-  pub sound-pick : {bound least : ℕ} {Good : A → Type 0} {r s u v : Reader A} (t : Bool) → (T t → Sound bound least Good r s) → (t ≡ false → Sound bound least Good u v)
-      → Sound bound least Good (pick t r u) (pick t s v)
-  sound-pick true h g = h tt
-  sound-pick false h g = g refl
+  pub stays-pick : {r s u v : Reader A} (t : Bool) → Stays r s → Stays u v → Stays (pick t r u) (pick t s v)
+  stays-pick true h g = h
+  stays-pick false h g = g
 
-module _ {A B : Type 0} {bound rest least more : ℕ} {Good : A → Type 0} {Fine : B → Type 0} {r s : Reader A} {k l : A → Reader B} where
-  -- the one read, and from where it ended, with fewer than `rest` bits left, the other
-  bind : ((n : ℕ) → n + least < bound → n < rest) → Sound bound least Good r s → ((a : A) → Good a → Sound rest more Fine (k a) (l a)) → Sound bound least Fine (r >>= k) (s >>= l)
-  bind shorter h f = record {
-    gives = λ bs at b. after k l least more Good Fine bs at (r bs at) (h .gives bs at b) (λ a left p t g. f a g .gives left p (shorter (length left) (fewer bs at left p t b)));
-    grows = λ bs on at b. grown-after k l least Good bs on at (r bs at) (s (bs ++ on) at) (h .gives bs at b) (h .grows bs on at b)
-        (λ a left p t g. f a g .grows left on p (shorter (length left) (fewer bs at left p t b)));
-  }
-    where
-      fewer : (bs : List Bit) (at : ℕ) (left : List Bit) (p : ℕ) → Took least bs at left p → length bs < bound → length left + least < bound
-      fewer bs at left p t b = omega arith
-
-pub sound-then : {A B : Type 0} {bound least more : ℕ} {Good : A → Type 0} {Fine : B → Type 0} {r s : Reader A} {k l : A → Reader B}
-    → Sound bound least Good r s → ((a : A) → Good a → Sound bound more Fine (k a) (l a)) → Sound bound least Fine (r >>= k) (s >>= l)
-sound-then {bound = bound} {least} h f = bind (λ n l. omega arith) h f
-
--- a turn of a loop: a bit at least is read, so that the next has one bit fewer and one turn fewer
-pub sound-turn : {A B : Type 0} {bound more : ℕ} {Good : A → Type 0} {Fine : B → Type 0} {r s : Reader A} {k l : A → Reader B}
-    → Sound (suc bound) 1 Good r s → ((a : A) → Good a → Sound bound more Fine (k a) (l a)) → Sound (suc bound) 1 Fine (r >>= k) (s >>= l)
-sound-turn {bound = bound} h f = bind (λ n l. omega arith) h f
+pub stays-then : {A B : Type 0} {r s : Reader A} {k l : A → Reader B} → Stays r s → ((a : A) → Stays (k a) (l a)) → Stays (r >>= k) (s >>= l)
+stays-then {r = r} {s} {k} {l} h f = record {
+  refuses = λ bs at. refusing-after k l (r bs at) (h .refuses bs at) (λ a left p. f a .refuses left p);
+  grows = λ bs more at. grown-after k l more (r bs at) (s (bs ++ more) at) (h .grows bs more at) (λ a left p. f a .grows left more p);
+}
 
 -- what is made of what was read
-pub sound-map : {A B : Type 0} {bound least : ℕ} {Good : A → Type 0} {Fine : B → Type 0} {r s : Reader A} (f : A → B)
-    → Sound bound least Good r s → ((a : A) → Good a → Fine (f a)) → Sound bound least Fine (r >>= λ a. done (f a)) (s >>= λ a. done (f a))
-sound-map f h g = sound-then h (λ a good. sound-done (g a good))
+pub stays-map : {A B : Type 0} {r s : Reader A} (f : A → B) → Stays r s → Stays (r >>= λ a. done (f a)) (s >>= λ a. done (f a))
+stays-map f h = stays-then h (λ a. stays-done)
 
 -- ---- a rule's judgement
-abbrev pub Judging : {A : Type 0} → (A → Type 0) → Judged A → Type 0
-Judging Good (fine a) = Good a
-Judging Good (against reason) = T (ofBits reason)
+abbrev pub Judging : {A : Type 0} → Judged A → Type 0
+Judging (fine a) = Unit {0}
+Judging (against reason) = T (ofBits reason)
 
-pub record Judges {A : Type 0} (Good : A → Type 0) (j : Judged A) : Type 0 where
-  pub judges : Judging Good j
+pub record Judges {A : Type 0} (j : Judged A) : Type 0 where
+  pub judges : Judging j
 
-pub judges-fine : {A : Type 0} {Good : A → Type 0} (a : A) → Good a → Judges Good (fine a)
-judges-fine a h = record { judges = h }
+pub judges-fine : {A : Type 0} (a : A) → Judges (fine a)
+judges-fine a = record { judges = tt }
 
-pub judges-against : {A : Type 0} {Good : A → Type 0} (reason : Reason) → T (ofBits reason) → Judges Good (against reason)
+pub judges-against : {A : Type 0} (reason : Reason) → T (ofBits reason) → Judges {A = A} (against reason)
 judges-against reason t = record { judges = t }
 
-pub judges-pick : {A : Type 0} {Good : A → Type 0} {x y : Judged A} (t : Bool) → (T t → Judges Good x) → (t ≡ false → Judges Good y) → Judges Good (pick t x y)
-judges-pick true f g = f tt
-judges-pick false f g = g refl
+pub judges-pick : {A : Type 0} {x y : Judged A} (t : Bool) → Judges x → Judges y → Judges (pick t x y)
+judges-pick true f g = f
+judges-pick false f g = g
 
 -- "The place is the first bit of the field or codeword"
-pub sound-judged : {A B : Type 0} {bound least : ℕ} {Good : A → Type 0} {Fine : B → Type 0} {r s : Reader A} {rule : A → Judged B}
-    → Sound bound least Good r s → ((a : A) → Good a → Judges Fine (rule a)) → Sound bound least Fine (judgedRead r rule) (judgedRead s rule)
-sound-judged {A} {B} {bound} {least} {Good} {Fine} {r} {s} {rule} h f = record {
-  gives = λ bs at b. after (λ a. settle at (rule a)) (λ a. settle at (rule a)) least 0 Good Fine bs at (r bs at) (h .gives bs at b)
-      (λ a left p t g. settled at (rule a) left p (before bs at left p t) (f a g .judges));
-  grows = λ bs more at b. grown-after (λ a. settle at (rule a)) (λ a. settle at (rule a)) least Good bs more at (r bs at) (s (bs ++ more) at) (h .gives bs at b) (h .grows bs more at b)
-      (λ a left p t g. beside at more (rule a) left p);
+pub stays-judged : {A B : Type 0} {r s : Reader A} {rule : A → Judged B} → Stays r s → ((a : A) → Judges (rule a)) → Stays (judgedRead r rule) (judgedRead s rule)
+stays-judged {A} {B} {r} {s} {rule} h f = record {
+  refuses = λ bs at. refusing-after (λ a. settle at (rule a)) (λ a. settle at (rule a)) (r bs at) (h .refuses bs at) (λ a left p. settled at (rule a) left p (f a .judges));
+  grows = λ bs more at. grown-after (λ a. settle at (rule a)) (λ a. settle at (rule a)) more (r bs at) (s (bs ++ more) at) (h .grows bs more at) (λ a left p. beside at more (rule a) left p);
 }
   where
-    before : (bs : List Bit) (at : ℕ) (left : List Bit) (p : ℕ) → Took least bs at left p → at ≤ p + length left
-    before bs at left p t = omega arith
-
-    settled : (start : ℕ) (j : Judged B) (left : List Bit) (place : ℕ) → start ≤ place + length left → Judging Fine j → Gives 0 Fine left place (settle start j left place)
-    settled start (fine b) left place l h = (still left place, h)
-    settled start (against reason) left place l h = record { listed = h; within = l }
+    settled : (start : ℕ) (j : Judged B) (left : List Bit) (place : ℕ) → Judging j → Refusing (settle start j left place)
+    settled start (fine b) left place h = tt
+    settled start (against reason) left place h = h
 
     beside : (start : ℕ) (more : List Bit) (j : Judged B) (left : List Bit) (p : ℕ) → Grown more (settle start j left p) (settle start j (left ++ more) p)
     beside start more (fine b) left p = refl
     beside start more (against reason) left p = grown-alike more _ (bad reason start) refl
 
--- ---- a field: a number of k bits
-module _ (k : ℕ) where
-  -- j of k bits are read, and hold v
-  field-gives : (j rest : ℕ) → j + rest ≡ k → (bs : List Bit) (at v : ℕ) (left : List Bit) (p : ℕ) → Took j bs at left p → v < 2 ^ j → Gives k (λ v. v < 2 ^ k) bs at (fieldFrom rest at v left p)
-  unfolding fieldFrom
-  field-gives j zero e bs at v left p t l =
-      let all : j ≡ k = omega arith in
-      (record { end = t .end; onward = omega arith }, subst (λ (n : ℕ). v < 2 ^ n) all l)
-  field-gives j (suc rest) e bs at v [] p t l = record { listed = unfold number in tt; within = omega arith }
-  field-gives j (suc rest) e bs at v (b ∷ left) p t l =
-      let more : Took (suc j) bs at left (p + 1) = record { end = omega (arith, t .end); onward = omega arith } in
-      field-gives (suc j) rest (omega arith) bs at (v * 2 + num b) left (p + 1) more (omega (arith, pow-suc 2 j, num-small b))
+-- ---- a field
+pub stays-field : (k : ℕ) → Stays (field k) (field k)
+unfolding fieldFrom number
+stays-field k = record { refuses = λ bs at. ends k at 0 bs at; grows = λ bs more at. beside k at 0 bs at more }
+  where
+    ends : (k at v : ℕ) (bs : List Bit) (p : ℕ) → Refusing (fieldFrom k at v bs p)
+    ends zero at v bs p = tt
+    ends (suc k) at v [] p = tt
+    ends (suc k) at v (b ∷ bs) p = ends k at (v * 2 + num b) bs (p + 1)
 
-  pub sound-field : {bound : ℕ} → Sound bound k (λ v. v < 2 ^ k) (field k) (field k)
-  unfolding fieldFrom number
-  sound-field = record {
-    gives = λ bs at b. field-gives 0 k (omega arith) bs at 0 bs at (still bs at) (lit< tt);
-    grows = λ bs more at b. beside k at 0 bs at more;
-  }
-    where
-      beside : (k at v : ℕ) (bs : List Bit) (p : ℕ) (more : List Bit) → Grown more (fieldFrom k at v bs p) (fieldFrom k at v (bs ++ more) p)
-      beside zero at v bs p more = refl
-      beside (suc k) at v [] p more = tt
-      beside (suc k) at v (b ∷ bs) p more = beside k at (v * 2 + num b) bs (p + 1) more
+    beside : (k at v : ℕ) (bs : List Bit) (p : ℕ) (more : List Bit) → Grown more (fieldFrom k at v bs p) (fieldFrom k at v (bs ++ more) p)
+    beside zero at v bs p more = refl
+    beside (suc k) at v [] p more = tt
+    beside (suc k) at v (b ∷ bs) p more = beside k at (v * 2 + num b) bs (p + 1) more
 
--- ---- a codeword, of a table in which every codeword has a bit and a meaning that passes a test
+-- ---- a codeword
 -- of two beginnings
 starts-on : (w bs more : List Bit) → T (starts w bs) → T (starts w (bs ++ more)) × (length w ≤ length bs)
 starts-on [] bs more h = (tt, omega arith)
@@ -345,27 +286,23 @@ module _ (name : Table) (bs more : List Bit) (at : ℕ) where
           subst (λ (x : Read ℕ). Grown more x (lookup (entry w m ∷ tab) (bs ++ more) at (none c))) (sym (miss w m tab bs at (none b) e))
           (subst (λ (y : Read ℕ). Grown more (lookup tab bs at (none b)) y) (sym (miss w m tab (bs ++ more) at (none c) u)) k)
 
-  none-fair : (b : Bool) (p : ℕ → Bool) → Gives 1 (λ m. T (p m)) bs at (none b)
+  none-refusing : (b : Bool) → Refusing (none b)
   unfolding number
-  none-fair true p = record { listed = tt; within = omega arith }
-  none-fair false p = record { listed = tt; within = omega arith }
+  none-refusing true = tt
+  none-refusing false = tt
 
-lookup-gives : (p : ℕ → Bool) (tab : List Entry) (bs : List Bit) (at : ℕ) (other : Read ℕ) → T (each p tab) → Gives 1 (λ m. T (p m)) bs at other → Gives 1 (λ m. T (p m)) bs at (lookup tab bs at other)
+lookup-refusing : (tab : List Entry) (bs : List Bit) (at : ℕ) (other : Read ℕ) → Refusing other → Refusing (lookup tab bs at other)
 unfolding lookup
-lookup-gives p [] bs at other t h = h
-lookup-gives p (entry [] m ∷ tab) bs at other t h = absurd t
-lookup-gives p (entry (x ∷ w) m ∷ tab) bs at other t h = go (starts (x ∷ w) bs) refl (lookup-gives p tab bs at other (both-right (p m) (each p tab) t) h)
+lookup-refusing [] bs at other h = h
+lookup-refusing (entry w m ∷ tab) bs at other h = go (starts w bs) (lookup-refusing tab bs at other h)
   where
-    go : (s : Bool) → starts (x ∷ w) bs ≡ s → Gives 1 (λ m. T (p m)) bs at (lookup tab bs at other)
-        → Gives 1 (λ m. T (p m)) bs at (elim s [ true ↦ got m (drop (length (x ∷ w)) bs) (at + length (x ∷ w)) | false ↦ lookup tab bs at other ])
-    go true e h =
-        let l = starts-on (x ∷ w) bs [] (true-T (starts (x ∷ w) bs) e) .1 in
-        (record { end = omega (arith, length-drop (length (x ∷ w)) bs); onward = omega arith }, both-left (p m) (each p tab) t)
-    go false e h = h
+    go : (s : Bool) → Refusing (lookup tab bs at other) → Refusing {A = ℕ} (elim s [ true ↦ got m (drop (length w) bs) (at + length w) | false ↦ lookup tab bs at other ])
+    go true h = tt
+    go false h = h
 
-pub sound-word : {bound : ℕ} (p : ℕ → Bool) (table : CodeTable) → T (each p (table .entries)) → T (ordered (table .entries)) → Sound bound 1 (λ m. T (p m)) (word table) (word table)
+pub stays-word : (table : CodeTable) → T (ordered (table .entries)) → Stays (word table) (word table)
 unfolding word
-sound-word p table t o = record {
-  gives = λ bs at b. lookup-gives p (table .entries) bs at _ t (none-fair (table .name) bs [] at (longer (table .entries) bs) p);
-  grows = λ bs more at b. beside-lookup (table .name) bs more at (table .entries) (longer (table .entries) bs) (longer (table .entries) (bs ++ more)) (longer-less (table .entries) bs more) o (λ g. g);
+stays-word table o = record {
+  refuses = λ bs at. lookup-refusing (table .entries) bs at _ (none-refusing (table .name) bs [] at (longer (table .entries) bs));
+  grows = λ bs more at. beside-lookup (table .name) bs more at (table .entries) (longer (table .entries) bs) (longer (table .entries) (bs ++ more)) (longer-less (table .entries) bs more) o (λ g. g);
 }

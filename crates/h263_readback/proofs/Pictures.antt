@@ -11,7 +11,7 @@ use Rattle.laws.specs.Choice.{pick}
 use Rattle.laws.proofs.Choice.{both-left, both-right}
 use Rattle.refusals.specs.declared.Reason.the-variants.{NoStartCode, OptionalMode}
 use Rattle.bits.specs.Bits.{Bit, bitsOf}
-use Rattle.bits.specs.Read.{Read, Reader, got, refused, endless, next, _>>=_, done, fine, against, judgedRead, field}
+use Rattle.bits.specs.Read.{Read, next, fine, against, judgedRead, field}
 use Rattle.bits.proofs.ReadBack.{Back, back-done, back-next, back-end, back-as, back-judged, back-field}
 use Rattle.size.specs.declared.Size.{Size}
 use Rattle.size.specs.declared.Size.the-variants.{SubQcif, Qcif, Cif}
@@ -25,11 +25,13 @@ use Rattle.h263_description.specs.Fields.{isIntraType}
 use Rattle.h263_description.specs.Proper.{ProperGquant, ProperGroup, ProperGroups, Proper}
 use Rattle.h263_description.proofs.Groups.{some-across}
 use Rattle.h263_description.proofs.Predictor.{Ranged, zero-ranged, predictor-ranged}
-use Rattle.h263_layers.specs.Grammar.{groupsRead, formatOf, ptypeRead, cpmRead, Header, header, ended, picture}
+use Rattle.h263_layers.specs.Grammar.{groupsRead, formatOf, ptypeRead, cpmRead, header, ended}
+use Rattle.h263_layers.proofs.Layers.{Coming}
+use Rattle.h263_layers.proofs.PictureReads.{beforeEnd, before-end}
 use Rattle.h263_writer.specs.Write.{headOf, rowVectors, groupsOf, ptypeOf, pictureOf}
 use Rattle.h263_readback.specs.ReadBack.{PictureBack}
 use Rattle.h263_readback.proofs.Slots.{back-expected, back-quantiser, back-spares, Headed, headed-none, headed-first}
-use Rattle.h263_readback.proofs.Rows.{Coming, ranged-row, Predicts, back-row}
+use Rattle.h263_readback.proofs.Rows.{ranged-row, Predicts, back-row}
 
 -- ---- groups
 headed-group : (number q : ℕ) → number < 32 → ProperGquant number q → Headed number 1 0 q (headOf number q)
@@ -109,34 +111,6 @@ back-header size p rest h =
     (back-next _ (back-cpm _) (back-end _ (back-spares rest) refl)))))
 
 -- ---- the picture
--- all of it but the end: no bits are asked for after the last macroblock
-abbrev pub beforeEnd : Size → Reader Picture
-beforeEnd size = do
-  head ← header size
-  groups ← groupsRead size (isIntraType (head .type)) (groupNumbers size) []
-  done (record { tr = head .tr; ptype = head .ptype; type = head .type; pquant = head .pquant; groups = groups })
-
-pub before-end : (size : Size) (bs : List Bit) (at : ℕ) → picture size bs at ≡ next (beforeEnd size bs at) ended
-unfolding picture
-before-end size bs at = first (header size bs at)
-  where
-    whole : Header → List Group → Picture
-    whole head groups = record { tr = head .tr; ptype = head .ptype; type = head .type; pquant = head .pquant; groups = groups }
-
-    second : (head : Header) (y : Read (List Group)) → next y (λ groups. ended (whole head groups)) ≡ next (next y (λ groups. done (whole head groups))) ended
-    second head (got groups cs p) = refl
-    second head (refused why) = refl
-    second head endless = refl
-
-    groupsFrom : Header → Reader (List Group)
-    groupsFrom head = groupsRead size (isIntraType (head .type)) (groupNumbers size) []
-
-    first : (x : Read Header) → next x (λ head cs p. next (groupsFrom head cs p) (λ groups. ended (whole head groups)))
-        ≡ next (next x (λ head cs p. next (groupsFrom head cs p) (λ groups. done (whole head groups)))) ended
-    first (got head cs p) = second head (groupsFrom head cs p)
-    first (refused why) = refl
-    first endless = refl
-
 -- the predictor is in range, since the vectors before are
 predicts : (size : Size) → Predicts (macroblocksAcross size)
 predicts size headed vectors r = predictor-ranged (macroblocksAcross size) (some-across size) headed (length vectors) (vectorsOf vectors) (λ k l. at vectors k r)

@@ -5,7 +5,7 @@ use mathlib.Core.Bool.{Bool, true, false}
 use mathlib.Core.List.{List, [], _∷_}
 use native.Mathlib.Omega.{arith}
 use native.Mathlib.Nat.{le-refl}
-use lib.Dec.{T, ltb, ltb→lt}
+use lib.Dec.{T}
 use lib.IntN.{ℤ, _+ℤ_}
 use lib.ListN.{length}
 use Rattle.laws.specs.Choice.{pick, either}
@@ -17,15 +17,15 @@ use Rattle.bits.specs.Places.{plain}
 use Rattle.bits.specs.Read.{Read, got, refused, endless, next, Judged, fine, against, settle, done}
 use Rattle.bits.specs.Code.{Entry, entry, CodeTable, starts, longer, lookup, word}
 use Rattle.bits.proofs.Tree.{hit, miss}
+use Rattle.bits.proofs.Logic.{Gives, gives}
 use Rattle.layout.specs.Value.{Vector}
 use Rattle.h263_words.specs.Tables.{mvd}
+use Rattle.h263_words.proofs.WordReads.{mvd-reads}
 use Rattle.h263_description.specs.Vector.{inRange, inPicture}
 use Rattle.h263_description.specs.Landing.{componentOf, awayOf}
 use Rattle.h263_description.proofs.Landing.{one-lands}
 use Rattle.h263_layers.specs.Vector.{pairOf, component, componentRead, componentsRead, pointing, vectorRead}
 use Rattle.h263_readback.specs.Verdict.{RangeNeverRefuses, PointsOut, OnlyPointing}
-use Rattle.h263_readback.proofs.Logic.{Gives}
-use Rattle.h263_readback.proofs.Layers.{mvd-sound}
 
 -- ---- a codeword is refused by 3 or 8
 lookup-refused : (tab : List Entry) (bs : List Bit) (at : ℕ) (o : Read ℕ) (why : Refusal) → lookup tab bs at o ≡ refused why → o ≡ refused why
@@ -60,11 +60,11 @@ lands predicted n t l = go (inRange (predicted +ℤ componentOf n)) (inRange (pr
 
 pub range-never-refuses : RangeNeverRefuses
 unfolding componentRead
-range-never-refuses predicted t bs at why e v = go (word mvd bs at) refl (mvd-sound .gives bs at (le-refl (suc (length bs)))) e
+range-never-refuses predicted t bs at why e v = go (word mvd bs at) refl (gives mvd-reads bs at (le-refl (suc (length bs)))) e
   where
-    go : (x : Read ℕ) → word {P = plain} mvd bs at ≡ x → Gives 1 (λ m. T (ltb m 64)) bs at x → next x (λ n. settle at (component predicted (pairOf n))) ≡ refused why → ⊥
+    go : (x : Read ℕ) → word {P = plain} mvd bs at ≡ x → Gives 1 (λ m left. m < 64) bs at x → next x (λ n. settle at (component predicted (pairOf n))) ≡ refused why → ⊥
     go (got n left p) i g e =
-        let h = lands predicted n t (ltb→lt n 64 (g .1)) in
+        let h = lands predicted n t (g .1) in
         let z : got (h .0) left p ≡ refused why = ap (λ (j : Judged ℤ). settle at j left p) (sym (h .1)) ∙ e in
         let zz : _≡_ {A = ℕ} 0 1 = cc in omega arith
     go (refused r) i g e = let same : r ≡ why = cc in word-refused mvd bs at why (i ∙ ap (λ (r : Refusal). refused r) same) v

@@ -14,7 +14,8 @@ use Rattle.h263_description.proofs.Pictured.{picture-proper}
 use Rattle.h263_description.proofs.Relaid.{laid-back}
 use Rattle.h263_layers.specs.Grammar.{ended, picture, reading}
 use Rattle.h263_writer.specs.Write.{pictureOf}
-use Rattle.h263_readback.specs.ReadBack.{PictureReadBack, bitsOfDescription, ReadsBack, WrittenOnce}
+use Rattle.h263_writer.specs.Output.{pictureBits}
+use Rattle.h263_readback.specs.ReadBack.{PictureReadBack, ReadsBack, WrittenOnce}
 use Rattle.h263_readback.proofs.Pictures.{picture-back}
 
 pub read-back : PictureReadBack
@@ -26,6 +27,7 @@ read-back size p s h l held =
     rw (le-ltb (8 * length s) (length w) (held .room), le-ltb (limit size) (length w) l, held .bits) (rw (append-nil w, z) at r)
 
 pub reads-back : ReadsBack
+unfolding pictureBits
 reads-back size d s t l held = record { read = read-back size (pictureIn size d) s (picture-proper size d t) l held; laidOut = laid-back size d t }
 
 -- of two that end alike
@@ -34,9 +36,10 @@ ended-once p o [] at end e = let same : p ≡ o = cc in (same, refl)
 ended-once p o (b ∷ more) at end e = let z : _≡_ {A = ℕ} 0 1 = cc in absurd (omega arith)
 
 pub written-once : WrittenOnce
+unfolding pictureBits
 written-once size d e more t u h =
-    let w = bitsOfDescription size d in
-    let v = bitsOfDescription size e in
+    let w = pictureBits size d in
+    let v = pictureBits size e in
     let r = picture-back size (pictureIn size d) more 0 (picture-proper size d t) in
     let q : picture {P = plain} size (v ++ []) 0 ≡ got (pictureIn size e) [] (0 + length v) = picture-back size (pictureIn size e) [] 0 (picture-proper size e u) in
     let both : picture {P = plain} size (w ++ more) 0 ≡ picture size (v ++ []) 0 = ap (λ (x : List Bit). picture size x 0) (h ∙ sym (append-nil v)) in

@@ -21,6 +21,7 @@ use Rattle.h263_description.specs.Fields.{stands}
 use Rattle.h263_description.specs.Proper.{ProperMacroblock}
 use Rattle.h263_description.proofs.Predictor.{Ranged, zero-ranged}
 use Rattle.h263_layers.specs.Grammar.{unsent, coded, macroblock, mayStand, Row, rowFrom}
+use Rattle.h263_layers.proofs.Layers.{Coming}
 use Rattle.h263_writer.specs.Write.{mcbpcOf, macroblockOf, vectorAtHead, afterHead, rowOf, rowVectors}
 use Rattle.h263_readback.proofs.Vectors.{ranged-vector}
 use Rattle.h263_readback.proofs.Macroblocks.{patternIn, bodyOf, back-body}
@@ -36,14 +37,6 @@ each-more P (y ∷ xs) x h p = (h .0, each-more P xs x (h .1) p)
 rising-few : (Good : Macroblock → Type 0) (each last : ℕ) (ms : List Macroblock) → last ≤ each → RisingTo Good each last ms → last + length ms ≤ each
 rising-few Good each last [] l h = omega arith
 rising-few Good each last (m ∷ ms) l h = omega (arith, h .0, h .1, rising-few Good each (m .address) ms (h .1) (h .3))
-
--- the macroblocks of a group that are sent from an address on, where k addresses are left
-pub record Coming (size : Size) (intra : Bool) (number address k : ℕ) (ms : List Macroblock) : Type 0 where
-  pub last : ℕ
-  pub first : last + 1 ≡ address
-  pub end : last + k ≡ macroblocksAcross size
-  pub rising : RisingTo (ProperMacroblock size intra number) (macroblocksAcross size) last ms
-  pub complete : If intra (length ms ≡ k) (Unit {0})
 
 module _ (size : Size) (number address k : ℕ) where
   -- in a picture of type INTRA the next one is sent

@@ -17,11 +17,11 @@ use Rattle.bits.proofs.ReadBack.{Back, back-done, back-next, back-end, back-jud
 use Rattle.layout.specs.Numbers.{within}
 use Rattle.fields.specs.Rules.{expect, quantiser, spares, sparesFrom, sparesAfter, optional}
 use Rattle.h263_words.specs.Tables.{kind, mcbpcIntra, mcbpcInter, mcbpcOf}
-use Rattle.h263_words.specs.Words.{isIntra}
 use Rattle.h263_words.proofs.Back.{has-intra, has-inter}
 use Rattle.h263_words.proofs.FirstOne.{oneWithin, mcbpc-one}
 use Rattle.h263_layers.specs.Start.{zerosAhead, oneAhead, toByte, absent, aheadOf, ahead}
 use Rattle.h263_layers.specs.Grammar.{Slot, unsent, coded, slot, foundOf, foundAfter, foundRead, headFields, groupHead, mayStand, openedAfter, openedFrom, opened}
+use Rattle.h263_layers.proofs.Layers.{Typed}
 use Rattle.h263_writer.specs.Write.{mcbpcOf as mcbpcBits, headOf}
 use Rattle.h263_readback.proofs.Words.{one-of, back-mcbpc}
 
@@ -58,10 +58,6 @@ soon w rest t =
     record { none = λ at. rw (h .0, h .1) (absent-of (zerosAhead w) (toByte at) (omega (arith, one .1))) }
 
 -- ---- COD and MCBPC
--- a type that the picture's type allows
-abbrev pub Typed : Bool → ℕ → Type 0
-Typed intra type = T (pick intra (isIntra type) (within 1 4 type))
-
 bounds : (high type : ℕ) → T (within 1 high type) → (1 ≤ type) × (type ≤ high)
 bounds high type t = (leb→le 1 type (both-left (leb 1 type) (leb type high) t), leb→le type high (both-right (leb 1 type) (leb type high) t))
 

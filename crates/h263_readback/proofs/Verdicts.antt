@@ -1,10 +1,9 @@
 -- Reading always ends, by a refusal of the table or with all bits taken, and what is accepted is proper. Assumes nothing.
-use Prim.Native.Nat.{ℕ, suc, _+_, _-_, _*_, _≤_, _<_}
+use Prim.Native.Nat.{ℕ, _+_, _*_, _≤_, _<_}
 use mathlib.Core.Path.{_≡_, refl, sym, ap, subst, _∙_}
 use mathlib.Core.Bool.{Bool, true, false}
 use mathlib.Core.List.{List, [], _∷_, _++_}
 use native.Mathlib.Omega.{arith}
-use native.Mathlib.Nat.{le-refl, sub-zero}
 use borrow.Author.Tests.{le-ltb, ltb-false, eqb-true}
 use lib.Dec.{T, leb, ltb, eqb, leb→le, le→leb}
 use lib.ListN.{length, drop, length-append, length-drop, take-append-drop}
@@ -18,9 +17,9 @@ use Rattle.refusals.specs.Number.{number}
 use Rattle.bits.specs.Bits.{Bit, bitsIn, source}
 use Rattle.bits.specs.Places.{plain}
 use Rattle.bits.specs.Read.{Read, got, refused, endless, bad, next}
-use Rattle.bits.proofs.Value.{length-bits}
-use Rattle.bits.proofs.Source.{source-left}
-use Rattle.bits.proofs.Logic.{Holds}
+use Rattle.bits.proofs.Source.{length-source}
+use Rattle.bits.proofs.ListOfReads.{read-reason}
+use Rattle.bits.proofs.Logic.{Holds, Took}
 use Rattle.size.specs.declared.Size.{Size}
 use Rattle.size.specs.Size.{limit}
 use Rattle.layout.specs.Numbers.{within}
@@ -30,10 +29,10 @@ use Rattle.h263_description.specs.Proper.{Proper}
 use Rattle.h263_description.proofs.Described.{proper-described}
 use Rattle.h263_description.proofs.LaidOut.{proper-valid}
 use Rattle.h263_layers.specs.Grammar.{ended, picture, reading}
+use Rattle.h263_layers.proofs.PictureReads.{beforeEnd, before-end, before-end-gives}
 use Rattle.h263_readback.specs.Verdict.{fromTo, bitsEnd, Refuses, NeverEndless, RefusedByTable, AllRead, AcceptedProper, AcceptedValid, AcceptedDescribed, OnlyBits, EveryBeginning, EveryLonger, RefusalStays}
-use Rattle.h263_readback.proofs.Pictures.{beforeEnd, before-end}
-use Rattle.h263_readback.proofs.Logic.{Fair, Gives, Grown}
-use Rattle.h263_readback.proofs.Layers.{before-end-sound}
+use Rattle.h263_readback.proofs.Logic.{ofBits, Refusing, Grown}
+use Rattle.h263_readback.proofs.Layers.{before-end-stays}
 
 -- an accepted picture of N bits
 pub record Accepts (size : Size) (n : ℕ) (p : Picture) (left : List Bit) (at : ℕ) : Type 0 where
@@ -41,40 +40,32 @@ pub record Accepts (size : Size) (n : ℕ) (p : Picture) (left : List Bit) (at :
   pub allRead : left ≡ []
   pub exactly : at ≡ n
 
--- ---- one more reason, and reading the bits themselves never counts them
-two : (reason : Reason) → reason ≡ Count → 3 ≤ number reason → ⊥
-unfolding number
-two reason c l = let e : number reason ≡ 2 = ap number c in omega arith
-
-listed-more : (reason : Reason) → T (fromTo 3 14 reason) → T (fromTo 2 14 reason) × (3 ≤ number reason)
+-- ---- one more reason
+listed-more : (reason : Reason) → T (ofBits reason) → T (fromTo 2 14 reason) × (3 ≤ number reason)
 listed-more reason t =
     let k = number reason in
-    let range = both-left (within 3 14 k) (opposite (eqb k 9)) t in
+    let table = both-left (fromTo 3 14 reason) (opposite (eqb k 13)) t in
+    let range = both-left (within 3 14 k) (opposite (eqb k 9)) table in
     let low : 3 ≤ k = leb→le 3 k (both-left (leb 3 k) (leb k 14) range) in
-    (both-make (within 2 14 k) (opposite (eqb k 9)) (both-make (leb 2 k) (leb k 14) (le→leb 2 k (omega arith)) (both-right (leb 3 k) (leb k 14) range)) (both-right (within 3 14 k) (opposite (eqb k 9)) t), low)
-
-fair-refuses : (n end : ℕ) (r : Refusal) → end ≡ n → Fair end r → Refuses n r
-fair-refuses n end r e h =
-    let more = listed-more (r .reason) (h .listed) in
-    record { listed = more .0; within = omega arith; counted = λ c. absurd (two (r .reason) c (more .1)) }
-
-length-source : (s : List ℕ) (n : ℕ) → n ≤ 8 * length s → length (source s n) ≡ n
-length-source s n h = rw (source-left s n h) (length-bits s 0 (n - 0) ∙ sub-zero n)
+    (both-make (within 2 14 k) (opposite (eqb k 9)) (both-make (leb 2 k) (leb k 14) (le→leb 2 k (omega arith)) (both-right (leb 3 k) (leb k 14) range)) (both-right (within 3 14 k) (opposite (eqb k 9)) table), low)
 
 -- ---- what reading gives
 module _ (size : Size) (n : ℕ) where
   -- the bits end, or are too many: 13
-  after-end : (bs : List Bit) → length bs ≡ n → (x : Read Picture) → Gives 22 (Proper size) bs 0 x → Holds (Accepts size n) (Refuses n) (next x ended)
+  after-end : (bs : List Bit) → length bs ≡ n → (x : Read Picture) → Holds (λ p left at. Proper size p × Took 22 bs 0 left at) (λ r. r .place ≤ length bs) x → Refusing x
+      → Holds (Accepts size n) (Refuses n) (next x ended)
   unfolding number
-  after-end bs all (got p [] at) g = record { proper = g .1; allRead = refl; exactly = omega (arith, g .0 .end) }
-  after-end bs all (got p (b ∷ left) at) g = record { listed = tt; within = omega (arith, g .0 .end); counted = λ c. absurd (let z : _≡_ {A = ℕ} 0 1 = cc in omega arith) }
-  after-end bs all (refused r) g = fair-refuses n (0 + length bs) r (omega arith) g
-  after-end bs all endless g = g
+  after-end bs all (got p [] at) g t = record { proper = g .0; allRead = refl; exactly = omega (arith, g .1 .end) }
+  after-end bs all (got p (b ∷ left) at) g t = record { listed = tt; within = omega (arith, g .1 .end); counted = λ c. absurd (let z : _≡_ {A = ℕ} 0 1 = cc in omega arith) }
+  after-end bs all (refused r) g t =
+      let more = listed-more (r .reason) t in
+      record { listed = more .0; within = omega (arith, g); counted = λ c. absurd (read-reason (r .reason) c (more .1)) }
+  after-end bs all endless g t = g
 
   picture-gives : (bs : List Bit) → length bs ≡ n → Holds (Accepts size n) (Refuses n) (picture {P = plain} size bs 0)
   picture-gives bs all =
-      subst (λ (x : Read Picture). Holds (Accepts size n) (Refuses n) x) (sym (before-end size bs 0))
-      (after-end bs all (beforeEnd size bs 0) (before-end-sound size .gives bs 0 (le-refl (suc (length bs)))))
+      subst (λ (x : Read Picture). Holds (Accepts size n) (Refuses n) x) (sym (before-end {P = plain} size bs 0))
+      (after-end bs all (beforeEnd {P = plain} size bs 0) (before-end-gives size bs) (before-end-stays size .refuses bs 0))
 
 pub reading-gives : (size : Size) (s : List ℕ) (n : ℕ) → Holds (Accepts size n) (Refuses n) (reading size s n)
 unfolding reading number
@@ -123,41 +114,33 @@ was-read (got o (b ∷ left) q) p end e = let z : _≡_ {A = ℕ} 0 1 = cc in ab
 was-read (refused why) p end e = let z : _≡_ {A = ℕ} 0 1 = cc in absurd (omega arith)
 was-read endless p end e = let z : _≡_ {A = ℕ} 0 1 = cc in absurd (omega arith)
 
-module _ (size : Size) (bs more : List Bit) (at : ℕ) where
-  -- beside the same bits with more after them
-  beside : Grown more (beforeEnd size bs at) (beforeEnd size (bs ++ more) at)
-  beside = before-end-sound size .grows bs more at (le-refl (suc (length bs)))
+-- beside the same bits with more after them
+beside : (size : Size) (bs more : List Bit) (at : ℕ) → Grown more (beforeEnd {P = plain} size bs at) (beforeEnd {P = plain} size (bs ++ more) at)
+beside size bs more at = before-end-stays size .grows bs more at
 
-  ends : Holds {A = Picture} (λ p left place. Unit {0}) (λ r. Unit {0}) (beforeEnd size bs at)
-  ends = go (beforeEnd size bs at) (before-end-sound size .gives bs at (le-refl (suc (length bs))))
-    where
-      go : (x : Read Picture) → Gives 22 (Proper size) bs at x → Holds (λ p left place. Unit {0}) (λ r. Unit {0}) x
-      go (got p left q) g = tt
-      go (refused why) g = tt
-      go endless g = g
-
-  longer : (p : Picture) (end : ℕ) → 1 ≤ length more → picture {P = plain} size bs at ≡ got p [] end → picture {P = plain} size (bs ++ more) at ≡ bad AfterLast end
+module _ (size : Size) (bs more : List Bit) where
+  longer : (p : Picture) (end : ℕ) → 1 ≤ length more → picture {P = plain} size bs 0 ≡ got p [] end → picture {P = plain} size (bs ++ more) 0 ≡ bad AfterLast end
   longer p end some e =
-      let r : beforeEnd size bs at ≡ got p [] end = was-read (beforeEnd size bs at) p end (sym (before-end size bs at) ∙ e) in
-      let on : beforeEnd size (bs ++ more) at ≡ got p more end = subst (λ (x : Read Picture). Grown more x (beforeEnd size (bs ++ more) at)) r beside in
-      before-end size (bs ++ more) at ∙ ap (λ (x : Read Picture). next x ended) on ∙ past more some
+      let r : beforeEnd {P = plain} size bs 0 ≡ got p [] end = was-read (beforeEnd {P = plain} size bs 0) p end (sym (before-end {P = plain} size bs 0) ∙ e) in
+      let on : beforeEnd {P = plain} size (bs ++ more) 0 ≡ got p more end = subst (λ (x : Read Picture). Grown more x (beforeEnd {P = plain} size (bs ++ more) 0)) r (beside size bs more 0) in
+      before-end {P = plain} size (bs ++ more) 0 ∙ ap (λ (x : Read Picture). next x ended) on ∙ past more some
     where
       past : (more : List Bit) → 1 ≤ length more → ended p more end ≡ bad AfterLast end
       past [] l = absurd (omega arith)
       past (b ∷ more) l = refl
 
-  beginning : (p : Picture) (end : ℕ) → 1 ≤ length more → picture {P = plain} size (bs ++ more) at ≡ got p [] end → (why : Refusal) × (picture {P = plain} size bs at ≡ refused why) × (number (why .reason) ≡ 3)
+  beginning : (p : Picture) (end : ℕ) → 1 ≤ length more → picture {P = plain} size (bs ++ more) 0 ≡ got p [] end → (why : Refusal) × (picture {P = plain} size bs 0 ≡ refused why) × (number (why .reason) ≡ 3)
   beginning p end some e =
-      let all : beforeEnd size (bs ++ more) at ≡ got p [] end = was-read (beforeEnd size (bs ++ more) at) p end (sym (before-end size (bs ++ more) at) ∙ e) in
-      let cut = go (beforeEnd size bs at) beside ends all in
-      (cut .0, before-end size bs at ∙ ap (λ (x : Read Picture). next x ended) (cut .1), cut .2)
+      let all : beforeEnd {P = plain} size (bs ++ more) 0 ≡ got p [] end = was-read (beforeEnd {P = plain} size (bs ++ more) 0) p end (sym (before-end {P = plain} size (bs ++ more) 0) ∙ e) in
+      let cut = go (beforeEnd {P = plain} size bs 0) (beside size bs more 0) (before-end-gives size bs) all in
+      (cut .0, before-end {P = plain} size bs 0 ∙ ap (λ (x : Read Picture). next x ended) (cut .1), cut .2)
     where
-      other : (why : Refusal) (b : Bool) → bitsEnd (why .reason) ≡ b → If b (Unit {0}) (beforeEnd size (bs ++ more) at ≡ refused why) → beforeEnd size (bs ++ more) at ≡ got p [] end
+      other : (why : Refusal) (b : Bool) → bitsEnd (why .reason) ≡ b → If b (Unit {0}) (beforeEnd {P = plain} size (bs ++ more) 0 ≡ refused why) → beforeEnd {P = plain} size (bs ++ more) 0 ≡ got p [] end
           → (r : Refusal) × _≡_ {A = Read Picture} (refused why) (refused r) × (number (r .reason) ≡ 3)
       other why true t h all = (why, refl, eqb-true (number (why .reason)) 3 t)
       other why false t h all = let z : _≡_ {A = ℕ} 0 1 = cc in absurd (omega arith)
 
-      go : (x : Read Picture) → Grown more x (beforeEnd size (bs ++ more) at) → Holds (λ p left place. Unit {0}) (λ r. Unit {0}) x → beforeEnd size (bs ++ more) at ≡ got p [] end
+      go : (x : Read Picture) → Grown more x (beforeEnd {P = plain} size (bs ++ more) 0) → Holds (λ p left at. Proper size p × Took 22 bs 0 left at) (λ r. r .place ≤ length bs) x → beforeEnd {P = plain} size (bs ++ more) 0 ≡ got p [] end
           → (why : Refusal) × (x ≡ refused why) × (number (why .reason) ≡ 3)
       go (got o left q) h g all =
           let none : left ++ more ≡ [] = cc in
@@ -167,18 +150,18 @@ module _ (size : Size) (bs more : List Bit) (at : ℕ) where
 
 pub refusal-stays : RefusalStays
 refusal-stays size bs more at why n e =
-    before-end size (bs ++ more) at ∙ go (beforeEnd size bs at) (beside size bs more at) (sym (before-end size bs at) ∙ e)
+    before-end {P = plain} size (bs ++ more) at ∙ go (beforeEnd {P = plain} size bs at) (beside size bs more at) (sym (before-end {P = plain} size bs at) ∙ e)
   where
-    same : (b : Bool) → b ≡ false → If b (Unit {0}) (beforeEnd size (bs ++ more) at ≡ refused why) → beforeEnd size (bs ++ more) at ≡ refused why
+    same : (b : Bool) → b ≡ false → If b (Unit {0}) (beforeEnd {P = plain} size (bs ++ more) at ≡ refused why) → beforeEnd {P = plain} size (bs ++ more) at ≡ refused why
     same true z h = absurd (true-false z)
     same false z h = h
 
-    go : (x : Read Picture) → Grown more x (beforeEnd size (bs ++ more) at) → next x ended ≡ refused why → next (beforeEnd size (bs ++ more) at) ended ≡ refused why
+    go : (x : Read Picture) → Grown more x (beforeEnd {P = plain} size (bs ++ more) at) → next x ended ≡ refused why → next (beforeEnd {P = plain} size (bs ++ more) at) ended ≡ refused why
     go (got o [] q) h e = let z : _≡_ {A = ℕ} 0 1 = cc in absurd (omega arith)
     go (got o (b ∷ left) q) h e = ap (λ (x : Read Picture). next x ended) h ∙ e
     go (refused r) h e =
         let is : r ≡ why = cc in
-        ap (λ (x : Read Picture). next x ended) (same (bitsEnd (why .reason)) n (subst (λ (r : Refusal). If (bitsEnd (r .reason)) (Unit {0}) (beforeEnd size (bs ++ more) at ≡ refused r)) is h))
+        ap (λ (x : Read Picture). next x ended) (same (bitsEnd (why .reason)) n (subst (λ (r : Refusal). If (bitsEnd (r .reason)) (Unit {0}) (beforeEnd {P = plain} size (bs ++ more) at ≡ refused r)) is h))
     go endless h e = let z : _≡_ {A = ℕ} 0 1 = cc in absurd (omega arith)
 
 -- ---- the same of bytes
@@ -212,7 +195,7 @@ pub every-beginning : EveryBeginning
 every-beginning size s n p e k l =
     let b = in-bounds size s n p e in
     let whole : picture {P = plain} size (source s k ++ drop k (source s n)) 0 ≡ got p [] n = ap (λ (bs : List Bit). picture {P = plain} size bs 0) (split-source s k n (omega arith)) ∙ b .read in
-    let cut = beginning size (source s k) (drop k (source s n)) 0 p n (others-some s k n l (b .lent)) whole in
+    let cut = beginning size (source s k) (drop k (source s n)) p n (others-some s k n l (b .lent)) whole in
     (cut .0, reading-in size s k (omega (arith, b .lent)) (omega (arith, b .low)) ∙ cut .1, cut .2)
 
 pub every-longer : EveryLonger
@@ -220,4 +203,4 @@ every-longer size s n p e t m l lent low same =
     let b = in-bounds size s n p e in
     let first : picture {P = plain} size (source t n) 0 ≡ got p [] n = ap (λ (bs : List Bit). picture {P = plain} size bs 0) same ∙ b .read in
     reading-in size t m lent low ∙ ap (λ (bs : List Bit). picture {P = plain} size bs 0) (sym (split-source t n m (omega arith)))
-    ∙ longer size (source t n) (drop n (source t m)) 0 p n (others-some t n m l lent) first
+    ∙ longer size (source t n) (drop n (source t m)) p n (others-some t n m l lent) first

@@ -1,2 +1,3 @@
 pub mod ReadBack
 pub mod Verdict
+pub mod ListOfReads

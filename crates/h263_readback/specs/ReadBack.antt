@@ -16,6 +16,7 @@ use Rattle.h263_description.specs.Valid.{valid}
 use Rattle.h263_description.specs.Proper.{Proper}
 use Rattle.h263_layers.specs.Grammar.{ended, picture, reading}
 use Rattle.h263_writer.specs.Write.{pictureOf}
+use Rattle.h263_writer.specs.Output.{pictureBits}
 
 -- ---- a picture
 -- from any place, whatever follows: the picture that was written, and then the end, or 13 there
@@ -29,18 +30,14 @@ PictureReadBack = (size : Size) (p : Picture) (s : List ℕ) → Proper size p �
     → reading size s (length (pictureOf size p)) ≡ got p [] (length (pictureOf size p))
 
 -- ---- a description
--- the bits of the picture that it describes
-abbrev pub bitsOfDescription : Size → Flat → List Bit
-bitsOfDescription size d = pictureOf size (pictureIn size d)
-
 pub record ReadBack (size : Size) (d : Flat) (s : List ℕ) : Type 0 where
-  pub read : reading size s (length (bitsOfDescription size d)) ≡ got (pictureIn size d) [] (length (bitsOfDescription size d))
+  pub read : reading size s (length (pictureBits size d)) ≡ got (pictureIn size d) [] (length (pictureBits size d))
   pub laidOut : laidPicture size (pictureIn size d) ≡ d
 
 -- a valid description whose bits are not above the limit is read from any bytes that hold them first: its picture, laid out, is that very description, and all N bits are read
 abbrev pub ReadsBack : Type 0
-ReadsBack = (size : Size) (d : Flat) (s : List ℕ) → T (valid size d) → length (bitsOfDescription size d) ≤ limit size → Holds s (bitsOfDescription size d) → ReadBack size d s
+ReadsBack = (size : Size) (d : Flat) (s : List ℕ) → T (valid size d) → length (pictureBits size d) ≤ limit size → Holds s (pictureBits size d) → ReadBack size d s
 
 -- so two that are written alike are one; and since a picture's bits say where it ends, neither does one begin the other's bits
 abbrev pub WrittenOnce : Type 0
-WrittenOnce = (size : Size) (d e : Flat) (more : List Bit) → T (valid size d) → T (valid size e) → bitsOfDescription size d ++ more ≡ bitsOfDescription size e → (d ≡ e) × (more ≡ [])
+WrittenOnce = (size : Size) (d e : Flat) (more : List Bit) → T (valid size d) → T (valid size e) → pictureBits size d ++ more ≡ pictureBits size e → (d ≡ e) × (more ≡ [])

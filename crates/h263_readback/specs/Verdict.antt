@@ -30,11 +30,7 @@ use Rattle.h263_layers.specs.Grammar.{picture, reading}
 abbrev pub fromTo : ℕ → ℕ → Reason → Bool
 fromTo low high reason = both (within low high (number reason)) (opposite (eqb (number reason) 9))
 
--- the reasons that reading bits gives: numbers 3 to 8 and 10 to 14 of documents 01 and 02
-abbrev pub ofBits : Reason → Bool
-ofBits = fromTo 3 14
-
--- and those that reading a picture gives
+-- the reasons that reading a picture gives: numbers 2 to 8 and 10 to 14 of documents 01 and 02
 abbrev pub ofReading : Reason → Bool
 ofReading = fromTo 2 14
 

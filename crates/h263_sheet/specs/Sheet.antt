@@ -54,7 +54,7 @@ headedPicture = with-rows (row 0 ∷ row 0 ∷ row 0 ∷ row 1 ∷ replicate 5 (
 abbrev bitsIn : Picture → List Bit
 bitsIn p = pictureOf Qcif p
 
-abbrev bytesIn : Picture → List ℕ
+abbrev pub bytesIn : Picture → List ℕ
 bytesIn p = bytesOf (startedBytes (length (bitsIn p))) (bitsIn p)
 
 -- a plane of four samples in a corner

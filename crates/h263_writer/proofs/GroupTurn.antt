@@ -28,16 +28,16 @@ use Rattle.h263_description.specs.Vector.{inRange}
 use Rattle.h263_description.specs.Value.{numbersFrom, formatCode, pictureIn}
 use Rattle.h263_description.specs.Fields.{gquantOf, stands, pictureType, isIntraType}
 use Rattle.h263_description.specs.Valid.{validType, valid}
-use Rattle.h263_description.specs.Kept.{vectorsIn, BytesNear}
-use Rattle.h263_description.proofs.Groups.{numbers-count, numbers-at, some-across}
+use Rattle.h263_description.specs.Kept.{vectorsIn, firstVectors, BytesNear}
+use Rattle.h263_description.proofs.Groups.{numbers-count, numbers-at, some-across, down-most}
 use Rattle.h263_description.proofs.Parts.{ValidLists, valid-lists}
 use Rattle.h263_description.proofs.ValidAt.{gquant-at, type-is, quant-is, Fine, fine-at, still-vector}
 use Rattle.h263_writer.specs.Write.{rowOf, rowVectors, headOf, groupsOf, ptypeOf, pictureOf}
-use Rattle.h263_writer.specs.Sound.{firstVectors, SoundMacroblock, SoundPicture, rowBits, groupBits, groupsBits}
+use Rattle.h263_writer.specs.Sound.{SoundMacroblock, SoundPicture, rowBits, groupBits, groupsBits}
 use Rattle.h263_writer.specs.Asked.{RowAsked, GroupAsked, GroupsAsked}
 use Rattle.h263_writer.specs.Output.{pictureBits}
 use Rattle.h263_writer.proofs.RowTurn.{row-vectors}
-use Rattle.h263_writer.proofs.Longest.{down-most, picture-counts}
+use Rattle.h263_writer.proofs.Longest.{picture-counts}
 
 -- ---- a header
 module _ (number gquant : ℕ) {at : ℕ} {b : Bool} (e : b ≡ stands gquant) where

@@ -15,7 +15,6 @@ use Rattle.bits.specs.Appended.{CountablePlace}
 use Rattle.bits.proofs.Fields.{length-bitsOf}
 use Rattle.bits.proofs.Short.{pick-short, if-short, shortWords, word-short}
 use Rattle.size.specs.declared.Size.{Size}
-use Rattle.size.specs.declared.Size.the-variants.{SubQcif, Qcif, Cif}
 use Rattle.size.specs.Place.{macroblocksAcross, macroblocksDown}
 use Rattle.layout.specs.Value.{Coefficient, Vector, Block, Macroblock}
 use Rattle.layout.specs.Flat.{Flat, gather, gathers, macroblockIn, macroblocksIn, groupsIn}
@@ -26,7 +25,7 @@ use Rattle.h263_words.specs.Words.{isIntra, isInter, hasDQUANT, turned, dquantF
 use Rattle.h263_description.specs.Vector.{vectorsOf, predictor}
 use Rattle.h263_description.specs.Value.{groupNumbers, pictureIn}
 use Rattle.h263_description.specs.Fields.{stands, isIntraType}
-use Rattle.h263_description.proofs.Groups.{groups-listed}
+use Rattle.h263_description.proofs.Groups.{groups-listed, across-most, down-most}
 use Rattle.h263_writer.specs.Write.{eventsOf, eventsIn, dcOf, blockOf, blocksOf, patternOf, componentBits, vectorBits, mcbpcOf, macroblockOf, vectorAtHead, afterHead, bitsAtHead, rowOf, rowVectors, headOf, groupsOf, ptypeOf, pictureOf}
 use Rattle.h263_writer.specs.Output.{pictureBits}
 
@@ -201,16 +200,6 @@ groups-short across intra (number ∷ numbers) vectors (q ∷ qs) fields levels 
     )
 
 -- ---- a picture
-across-most : (size : Size) → macroblocksAcross size ≤ 22
-across-most SubQcif = omega arith
-across-most Qcif = omega arith
-across-most Cif = omega arith
-
-pub down-most : (size : Size) → macroblocksDown size ≤ 18
-down-most SubQcif = omega arith
-down-most Qcif = omega arith
-down-most Cif = omega arith
-
 pub picture-counts : (size : Size) (d : Flat) → CountablePlace 0 (pictureBits size d)
 unfolding pictureBits pictureOf pictureIn
 picture-counts size d =

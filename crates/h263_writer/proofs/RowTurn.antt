@@ -3,14 +3,13 @@ use mathlib.Core.Path.{_≡_, refl, sym, ap, ap₂, subst, _∙_}
 use mathlib.Core.Bool.{Bool, true, false}
 use mathlib.Core.Logic.{_⊎_, inl, inr}
 use mathlib.Core.List.{List, [], _∷_, _++_, append-assoc, append-nil}
-use Prim.Native.Nat.{ℕ, zero, suc, _+_, _-_, _*_, _%_, _≤_, _<_}
+use Prim.Native.Nat.{ℕ, zero, suc, _+_, _-_, _*_, _≤_, _<_}
 use native.Mathlib.Omega.{arith}
 use native.Mathlib.Nat.{pos-of-ne-zero, mod-eq-of-lt, mul-add-mod-self-right}
-use native.Mathlib.Numerals.{add-one}
 use borrow.Author.Tests.{eq-eqb, ne-eqb}
 use lib.Dec.{eqb}
-use lib.ListN.{length, getD, take, drop, length-append, List·getD-append}
-use lib.Seq.{drop-drop, getD-drop, getD-append-seam}
+use lib.ListN.{length, getD, take, drop}
+use lib.Seq.{drop-drop, getD-drop}
 use Rattle.laws.specs.Choice.{pick}
 use Rattle.laws.proofs.Rows.{lt-or-ge}
 use Rattle.bits.specs.Bits.{Bit, bitsOf}
@@ -22,42 +21,13 @@ use Rattle.layout.proofs.Levels.{gathers-take}
 use Rattle.layout.proofs.Gathered.{piece}
 use Rattle.layout.proofs.Sent.{macroblocks-sent, macroblocks-not}
 use Rattle.layout.proofs.Turns.{piece-length}
-use Rattle.h263_description.specs.Vector.{vectorsOf, predictor}
+use Rattle.h263_description.specs.Vector.{predictor}
 use Rattle.h263_description.specs.Fields.{stands}
-use Rattle.h263_description.specs.Kept.{vectorsIn, PredictorAsked}
-use Rattle.h263_description.proofs.Predictor.{predictor-same}
+use Rattle.h263_description.specs.Kept.{vectorsIn, firstVectors}
+use Rattle.h263_description.proofs.FirstVectors.{first-more, predictor-first}
 use Rattle.h263_writer.specs.Write.{macroblockOf, vectorAtHead, afterHead, bitsAtHead, rowOf, rowVectors}
-use Rattle.h263_writer.specs.Sound.{firstVectors, macroblockAt, SoundMacroblock, SoundPicture, rowBits}
+use Rattle.h263_writer.specs.Sound.{macroblockAt, SoundMacroblock, SoundPicture, rowBits}
 use Rattle.h263_writer.specs.Asked.{MacroblockAsked, RowAsked}
-
--- ---- the vectors so far
-first-more : (m : List ℕ) (n : ℕ) → firstVectors m n ++ (vectorsIn m n ∷ []) ≡ firstVectors m (n + 1)
-unfolding firstVectors
-first-more m n = rw (add-one n)
-
-first-long : (m : List ℕ) (n : ℕ) → length (firstVectors m n) ≡ n
-unfolding firstVectors
-first-long m zero = refl
-first-long m (suc n) = omega (arith, length-append (firstVectors m n) (vectorsIn m n ∷ []), first-long m n)
-
-first-at : (m : List ℕ) (n k : ℕ) → k < n → getD (firstVectors m n) k zeroVector ≡ vectorsIn m k
-unfolding firstVectors
-first-at m zero k l = absurd (omega arith)
-first-at m (suc n) k l = go (first-at m n k) (lt-or-ge k n)
-  where
-    go : (k < n → getD (firstVectors m n) k zeroVector ≡ vectorsIn m k) → (k < n) ⊎ (n ≤ k) → getD (firstVectors m n ++ (vectorsIn m n ∷ [])) k zeroVector ≡ vectorsIn m k
-    go before (inl h) = List·getD-append (firstVectors m n) (vectorsIn m n ∷ []) zeroVector k (omega (arith, first-long m n)) ∙ before h
-    go before (inr h) =
-        let at : k ≡ length (firstVectors m n) = omega (arith, first-long m n) in
-        let same : n ≡ k = omega arith in
-        ap (λ (j : ℕ). getD (firstVectors m n ++ (vectorsIn m n ∷ [])) j zeroVector) at ∙ getD-append-seam (firstVectors m n) (vectorsIn m n) [] zeroVector ∙ ap (vectorsIn m) same
-
--- so what predicts the next is what predicts it from the bytes
-predictor-is : (across : ℕ) (headed : Bool) (m : List ℕ) (n : ℕ) → 1 ≤ across
-    → predictor across headed (vectorsOf (firstVectors m n)) (length (firstVectors m n)) ≡ predictor across headed (vectorsIn m) n
-predictor-is across headed m n l =
-    ap (predictor across headed (vectorsOf (firstVectors m n))) (first-long m n)
-    ∙ predictor-same across l headed n (vectorsOf (firstVectors m n)) (vectorsIn m) (λ k h. first-at m n k h)
 
 -- ---- the next macroblock that is sent, at an address or after it
 NotAt : ℕ → List Macroblock → Type 0
@@ -167,7 +137,7 @@ module _ {count : ℕ} {intra : Bool} {macroblocks levels : List ℕ} (ok : Soun
           ++ rowOf l across intra gquant (address + 1) (firstVectors macroblocks (n + 1)) (from (n + 1) l (address + 1))
       unfolding rowOf
       row-step across gquant w =
-          λ i. bitsAtHead intra (predictor-is across (stands gquant) macroblocks n w i) address (from n (suc l) address) ++ rowOf l across intra gquant (address + 1) (vectors-are i) (after-is i)
+          λ i. bitsAtHead intra (predictor-first across (stands gquant) macroblocks n w i) address (from n (suc l) address) ++ rowOf l across intra gquant (address + 1) (vectors-are i) (after-is i)
 
       vectors-step : rowVectors (suc l) address (firstVectors macroblocks n) (from n (suc l) address) ≡ rowVectors l (address + 1) (firstVectors macroblocks (n + 1)) (from (n + 1) l (address + 1))
       unfolding rowVectors

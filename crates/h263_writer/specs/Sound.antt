@@ -7,13 +7,13 @@ use lib.Dec.{T}
 use lib.ListN.{length, getD, take, drop}
 use Rattle.laws.specs.Choice.{pick}
 use Rattle.bits.specs.Bits.{Bit}
-use Rattle.layout.specs.Value.{coefficient, Block, Vector, zeroVector, Macroblock}
+use Rattle.layout.specs.Value.{coefficient, Block, zeroVector, Macroblock}
 use Rattle.layout.specs.Flat.{gathers, macroblocksIn, groupsIn}
 use Rattle.layout.specs.Numbers.{isZero}
 use Rattle.h263_words.specs.Words.{hasDQUANT, isDQUANT, tcoefOf}
 use Rattle.h263_description.specs.Value.{numbersFrom}
 use Rattle.h263_description.specs.Valid.{validType, validLevels}
-use Rattle.h263_description.specs.Kept.{vectorsIn, BytesNear}
+use Rattle.h263_description.specs.Kept.{vectorsIn, firstVectors, BytesNear}
 use Rattle.h263_writer.specs.Write.{rowOf, headOf, groupsOf}
 
 -- a coefficient that waits for the next of its block, with its run: LAST is 0 on it. Level 0 is none
@@ -24,11 +24,6 @@ waitingBlock before (suc code) = coefficient before (suc code) ∷ []
 abbrev pub waitedBits : ℕ → ℕ → List Bit
 waitedBits before zero = []
 waitedBits before (suc code) = tcoefOf 0 (coefficient before (suc code))
-
--- the first n vectors that the bytes say
-unfoldable pub firstVectors : List ℕ → ℕ → List Vector
-firstVectors macroblocks zero = []
-firstVectors macroblocks (suc n) = firstVectors macroblocks n ++ vectorsIn macroblocks n ∷ []
 
 -- macroblock n, by its bytes and its 384 levels, at an address of its group
 abbrev pub macroblockAt : ℕ → List ℕ → ℕ → List ℕ → Macroblock

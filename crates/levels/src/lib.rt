@@ -1,7 +1,7 @@
 // Bytes of a description under the rules that both standards have: levels, DC codes, quantisers.
 ghost use mathlib.Core.Path.{_≡_};
 ghost use Prim.Native.Nat.{max};
-ghost use lib.ListN.{length};
+ghost use lib.ListN.{length, replicate};
 ghost use Rattle.layout.specs.Flat.{gather};
 ghost use Rattle.layout.specs.Pattern.{presenceOf};
 ghost use Rattle.layout.specs.Numbers.{all, isZero, isLevel, isQuantiser, codesFirst};
@@ -99,4 +99,15 @@ pub fn is_quantiser(byte: u8) -> bool
         return false;
     }
     byte <= 31
+}
+
+// Zeros over all of a buffer.
+pub fn clear(buffer: &mut [u8])
+    ensures { λ _. ⌜ now (buffer .exit) ≡ replicate (length (now (buffer .entry))) 0 ⌝ }
+{
+    let mut i: usize = 0;
+    while i < buffer.len() {
+        buffer[i] = 0;
+        i += 1;
+    }
 }

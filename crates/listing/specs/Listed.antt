@@ -5,8 +5,8 @@ use Rattle.laws.specs.Choice.{pick}
 use Rattle.refusals.specs.declared.Refusal.{Refusal}
 use Rattle.refusals.specs.Told.{Told, accepted, refusedBy, refused}
 use Rattle.coding.specs.declared.Kind.{Kind}
-use Rattle.coding.specs.Kind.{kindSize, codingOf}
-use Rattle.vault.specs.Block.{checkOf}
+use Rattle.coding.specs.Kind.{kindSize, kindStandard, codingOf}
+use Rattle.vault.specs.Block.{checkOf, sameStandard}
 use Rattle.vault.specs.declared.Header.{Header}
 use Rattle.standing.specs.declared.Receiver.{Receiver}
 use Rattle.standing.specs.Answered.{Said, said}
@@ -19,9 +19,9 @@ use Rattle.standing.specs.declared.Answer.the-variants as R
 use Rattle.standing.specs.Answered as A
 use Rattle.listing.specs.declared.Clip.the-variants as K
 
--- "takes the first block without 21 or 22 as the clip"
+-- "takes the first block without 21 or 22 as the clip", which has the standard of the kind, or is 5
 unfoldable pub openedBy : Kind → Told Header → Told Receiver
-openedBy kind (accepted header) = openedReceiver (header .clip) kind
+openedBy kind (accepted header) = pick (sameStandard (header .standard) (kindStandard kind)) (openedReceiver (header .clip) kind) (refused 5 0)
 openedBy kind (refusedBy numbers) = refusedBy numbers
 
 unfoldable pub foundBy : Kind → List ℕ → Told Receiver
@@ -49,7 +49,7 @@ unfoldable pub byOpened : Told Receiver → List ℕ → Buffers → Came
 byOpened (accepted r) block b = stepped (step codingOf r block b)
 byOpened (refusedBy numbers) block b = record { answer = A.refused numbers; next = K.Unknown; left = b }
 
--- "Blocks: 1, 21, 22, 23": of the lent buffers' lengths 1 comes first
+-- "Blocks: 1, 21, 22, 23", and 5: of the lent buffers' lengths 1 comes first
 unfoldable pub listed : Kind → Clip → List ℕ → Buffers → Came
 listed kind K.Unknown block b = byOpened (pick (lentLengths (kindSize kind) b) (foundBy kind block) (refused 1 0)) block b
 listed kind (K.Known r) block b = stepped (step codingOf r block b)

@@ -33,13 +33,24 @@ pub struct Listed {
 
 // ---- what a block comes to
 
-// A receiver for the block's clip, or 1, 21 or 22.
+// A receiver for the block's clip, or 1, 21 or 22, or 5 where the block's standard isn't the kind's.
 pub fn find(kind: Kind, block: &[u8]) -> Opened
     ensures { λ r. ⌜ toldOpened r ≡ foundBy kind (now (block .entry)) ⌝ }
 {
     let size = coding::size_of(kind);
     match vault::check(size, block) {
-        Checked::Good(header) => standing::open(header.clip, kind),
+        Checked::Good(header) => {
+            let said = header.standard;
+            let standard = coding::standard_of(kind);
+            if vault::same_standard(said, standard) {
+                standing::open(header.clip, kind)
+            } else {
+                Opened::Refused(Refusal {
+                    reason: Reason::OtherFormat,
+                    place: 0,
+                })
+            }
+        }
         Checked::Refused(why) => Opened::Refused(why),
     }
 }

@@ -16,6 +16,7 @@ use Rattle.size.specs.Size.{storeLength, collectionLength}
 use Rattle.coding.specs.declared.Kind.{Kind}
 use Rattle.coding.specs.Coding.{Coding}
 use Rattle.coding.specs.Kind.{kindSize}
+use Rattle.vault.specs.declared.Standard.{Standard}
 use Rattle.vault.specs.declared.Header.{Header}
 use Rattle.vault.specs.Block.{greatestPart, judgeOf}
 use Rattle.vault.proofs.Judged.{Sound, judged-good, good-sound}
@@ -29,10 +30,10 @@ greatest SubQcif part l = (omega arith, omega arith)
 greatest Qcif part l = (omega arith, omega arith)
 greatest Cif part l = (omega arith, omega arith)
 
-pub ready : {size : Size} (kind : Kind) (clip : ℕ) (header : Header) (block collection first second : List ℕ) → size ≡ kindSize kind
-    → namedLengths size (length collection) (length first) (length second) ≡ true → judgeOf size clip block ≡ accepted header → Ready kind header block collection first second
-ready {size} kind clip header block collection first second is l g =
-    let sound : Sound size block header = good-sound size block header (judged-good size clip block header g .0) in
+pub ready : {size : Size} (kind : Kind) (standard : Standard) (clip : ℕ) (header : Header) (block collection first second : List ℕ) → size ≡ kindSize kind
+    → namedLengths size (length collection) (length first) (length second) ≡ true → judgeOf size standard clip block ≡ accepted header → Ready kind header block collection first second
+ready {size} kind standard clip header block collection first second is l g =
+    let sound : Sound size block header = good-sound size block header (judged-good size standard clip block header g .0) in
     let longs = two-of (eqb (length collection) (collectionLength size)) _ l in
     let both-long = two-of (eqb (length first) (storeLength size)) (eqb (length second) (storeLength size)) (longs .1) in
     let c : length collection ≡ collectionLength size = eqb-true _ _ (longs .0) in

@@ -122,7 +122,8 @@ pub fn receive(
     let clip = receiver.clip;
     let size = coding::size_of(kind);
     if standing::named(size, collection.len(), first.len(), second.len()) {
-        let checked = vault::judge(size, clip, block);
+        let standard = coding::standard_of(kind);
+        let checked = vault::judge(size, standard, clip, block);
         match checked {
             Checked::Good(header) => act(receiver, header, block, collection, first, second),
             Checked::Refused(why) => standing::refuse(receiver, why),

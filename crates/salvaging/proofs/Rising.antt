@@ -12,7 +12,7 @@ use Rattle.refusals.specs.Told.{untabled, Told, accepted, refusedBy, refused}
 use Rattle.refusals.proofs.Told.{told-apart}
 use Rattle.coding.specs.declared.Kind.{Kind}
 use Rattle.coding.specs.Coding.{Coding}
-use Rattle.coding.specs.Kind.{kindSize}
+use Rattle.coding.specs.Kind.{kindSize, kindStandard}
 use Rattle.vault.specs.declared.Header.{Header}
 use Rattle.vault.specs.Block.{judgeOf}
 use Rattle.vault.specs.Parts.{placedPayload}
@@ -123,7 +123,7 @@ module _ {D : Type 0} (coding : Kind → Coding D) where
   -- of a good block: the lent buffers have their named lengths, and its header is within the rules
   pub record Good (r : Receiver) (block : List ℕ) (b : Buffers) (header : Header) : Type 0 where
     pub named : lentLengths (kindSize (r .kind)) b ≡ true
-    pub judged : judgeOf (kindSize (r .kind)) (r .clip) block ≡ accepted header
+    pub judged : judgeOf (kindSize (r .kind)) (kindStandard (r .kind)) (r .clip) block ≡ accepted header
     pub clip-is : header .clip ≡ r .clip
     pub sound : Sound (kindSize (r .kind)) block header
 
@@ -131,9 +131,9 @@ module _ {D : Type 0} (coding : Kind → Coding D) where
   unfolding judgedBlock
   judged-means r block b header e = go (lentLengths (kindSize (r .kind)) b) refl e
     where
-      go : (t : Bool) → lentLengths (kindSize (r .kind)) b ≡ t → pick t (judgeOf (kindSize (r .kind)) (r .clip) block) (refused 1 0) ≡ accepted header → Good r block b header
+      go : (t : Bool) → lentLengths (kindSize (r .kind)) b ≡ t → pick t (judgeOf (kindSize (r .kind)) (kindStandard (r .kind)) (r .clip) block) (refused 1 0) ≡ accepted header → Good r block b header
       go true f g =
-          let good = judged-good (kindSize (r .kind)) (r .clip) block header g in
+          let good = judged-good (kindSize (r .kind)) (kindStandard (r .kind)) (r .clip) block header g in
           record { named = f; judged = g; clip-is = good .1; sound = good-sound (kindSize (r .kind)) block header (good .0) }
       go false f g = absurd (told-apart (sym g))
 

@@ -15,8 +15,9 @@ use Rattle.size.specs.declared.Size.the-variants.{SubQcif, Qcif, Cif}
 use Rattle.size.specs.Size.{limit, storeLength, blocksLength}
 use Rattle.coding.specs.declared.Kind.{Kind}
 use Rattle.coding.specs.Coding.{Coding}
-use Rattle.coding.specs.Kind.{kindSize}
+use Rattle.coding.specs.Kind.{kindSize, kindStandard}
 use Rattle.coding.specs.Described.{bytesIn}
+use Rattle.vault.specs.declared.Standard.{Standard}
 use Rattle.vault.specs.Block.{pictures}
 use Rattle.vault.specs.Parts.{partCount, blocksOf}
 use Rattle.standing.specs.Stores.{Stores, reference, storesWith}
@@ -98,17 +99,17 @@ module _ {D : Type 0} (coding : Kind → Coding D) where
     came-refused h e = came e (ap (λ (y : Reply). record { gave = y; left = b }) h)
 
     -- the blocks in the output, the picture in a store, the next state
-    pub came-sent : {refreshed : Bool} {bytes out : List ℕ} {count blocks : ℕ} {after : Stores} {next : Sender} → Encoded coding s refreshed d b bytes count
-        → blocks ≡ partCount count → out ≡ blocksOf (s .clip) (s .picture) refreshed bytes count ++ drop (512 * partCount count) (b .out)
+    pub came-sent : {refreshed : Bool} {bytes out : List ℕ} {count blocks : ℕ} {standard : Standard} {after : Stores} {next : Sender} → Encoded coding s refreshed d b bytes count
+        → standard ≡ kindStandard (s .kind) → blocks ≡ partCount count → out ≡ blocksOf standard (s .clip) (s .picture) refreshed bytes count ++ drop (512 * partCount count) (b .out)
         → after ≡ storesWith (s .holder) (coding (s .kind) .render d (reference (s .holder) (b .both))) (b .both) → next ≡ nextSender s
         → record { gave = reply (accepted blocks) next; left = record { out = out; both = after } } ≡ cameTo coding s d b sends
     unfolding cameTo blocksSent
-    came-sent {refreshed} {bytes} {out} {count} {blocks} {after} {next} k n o w t =
+    came-sent {refreshed} {bytes} {out} {count} {blocks} {standard} {after} {next} k st n o w t =
         λ i. record {
           gave = reply (accepted ((n ∙ ap partCount (k .count-is)) i)) (t i);
           left = record { out = (o ∙ as-sent) i; both = w i };
         }
       where
-        as-sent : blocksOf (s .clip) (s .picture) refreshed bytes count ++ drop (512 * partCount count) (b .out)
+        as-sent : blocksOf standard (s .clip) (s .picture) refreshed bytes count ++ drop (512 * partCount count) (b .out)
             ≡ blocksSent coding s d ++ drop (512 * partCount (length (coding (s .kind) .written d))) (b .out)
-        as-sent = λ i. blocksOf (s .clip) (s .picture) (k .refresh-is i) (k .bytes-are i) (k .count-is i) ++ drop (512 * partCount (k .count-is i)) (b .out)
+        as-sent = λ i. blocksOf (st i) (s .clip) (s .picture) (k .refresh-is i) (k .bytes-are i) (k .count-is i) ++ drop (512 * partCount (k .count-is i)) (b .out)

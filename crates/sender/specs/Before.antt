@@ -10,8 +10,9 @@ use Rattle.refusals.specs.Told.{accepted}
 use Rattle.size.specs.Size.{limit}
 use Rattle.coding.specs.declared.Kind.{Kind}
 use Rattle.coding.specs.Coding.{Coding}
-use Rattle.coding.specs.Kind.{kindSize}
+use Rattle.coding.specs.Kind.{kindSize, kindStandard}
 use Rattle.coding.specs.Described.{bytesIn}
+use Rattle.vault.specs.declared.Standard.the-variants.{H261}
 use Rattle.vault.specs.Before.{picturesBefore, blocksBefore}
 use Rattle.standing.specs.Stores.{reference, storesWith}
 use Rattle.sender.specs.declared.Sender.{Sender}
@@ -46,6 +47,6 @@ module _ {D : Type 0} (coding : Kind → Coding D) where
   unfoldable pub stepBefore : Sender → D → Buffers → Outcome
   stepBefore s d b = cameToBefore s d b (judgeBefore s d b)
 
--- what a call answers, writes and keeps is what it did before
+-- what a call answers, writes and keeps for an H.261 clip is what it did before
 abbrev pub EarlierSentAlike : Type 1
-EarlierSentAlike = (D : Type 0) (coding : Kind → Coding D) (s : Sender) (d : D) (b : Buffers) → s .picture < picturesBefore → step coding s d b ≡ stepBefore coding s d b
+EarlierSentAlike = (D : Type 0) (coding : Kind → Coding D) (s : Sender) (d : D) (b : Buffers) → kindStandard (s .kind) ≡ H261 → s .picture < picturesBefore → step coding s d b ≡ stepBefore coding s d b

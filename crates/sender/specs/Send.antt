@@ -13,7 +13,7 @@ use Rattle.size.specs.declared.Size.{Size}
 use Rattle.size.specs.Size.{limit, blocksLength}
 use Rattle.coding.specs.declared.Kind.{Kind}
 use Rattle.coding.specs.Coding.{Coding}
-use Rattle.coding.specs.Kind.{kindSize}
+use Rattle.coding.specs.Kind.{kindSize, kindStandard}
 use Rattle.coding.specs.Described.{bytesIn}
 use Rattle.vault.specs.Block.{pictures}
 use Rattle.vault.specs.Parts.{partCount, blocksOf}
@@ -104,7 +104,7 @@ module _ {D : Type 0} (coding : Kind → Coding D) where
   unfoldable pub blocksSent : Sender → D → List ℕ
   blocksSent s d =
       let c = coding (s .kind) in
-      blocksOf (s .clip) (s .picture) (c .refresh d) (bytesIn (c .written d)) (length (c .written d))
+      blocksOf (kindStandard (s .kind)) (s .clip) (s .picture) (c .refresh d) (bytesIn (c .written d)) (length (c .written d))
 
   abbrev pub countSent : Sender → D → ℕ
   countSent s d = partCount (length (coding (s .kind) .written d))

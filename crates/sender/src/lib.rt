@@ -138,7 +138,10 @@ fn put(
 {
     let kind = sender.kind;
     let holder = sender.holder;
-    let blocks = vault::blocks(sender.clip, sender.picture, refresh, bytes, count, out);
+    let clip = sender.clip;
+    let picture = sender.picture;
+    let standard = coding::standard_of(kind);
+    let blocks = vault::blocks(standard, clip, picture, refresh, bytes, count, out);
     stores::keep(kind, holder, head, macroblocks, levels, first, second);
     let next = number_on(sender);
     Sent {

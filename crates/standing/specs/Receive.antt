@@ -10,7 +10,7 @@ use Rattle.size.specs.declared.Size.{Size}
 use Rattle.size.specs.Size.{collectionLength}
 use Rattle.coding.specs.declared.Kind.{Kind}
 use Rattle.coding.specs.Coding.{Coding}
-use Rattle.coding.specs.Kind.{kindSize}
+use Rattle.coding.specs.Kind.{kindSize, kindStandard}
 use Rattle.vault.specs.declared.Header.{Header}
 use Rattle.vault.specs.Block.{judgeOf}
 use Rattle.vault.specs.Parts.{placedPayload}
@@ -111,9 +111,9 @@ namedLengths size collection first second = both (eqb collection (collectionLeng
 abbrev pub lentLengths : Size → Buffers → Bool
 lentLengths size b = namedLengths size (length (b .collection)) (length (b .both .first)) (length (b .both .second))
 
--- "Blocks: 1, 21, 22, 23."
+-- "Blocks: 1, 21, 22, 23.", and then 5
 unfoldable pub judgedBlock : Receiver → List ℕ → Buffers → Told Header
-judgedBlock r block b = pick (lentLengths (kindSize (r .kind)) b) (judgeOf (kindSize (r .kind)) (r .clip) block) (refused 1 0)
+judgedBlock r block b = pick (lentLengths (kindSize (r .kind)) b) (judgeOf (kindSize (r .kind)) (kindStandard (r .kind)) (r .clip) block) (refused 1 0)
 
 module _ {D : Type 0} (coding : Kind → Coding D) where
   -- "A last part is read at once". Refusal 24: "accepted picture, untrue refresh mark"

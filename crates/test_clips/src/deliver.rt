@@ -15,7 +15,11 @@ fn was_read(answer: Answer) -> bool {
         Answer::Refused(why) => {
             let reason = why.reason;
             let number = refusals::number_of(reason);
-            2 <= number && number <= 13 || number == 24
+            // 5 at 0 is a block's
+            if number == 5 {
+                return 0 < why.place;
+            }
+            2 <= number && number <= 14 || number == 24
         }
         Answer::Old(_, _) => false,
         Answer::Taken(_, _) => false,

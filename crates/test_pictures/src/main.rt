@@ -1,10 +1,11 @@
 // Tests pictures drawn, written and read: `test_pictures render`, `test_pictures write` or `test_pictures pictures`.
 //
-// A record on standard input begins with the format (0 QCIF, 1 CIF), and has a line on standard output; src/render.rt, write.rt and pictures.rt say how both go on. Stops at
-// the end of the input, at a short record, at another format and at a length beyond the program's room.
+// A record on standard input begins with the kind (0 QCIF and 1 CIF of H.261, 2 sub-QCIF, 3 QCIF and 4 CIF of H.263), and has a line on standard output; src/render.rt,
+// write.rt and pictures.rt say how both go on. Stops at the end of the input, at a short record, at another kind and at a length beyond the program's room.
 use libc::STDERR_FILENO;
 ghost use Prim.Native.Nat.{_<_};
 
+mod kind;
 mod pictures;
 mod render;
 mod write;
@@ -35,14 +36,14 @@ fn case_named(word: &[u8]) -> Case {
 // One record, and whether to go on.
 fn one(case: Case, pattern: &[u8; 152064]) -> bool {
     let mut start = [0u8; 1];
-    if !checks::fills(&mut start) || 1 < start[0] {
+    if !checks::fills(&mut start) || 4 < start[0] {
         return false;
     }
-    let format = checks::format_of(start[0]);
+    let kind = kind::named(start[0]);
     match case {
-        Case::Render => render::one(format),
-        Case::Write => write::one(format),
-        Case::Pictures => pictures::one(format, pattern),
+        Case::Render => render::one(kind),
+        Case::Write => write::one(kind),
+        Case::Pictures => pictures::one(kind, pattern),
         Case::Other => false,
     }
 }

@@ -2,8 +2,10 @@
 // how many fields and codewords were read, "refused NUMBER at PLACE reads READS", "refused 8 at PLACE table TABLE reads READS", "refused 2 reads 0"; "two verdicts" where
 // reading and decoding disagree, and "a refusal that changed a buffer".
 use crate::BEFORE;
+use crate::kind;
+use crate::kind::Kind;
+use crate::render;
 use checks::part;
-use h261_groups::Format;
 use refusals::Refusal;
 use refusals::Verdict;
 
@@ -75,8 +77,36 @@ fn say_verdict(
     }
 }
 
+// What decoding says. Of H.263 the description that was read is drawn.
+fn decode(
+    kind: Kind,
+    verdict: Verdict,
+    bytes: &[u8],
+    count: usize,
+    head: &[u8],
+    macroblocks: &[u8],
+    levels: &[u8],
+    reference: &[u8],
+    store: &mut [u8],
+) -> Verdict {
+    match kind {
+        Kind::H261(format) => {
+            decoder::decode(bytes, count, coding::kind_of(format), reference, store)
+        }
+        Kind::H263(_) => {
+            match verdict {
+                Verdict::Accepted => {
+                    render::draws(kind, head, macroblocks, levels, reference, store);
+                }
+                Verdict::Refused(_) => {}
+            }
+            verdict
+        }
+    }
+}
+
 fn say(
-    format: Format,
+    kind: Kind,
     bytes: &[u8],
     count: usize,
     head: &mut [u8],
@@ -85,9 +115,19 @@ fn say(
     reference: &[u8],
     store: &mut [u8],
 ) {
-    let read = h261_reader::read(bytes, count, format, head, macroblocks, levels);
+    let read = kind::read(kind, bytes, count, head, macroblocks, levels);
     let verdict = read.verdict;
-    let decoded = decoder::decode(bytes, count, coding::kind_of(format), reference, store);
+    let decoded = decode(
+        kind,
+        verdict,
+        bytes,
+        count,
+        head,
+        macroblocks,
+        levels,
+        reference,
+        store,
+    );
     say_verdict(
         verdict,
         read.reads,
@@ -99,20 +139,20 @@ fn say(
     );
 }
 
-fn with_buffers(format: Format, bytes: &[u8], count: usize, pattern: &[u8; 152064]) {
-    let mut head = [BEFORE; 15];
+fn with_buffers(kind: Kind, bytes: &[u8], count: usize, pattern: &[u8; 152064]) {
+    let mut head = [BEFORE; 23];
     let mut macroblocks = [BEFORE; 1584];
     let mut levels = [BEFORE; 152064];
     let mut store = [BEFORE; 152064];
     let reference: &[u8] = pattern;
-    let heads = part(h261_groups::head_length(format), &head);
-    let fields = part(h261_groups::macroblocks_length(format), &macroblocks);
-    let coefficients = part(h261_groups::levels_length(format), &levels);
-    let length = size::store_length(h261_groups::size_of(format));
+    let heads = part(kind::head_length(kind), &head);
+    let fields = part(kind::macroblocks_length(kind), &macroblocks);
+    let coefficients = part(kind::levels_length(kind), &levels);
+    let length = kind::store_length(kind);
     let shown = part(length, reference);
     let samples = part(length, &store);
     say(
-        format,
+        kind,
         bytes,
         count,
         &mut head[..heads],
@@ -124,7 +164,7 @@ fn with_buffers(format: Format, bytes: &[u8], count: usize, pattern: &[u8; 15206
 }
 
 // The rest of a record, and whether to go on.
-pub fn one(format: Format, pattern: &[u8; 152064]) -> bool {
+pub fn one(kind: Kind, pattern: &[u8; 152064]) -> bool {
     let mut start = [0u8; 8];
     if !checks::fills(&mut start) {
         return false;
@@ -136,6 +176,6 @@ pub fn one(format: Format, pattern: &[u8; 152064]) -> bool {
         return false;
     }
     let whole = part(length, &bytes);
-    with_buffers(format, &bytes[..whole], count, pattern);
+    with_buffers(kind, &bytes[..whole], count, pattern);
     true
 }

@@ -1,9 +1,10 @@
 // Pictures written: a record goes on with the output's length in four bytes and the description. Every byte of the output is 165 before. Lines: "written N CHECK" and
 // "refused NUMBER CHECK" with the check of the output; "not read back" where reading N bits of it doesn't give the description again.
 use crate::BEFORE;
+use crate::kind;
+use crate::kind::Kind;
 use checks::Description;
 use checks::part;
-use h261_groups::Format;
 use refusals::Verdict;
 use refusals::Written;
 
@@ -11,7 +12,7 @@ use refusals::Written;
 fn gives(
     bytes: &[u8],
     count: usize,
-    format: Format,
+    kind: Kind,
     head: &[u8],
     macroblocks: &[u8],
     levels: &[u8],
@@ -19,14 +20,7 @@ fn gives(
     macroblocks_read: &mut [u8],
     levels_read: &mut [u8],
 ) -> bool {
-    let read = h261_reader::read(
-        bytes,
-        count,
-        format,
-        head_read,
-        macroblocks_read,
-        levels_read,
-    );
+    let read = kind::read(kind, bytes, count, head_read, macroblocks_read, levels_read);
     let verdict = read.verdict;
     match verdict {
         Verdict::Refused(_) => false,
@@ -41,21 +35,21 @@ fn gives(
 fn reads_back(
     bytes: &[u8],
     count: usize,
-    format: Format,
+    kind: Kind,
     head: &[u8],
     macroblocks: &[u8],
     levels: &[u8],
 ) -> bool {
-    let mut head_read = [0u8; 15];
+    let mut head_read = [0u8; 23];
     let mut macroblocks_read = [0u8; 1584];
     let mut levels_read = [0u8; 152064];
-    let heads = part(h261_groups::head_length(format), &head_read);
-    let fields = part(h261_groups::macroblocks_length(format), &macroblocks_read);
-    let coefficients = part(h261_groups::levels_length(format), &levels_read);
+    let heads = part(kind::head_length(kind), &head_read);
+    let fields = part(kind::macroblocks_length(kind), &macroblocks_read);
+    let coefficients = part(kind::levels_length(kind), &levels_read);
     gives(
         bytes,
         count,
-        format,
+        kind,
         head,
         macroblocks,
         levels,
@@ -65,11 +59,18 @@ fn reads_back(
     )
 }
 
-fn say(format: Format, head: &[u8], macroblocks: &[u8], levels: &[u8], out: &mut [u8]) {
-    let written = h261_writer::write(head, macroblocks, levels, format, out);
+fn written(kind: Kind, head: &[u8], macroblocks: &[u8], levels: &[u8], out: &mut [u8]) -> Written {
+    match kind {
+        Kind::H261(format) => h261_writer::write(head, macroblocks, levels, format, out),
+        Kind::H263(size) => h263_writer::write(head, macroblocks, levels, size, out),
+    }
+}
+
+fn say(kind: Kind, head: &[u8], macroblocks: &[u8], levels: &[u8], out: &mut [u8]) {
+    let written = written(kind, head, macroblocks, levels, out);
     match written {
         Written::Bits(count) => {
-            if reads_back(out, count, format, head, macroblocks, levels) {
+            if reads_back(out, count, kind, head, macroblocks, levels) {
                 checks::say(b"written");
                 checks::say_number(count as u64);
                 checks::say_check(out);
@@ -87,7 +88,7 @@ fn say(format: Format, head: &[u8], macroblocks: &[u8], levels: &[u8], out: &mut
 }
 
 // The rest of a record, and whether to go on.
-pub fn one(format: Format) -> bool {
+pub fn one(kind: Kind) -> bool {
     let mut start = [0u8; 4];
     if !checks::fills(&mut start) {
         return false;
@@ -109,7 +110,7 @@ pub fn one(format: Format) -> bool {
     let fielded = part(fields, &macroblocks);
     let levelled = part(coefficients, &levels);
     say(
-        format,
+        kind,
         &head[..headed],
         &macroblocks[..fielded],
         &levels[..levelled],

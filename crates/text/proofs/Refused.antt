@@ -18,14 +18,14 @@ pub below-three : (numbers : Numbers) {n : ℕ} → n ≡ numbers .number → n 
 unfolding atPlace
 below-three numbers e l =
     let low : numbers .number < 3 = omega (arith, e, l) in
-    sym (ap (λ (b : Bool). pick (both b (leb (numbers .number) 13)) (atWord ++ decimal (numbers .place) ++ ofTable (numbers .number) (numbers .table)) []) (lt-leb 3 (numbers .number) low))
+    sym (ap (λ (b : Bool). pick (both b (leb (numbers .number) 14)) (atWord ++ decimal (numbers .place) ++ ofTable (numbers .number) (numbers .table)) []) (lt-leb 3 (numbers .number) low))
 
-pub past-thirteen : (numbers : Numbers) {n : ℕ} → n ≡ numbers .number → 13 < n → [] ≡ atPlace numbers
+pub past-fourteen : (numbers : Numbers) {n : ℕ} → n ≡ numbers .number → 14 < n → [] ≡ atPlace numbers
 unfolding atPlace
-past-thirteen numbers e l =
-    let high : 13 < numbers .number = omega (arith, e, l) in
+past-fourteen numbers e l =
+    let high : 14 < numbers .number = omega (arith, e, l) in
     sym (ap (λ (b : Bool). pick b (atWord ++ decimal (numbers .place) ++ ofTable (numbers .number) (numbers .table)) [])
-    (second-no (leb 3 (numbers .number)) (leb (numbers .number) 13) (lt-leb (numbers .number) 13 high)))
+    (second-no (leb 3 (numbers .number)) (leb (numbers .number) 14) (lt-leb (numbers .number) 14 high)))
 
 -- a refusal with no place
 pub refused-plain : {n at middle end : ℕ} {out between left : List ℕ} (numbers : Numbers) → n ≡ numbers .number → [] ≡ atPlace numbers → middle ≤ length out
@@ -34,21 +34,21 @@ unfolding refusalText
 refused-plain {n} numbers e none room p q =
     puts-as (λ i. refusedWord ++ decimal (e i) ++ none i) (puts-none (puts-then p q room))
 
--- 3 to 13
-from-three : (numbers : Numbers) → 3 ≤ numbers .number → numbers .number ≤ 13 → atWord ++ decimal (numbers .place) ++ ofTable (numbers .number) (numbers .table) ≡ atPlace numbers
+-- 3 to 14
+from-three : (numbers : Numbers) → 3 ≤ numbers .number → numbers .number ≤ 14 → atWord ++ decimal (numbers .place) ++ ofTable (numbers .number) (numbers .table) ≡ atPlace numbers
 unfolding atPlace
 from-three numbers l m =
-    sym (λ i. pick (both (le-leb 3 (numbers .number) l i) (le-leb (numbers .number) 13 m i)) (atWord ++ decimal (numbers .place) ++ ofTable (numbers .number) (numbers .table)) [])
+    sym (λ i. pick (both (le-leb 3 (numbers .number) l i) (le-leb (numbers .number) 14 m i)) (atWord ++ decimal (numbers .place) ++ ofTable (numbers .number) (numbers .table)) [])
 
 -- a refusal with its place, and a table if it has one
 pub refused-at : {n table at a b c d end : ℕ} {out after-a after-b after-c after-d left : List ℕ} (numbers : Numbers) → n ≡ numbers .number → table ≡ numbers .table
-    → 3 ≤ n → n ≤ 13 → d ≤ length out
+    → 3 ≤ n → n ≤ 14 → d ≤ length out
     → Puts refusedWord at out after-a a → Puts (decimal n) a after-a after-b b → Puts atWord b after-b after-c c → Puts (decimal (numbers .place)) c after-c after-d d
     → Puts (ofTable n table) d after-d left end → Puts (refusalText numbers) at out left end
 unfolding refusalText
 refused-at {n} {table} {at} {a} {b} {c} {d} {end} {out} {after-a} {after-b} {after-c} {after-d} {left} numbers e f l m room-d p q r s t =
     let low : 3 ≤ numbers .number = omega (arith, e, l) in
-    let high : numbers .number ≤ 13 = omega (arith, e, m) in
+    let high : numbers .number ≤ 14 = omega (arith, e, m) in
     let room-c : c ≤ length out = omega (arith, s .end-is, room-d) in
     let room-b : b ≤ length out = omega (arith, r .end-is, room-c) in
     let room-a : a ≤ length out = omega (arith, q .end-is, room-b) in

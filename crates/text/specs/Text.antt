@@ -36,10 +36,10 @@ tableWord = 32 ∷ 116 ∷ 97 ∷ 98 ∷ 108 ∷ 101 ∷ 32 ∷ []
 unfoldable pub ofTable : ℕ → ℕ → List ℕ
 ofTable number table = pick (eqb number 8) (tableWord ++ decimal table) []
 
--- `"at" for refusals 3 to 13 only`
+-- `"at" for refusals 3 to 13 only`, and 14: "the lister prints its "at" too" (T-04)
 unfoldable pub atPlace : Numbers → List ℕ
 atPlace numbers =
-    pick (both (leb 3 (numbers .number)) (leb (numbers .number) 13)) (atWord ++ decimal (numbers .place) ++ ofTable (numbers .number) (numbers .table)) []
+    pick (both (leb 3 (numbers .number)) (leb (numbers .number) 14)) (atWord ++ decimal (numbers .place) ++ ofTable (numbers .number) (numbers .table)) []
 
 unfoldable pub refusalText : Numbers → List ℕ
 refusalText numbers = refusedWord ++ decimal (numbers .number) ++ atPlace numbers

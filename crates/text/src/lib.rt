@@ -74,7 +74,7 @@ pub fn put_refusal(why: Refusal, at: usize, out: &mut [u8]) -> usize
     if numbered < 3 {
         return told;
     }
-    if 13 < numbered {
+    if 14 < numbered {
         return told;
     }
     let placing = put(b" at ", told, out);

@@ -17,6 +17,7 @@ use Rattle.size.specs.declared.Size.{Size}
 use Rattle.size.specs.declared.Size.the-variants.{SubQcif, Qcif, Cif}
 use Rattle.size.specs.Size.{limit}
 use Rattle.refusals.specs.Told.{accepted}
+use Rattle.vault.specs.declared.Standard.{Standard}
 use Rattle.vault.specs.Block.{unused, unusedClear, pictures, greatestPart, headerRuled, payloadOf, checkOf, judgeOf}
 use Rattle.vault.specs.Parts.{partCount, usedAt, keptByte, payloadAt, headerAt, blockAt, firstBlocks, placedPayload}
 use Rattle.vault.proofs.Clear.{clear-all}
@@ -43,10 +44,10 @@ full-or-last false used h = eq-eqb used 4000 (h refl)
 started : (count part : ℕ) → part < partCount count → 4000 * part < count
 started count part l = omega arith
 
-module _ (clip picture : ℕ) (refresh : Bool) (bytes : List ℕ) (count : ℕ) where
+module _ (standard : Standard) (clip picture : ℕ) (refresh : Bool) (bytes : List ℕ) (count : ℕ) where
   -- ---- each block is good
   module _ (size : Size) {part : ℕ} (p : Part size clip picture count part) where
-    header-ruled : headerRuled size (headerAt clip picture refresh count part) ≡ true
+    header-ruled : headerRuled size (headerAt standard clip picture refresh count part) ≡ true
     unfolding headerRuled
     header-ruled =
         both-true (le-leb 1 clip (p .clip-is))
@@ -74,46 +75,46 @@ module _ (clip picture : ℕ) (refresh : Bool) (bytes : List ℕ) (count : ℕ) 
         same j l = omega (arith, started count part (p .part-is))
 
     -- judged good, with its own header
-    at-good : checkOf size (blockAt clip picture refresh bytes count part) ≡ accepted (headerAt clip picture refresh count part)
+    at-good : checkOf size (blockAt standard clip picture refresh bytes count part) ≡ accepted (headerAt standard clip picture refresh count part)
     unfolding blockAt
     at-good =
-        made-good size (headerAt clip picture refresh count part) (payloadAt bytes count part) (payload-length bytes count part) header-ruled
+        made-good size (headerAt standard clip picture refresh count part) (payloadAt bytes count part) (payload-length bytes count part) header-ruled
         payload-clear
 
-    judged-good-at : judgeOf size clip (blockAt clip picture refresh bytes count part) ≡ accepted (headerAt clip picture refresh count part)
+    judged-good-at : judgeOf size standard clip (blockAt standard clip picture refresh bytes count part) ≡ accepted (headerAt standard clip picture refresh count part)
     judged-good-at =
-        good-judged size (blockAt clip picture refresh bytes count part) (headerAt clip picture refresh count part) at-good
+        good-judged size (blockAt standard clip picture refresh bytes count part) (headerAt standard clip picture refresh count part) at-good
 
-  pub at-payload : (part : ℕ) → payloadOf (blockAt clip picture refresh bytes count part) ≡ payloadAt bytes count part
+  pub at-payload : (part : ℕ) → payloadOf (blockAt standard clip picture refresh bytes count part) ≡ payloadAt bytes count part
   unfolding blockAt
-  at-payload part = made-payload (headerAt clip picture refresh count part) (payloadAt bytes count part) (payload-length bytes count part)
+  at-payload part = made-payload (headerAt standard clip picture refresh count part) (payloadAt bytes count part) (payload-length bytes count part)
 
   -- the last part says how many bits the picture has
-  pub count-back : (part : ℕ) → 1 ≤ count → part + 1 ≡ partCount count → 4000 * part + headerAt clip picture refresh count part .used ≡ count
+  pub count-back : (part : ℕ) → 1 ≤ count → part + 1 ≡ partCount count → 4000 * part + headerAt standard clip picture refresh count part .used ≡ count
   count-back part l e = omega arith
 
   -- ---- block k of the blocks, whatever follows them
   pub nth : (n part : ℕ) (rest : List ℕ) → part < n
-      → take 512 (drop (512 * part) (firstBlocks clip picture refresh bytes count n ++ rest)) ≡ blockAt clip picture refresh bytes count part
+      → take 512 (drop (512 * part) (firstBlocks standard clip picture refresh bytes count n ++ rest)) ≡ blockAt standard clip picture refresh bytes count part
   unfolding firstBlocks
   nth zero part rest l = absurd (not-suc-le-zero l)
   nth (suc n) part rest l =
       ap (λ (s : List ℕ). take 512 (drop (512 * part) s))
-      (append-assoc (firstBlocks clip picture refresh bytes count n) (blockAt clip picture refresh bytes count n) rest)
-      ∙ ⊎-elim last (λ s. nth n part (blockAt clip picture refresh bytes count n ++ rest) s) (eq-or-lt-of-le (le-of-suc-le-suc l))
+      (append-assoc (firstBlocks standard clip picture refresh bytes count n) (blockAt standard clip picture refresh bytes count n) rest)
+      ∙ ⊎-elim last (λ s. nth n part (blockAt standard clip picture refresh bytes count n ++ rest) s) (eq-or-lt-of-le (le-of-suc-le-suc l))
     where
       last : part ≡ n
-          → take 512 (drop (512 * part) (firstBlocks clip picture refresh bytes count n ++ (blockAt clip picture refresh bytes count n ++ rest)))
-          ≡ blockAt clip picture refresh bytes count part
+          → take 512 (drop (512 * part) (firstBlocks standard clip picture refresh bytes count n ++ (blockAt standard clip picture refresh bytes count n ++ rest)))
+          ≡ blockAt standard clip picture refresh bytes count part
       last e =
           ap (take 512)
-          (ap (λ (k : ℕ). drop (512 * k) (firstBlocks clip picture refresh bytes count n ++ (blockAt clip picture refresh bytes count n ++ rest))) e
-          ∙ drop-at (firstBlocks clip picture refresh bytes count n) _ (512 * n) (first-length clip picture refresh bytes count n))
-          ∙ take-at (blockAt clip picture refresh bytes count n) rest 512 (at-length clip picture refresh bytes count n)
-          ∙ ap (blockAt clip picture refresh bytes count) (sym e)
+          (ap (λ (k : ℕ). drop (512 * k) (firstBlocks standard clip picture refresh bytes count n ++ (blockAt standard clip picture refresh bytes count n ++ rest))) e
+          ∙ drop-at (firstBlocks standard clip picture refresh bytes count n) _ (512 * n) (first-length standard clip picture refresh bytes count n))
+          ∙ take-at (blockAt standard clip picture refresh bytes count n) rest 512 (at-length standard clip picture refresh bytes count n)
+          ∙ ap (blockAt standard clip picture refresh bytes count) (sym e)
 
 pub at-judged : BlocksJudged
-at-judged clip picture refresh bytes count size part p = judged-good-at clip picture refresh bytes count size p
+at-judged standard clip picture refresh bytes count size part p = judged-good-at standard clip picture refresh bytes count size p
 
 pub placed-length : (block : List ℕ) (part : ℕ) (collection : List ℕ) → length block ≡ 512 → 500 * part + 500 ≤ length collection
     → length (placedPayload block part collection) ≡ length collection

@@ -7,20 +7,21 @@ use native.Mathlib.Numerals.{add-one}
 use native.Mathlib.Omega.{arith}
 use lib.ListN.{length, take, drop, length-append}
 use lib.Seq.{take-at, drop-at, drop-drop}
+use Rattle.vault.specs.declared.Standard.{Standard}
 use Rattle.vault.specs.Parts.{payloadAt, headerAt, blockAt, firstBlocks}
 use Rattle.vault.proofs.KeptLaws.{payload-length}
 use Rattle.vault.proofs.Made.{block-length}
 
-module _ (clip picture : ℕ) (refresh : Bool) (bytes : List ℕ) (count : ℕ) where
+module _ (standard : Standard) (clip picture : ℕ) (refresh : Bool) (bytes : List ℕ) (count : ℕ) where
   abbrev at : ℕ → List ℕ
-  at part = blockAt clip picture refresh bytes count part
+  at part = blockAt standard clip picture refresh bytes count part
 
   abbrev first : ℕ → List ℕ
-  first n = firstBlocks clip picture refresh bytes count n
+  first n = firstBlocks standard clip picture refresh bytes count n
 
   pub at-length : (part : ℕ) → length (at part) ≡ 512
   unfolding blockAt
-  at-length part = block-length (headerAt clip picture refresh count part) (payloadAt bytes count part) (payload-length bytes count part)
+  at-length part = block-length (headerAt standard clip picture refresh count part) (payloadAt bytes count part) (payload-length bytes count part)
 
   pub first-length : (n : ℕ) → length (first n) ≡ 512 * n
   unfolding firstBlocks

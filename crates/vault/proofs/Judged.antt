@@ -15,9 +15,11 @@ use Rattle.laws.proofs.Splice.{getD-past}
 use Rattle.size.specs.declared.Size.{Size}
 use Rattle.refusals.specs.Told.{Told, accepted, refusedBy, refused}
 use Rattle.refusals.proofs.Told.{accepted-once, told-apart, refused-once}
+use Rattle.vault.specs.declared.Standard.{Standard}
+use Rattle.vault.specs.declared.Standard.the-variants.{H261, H263}
 use Rattle.vault.specs.declared.Header.{Header}
 use Rattle.vault.specs.declared.Checked.the-variants.{Good, Refused}
-use Rattle.vault.specs.Block.{twoBytes, pairAt, pictureOf, headerOf, payloadOf, zeroOf, checkSumOf, marksOf, pictures, greatestPart, clipRule, pictureRule, partRule, refreshRule, usedRule, headerRuled, unusedClear, fieldsFollow, sumOf, CheckedToldOnce, checkOf, ofClip, judgeOf, bit, headBytes, endBytes, bodyFor, blockFor}
+use Rattle.vault.specs.Block.{twoBytes, pairAt, pictureOf, headerOf, payloadOf, zeroOf, checkSumOf, marksOf, standardBit, standardIn, pictures, greatestPart, clipRule, pictureRule, partRule, refreshRule, usedRule, headerRuled, unusedClear, fieldsFollow, sumOf, CheckedToldOnce, checkOf, ofClip, sameStandard, ofStandard, judgeOf, bit, standardMark, marksFor, headBytes, endBytes, bodyFor, blockFor}
 use Rattle.vault.proofs.Made.{before-end, body-length, block-length, sum-body}
 
 -- ---- a block that was made
@@ -29,23 +31,22 @@ pair-back n = omega arith
 pub number-back : (n : ℕ) → 65536 * (n / 65536) + (256 * (n % 65536 / 256) + n % 65536 % 256) ≡ n
 number-back n = omega arith
 
-last-back : (last refresh : Bool) → eqb ((bit last + 2 * bit refresh) % 2) 1 ≡ last
-last-back true true = refl
-last-back true false = refl
-last-back false true = refl
-last-back false false = refl
+-- what marks are made of, read back
+record MarksBack (standard : Standard) (last refresh : Bool) (marks : ℕ) : Type 0 where
+  standard-back : standardIn (standardBit marks) ≡ standard
+  last-back : eqb (marks % 2) 1 ≡ last
+  refresh-back : eqb (marks / 2 % 2) 1 ≡ refresh
+  three-marks : leb marks 7 ≡ true
 
-refresh-back : (last refresh : Bool) → eqb ((bit last + 2 * bit refresh) / 2 % 2) 1 ≡ refresh
-refresh-back true true = refl
-refresh-back true false = refl
-refresh-back false true = refl
-refresh-back false false = refl
-
-two-marks : (last refresh : Bool) → leb (bit last + 2 * bit refresh) 3 ≡ true
-two-marks true true = refl
-two-marks true false = refl
-two-marks false true = refl
-two-marks false false = refl
+marks-back : (standard : Standard) (last refresh : Bool) → MarksBack standard last refresh (standardMark standard + (bit last + 2 * bit refresh))
+marks-back H261 true true = record { standard-back = refl; last-back = refl; refresh-back = refl; three-marks = refl }
+marks-back H261 true false = record { standard-back = refl; last-back = refl; refresh-back = refl; three-marks = refl }
+marks-back H261 false true = record { standard-back = refl; last-back = refl; refresh-back = refl; three-marks = refl }
+marks-back H261 false false = record { standard-back = refl; last-back = refl; refresh-back = refl; three-marks = refl }
+marks-back H263 true true = record { standard-back = refl; last-back = refl; refresh-back = refl; three-marks = refl }
+marks-back H263 true false = record { standard-back = refl; last-back = refl; refresh-back = refl; three-marks = refl }
+marks-back H263 false true = record { standard-back = refl; last-back = refl; refresh-back = refl; three-marks = refl }
+marks-back H263 false false = record { standard-back = refl; last-back = refl; refresh-back = refl; three-marks = refl }
 
 module _ (header : Header) (payload : List ℕ) (e : length payload ≡ 500) where
   abbrev made : List ℕ
@@ -65,20 +66,24 @@ module _ (header : Header) (payload : List ℕ) (e : length payload ≡ 500) whe
   unfolding blockFor bodyFor
   made-picture = ap (λ (high : ℕ). 65536 * high + pairAt made 2) (made-end 0) ∙ number-back (header .picture)
 
+  marked : MarksBack (header .standard) (header .last) (header .refresh) (marksFor header)
+  marked = marks-back (header .standard) (header .last) (header .refresh)
+
   pub made-header : headerOf made ≡ header
   unfolding blockFor bodyFor
   made-header = λ i. record {
+    standard = marked .standard-back i;
     clip = pair-back (header .clip) i;
     picture = made-picture i;
     part = header .part;
-    last = last-back (header .last) (header .refresh) i;
-    refresh = refresh-back (header .last) (header .refresh) i;
+    last = marked .last-back i;
+    refresh = marked .refresh-back i;
     used = pair-back (header .used) i;
   }
 
-  made-marks : leb (marksOf made) 3 ≡ true
+  made-marks : leb (marksOf made) 7 ≡ true
   unfolding blockFor bodyFor
-  made-marks = two-marks (header .last) (header .refresh)
+  made-marks = marked .three-marks
 
   pub made-payload : payloadOf made ≡ payload
   unfolding blockFor bodyFor
@@ -171,23 +176,45 @@ good-sound size block header e =
     rules-of size block header (eqb-true (length block) 512 (long .0)) same
     (ap (headerRuled size) (sym same) ∙ two-of (headerRuled size (headerOf block)) _ (rules .0) .0)
 
--- ---- of one clip
-own-clip : (clip : ℕ) (found : Told Header) (header : Header) → ofClip clip found ≡ accepted header → (found ≡ accepted header) × (header .clip ≡ clip)
+-- ---- of one clip, which has a standard
+pub own-clip : (clip : ℕ) (found : Told Header) (header : Header) → ofClip clip found ≡ accepted header → (found ≡ accepted header) × (header .clip ≡ clip)
 own-clip clip (accepted found) header e =
     let same = good-of (eqb (found .clip) clip) (accepted found) _ header e in
     (same .1, sym (ap (λ (h : Header). h .clip) (accepted-once (same .1))) ∙ eqb-true (found .clip) clip (same .0))
 own-clip clip (refusedBy numbers) header e = absurd (told-apart (sym e))
 
-pub judged-good : (size : Size) (clip : ℕ) (block : List ℕ) (header : Header) → judgeOf size clip block ≡ accepted header
+same-is : (a b : Standard) → sameStandard a b ≡ true → a ≡ b
+same-is H261 H261 e = refl
+same-is H261 H263 e = absurd (false≢true e)
+same-is H263 H261 e = absurd (false≢true e)
+same-is H263 H263 e = refl
+
+pub same-so : (a b : Standard) → a ≡ b → sameStandard a b ≡ true
+same-so a b e = ap (λ (s : Standard). sameStandard s b) e ∙ self b
+  where
+    self : (s : Standard) → sameStandard s s ≡ true
+    self H261 = refl
+    self H263 = refl
+
+pub own-standard : (standard : Standard) (found : Told Header) (header : Header) → ofStandard standard found ≡ accepted header → (found ≡ accepted header) × (header .standard ≡ standard)
+own-standard standard (accepted found) header e =
+    let same = good-of (sameStandard (found .standard) standard) (accepted found) _ header e in
+    (same .1, sym (ap (λ (h : Header). h .standard) (accepted-once (same .1))) ∙ same-is (found .standard) standard (same .0))
+own-standard standard (refusedBy numbers) header e = absurd (told-apart (sym e))
+
+pub judged-good : (size : Size) (standard : Standard) (clip : ℕ) (block : List ℕ) (header : Header) → judgeOf size standard clip block ≡ accepted header
     → (checkOf size block ≡ accepted header) × (header .clip ≡ clip)
 unfolding judgeOf
-judged-good size clip block header e = own-clip clip (checkOf size block) header e
+judged-good size standard clip block header e = own-clip clip (checkOf size block) header (own-standard standard (ofClip clip (checkOf size block)) header e .0)
+
+pub good-of-clip : (size : Size) (block : List ℕ) (header : Header) → checkOf size block ≡ accepted header → ofClip (header .clip) (checkOf size block) ≡ accepted header
+good-of-clip size block header e = ap (ofClip (header .clip)) e ∙ rw (eq-eqb (header .clip) (header .clip) refl)
 
 pub good-judged : (size : Size) (block : List ℕ) (header : Header) → checkOf size block ≡ accepted header
-    → judgeOf size (header .clip) block ≡ accepted header
+    → judgeOf size (header .standard) (header .clip) block ≡ accepted header
 unfolding judgeOf
 good-judged size block header e =
-    ap (ofClip (header .clip)) e ∙ rw (eq-eqb (header .clip) (header .clip) refl)
+    ap (ofStandard (header .standard)) (good-of-clip size block header e) ∙ rw (same-so (header .standard) (header .standard) refl)
 
 -- ---- an answer is one that is told as it is
 pub checked-told-once : CheckedToldOnce

@@ -6,3 +6,4 @@ pub mod Judged
 pub mod KeptLaws
 pub mod Made
 pub mod Renewed
+pub mod Standards

@@ -13,7 +13,7 @@ use Rattle.laws.proofs.Splice.{sets-after, getD-past}
 use Rattle.size.specs.declared.Size.{Size}
 use Rattle.refusals.proofs.Told.{accepted-once}
 use Rattle.vault.specs.declared.Header.{Header}
-use Rattle.vault.specs.Block.{twoBytes, pairAt, pictureOf, headerOf, payloadOf, checkSumOf, marksOf, usedOf, pictures, clipRule, pictureRule, headerRuled, unusedClear, fieldsFollow, sumOf, checkOf, marksFor, endBytes, bodyFor, blockFor}
+use Rattle.vault.specs.Block.{twoBytes, pairAt, pictureOf, headerOf, payloadOf, checkSumOf, marksOf, standardBit, standardIn, usedOf, pictures, clipRule, pictureRule, headerRuled, unusedClear, fieldsFollow, sumOf, checkOf, marksFor, endBytes, bodyFor, blockFor}
 use Rattle.vault.specs.Renewed.{renewedBody, renewedBlock, renewedHeader, RenewedGood, RenewedAgain, RenewedSame}
 use Rattle.vault.proofs.Made.{weighted-append}
 use Rattle.vault.proofs.Judged.{pair-back, number-back, both-true, passed, good-of, good-judged}
@@ -139,6 +139,7 @@ module _ (clip picture : ℕ) (block : List ℕ) where
 
     header-made : headerOf made ≡ renewedHeader clip picture (headerOf block)
     header-made = λ i. record {
+      standard = standardIn (standardBit (marks-kept i));
       clip = clip-made i;
       picture = picture-made i;
       part = kept-byte 0 (omega arith) i;
@@ -164,10 +165,10 @@ fields-made : (size : Size) (clip picture : ℕ) (block : List ℕ) → length b
 unfolding fieldsFollow
 fields-made size clip picture block long c p f =
     let ruled = two-of (headerRuled size (headerOf block)) _ f in
-    let marks = two-of (leb (marksOf block) 3) _ (ruled .1) in
+    let marks = two-of (leb (marksOf block) 7) _ (ruled .1) in
     let clear = two-of (unusedClear (usedOf block) (payloadOf block) 500) _ (marks .1) in
     both-true (ap (headerRuled size) (header-made clip picture block long) ∙ ruled-so size clip picture (headerOf block) c p (ruled .0))
-    (both-true (ap (λ (m : ℕ). leb m 3) (marks-kept clip picture block long) ∙ marks .0)
+    (both-true (ap (λ (m : ℕ). leb m 7) (marks-kept clip picture block long) ∙ marks .0)
     (both-true ((λ i. unusedClear (used-kept clip picture block long i) (payload-kept clip picture block long i) 500) ∙ clear .0)
     (ap (λ (z : ℕ). eqb z 0) (end-byte clip picture block long 1))))
 

@@ -1,5 +1,5 @@
--- Document 01, "A block of 512 bytes", with the picture numbers of document 02, T-08: its fields and their rules, the check sum, judging a block and making one. A block is
--- its list of bytes.
+-- Document 01, "A block of 512 bytes", with the picture numbers of document 02, T-08, and the standard's mark of T-04: its fields and their rules, the check sum, judging a
+-- block and making one. A block is its list of bytes.
 -- Assumes nothing.
 use Prim.Native.Nat.{ℕ, zero, suc, _+_, _-_, _*_, _/_, _%_, _^_, min}
 use mathlib.Core.Path.{_≡_}
@@ -11,6 +11,8 @@ use Rattle.laws.specs.Choice.{pick, both, either, opposite}
 use Rattle.size.specs.declared.Size.{Size}
 use Rattle.size.specs.declared.Size.the-variants.{SubQcif, Qcif, Cif}
 use Rattle.refusals.specs.Told.{numbersOf, Told, accepted, refusedBy, refused}
+use Rattle.vault.specs.declared.Standard.{Standard}
+use Rattle.vault.specs.declared.Standard.the-variants.{H261, H263}
 use Rattle.vault.specs.declared.Header.{Header}
 use Rattle.vault.specs.declared.Checked.{Checked}
 use Rattle.vault.specs.declared.Checked.the-variants.{Good, Refused}
@@ -45,6 +47,17 @@ lastOf block = eqb (marksOf block % 2) 1
 abbrev pub refreshOf : List ℕ → Bool
 refreshOf block = eqb (marksOf block / 2 % 2) 1
 
+-- document 02, T-04: "Marks bit 2 says H.263"
+abbrev pub standardBit : ℕ → Bool
+standardBit marks = eqb (marks / 4 % 2) 1
+
+abbrev pub standardIn : Bool → Standard
+standardIn true = H263
+standardIn false = H261
+
+abbrev pub standardOf : List ℕ → Standard
+standardOf block = standardIn (standardBit (marksOf block))
+
 -- "6-7 bits used"
 abbrev pub usedOf : List ℕ → ℕ
 usedOf block = pairAt block 6
@@ -63,6 +76,7 @@ checkSumOf block = pairAt block 510
 
 abbrev pub headerOf : List ℕ → Header
 headerOf block = record {
+  standard = standardOf block;
   clip = clipOf block;
   picture = pictureOf block;
   part = partOf block;
@@ -113,11 +127,11 @@ unfoldable pub unusedClear : ℕ → List ℕ → ℕ → Bool
 unusedClear used payload zero = true
 unusedClear used payload (suc n) = both (unusedClear used payload n) (eqb (getD payload n 0 % 2 ^ unused used n) 0)
 
--- every field follows its rule; of the marks "the rest zero"
+-- every field follows its rule; of the marks, with bit 2, "the rest zero"
 unfoldable pub fieldsFollow : Size → List ℕ → Bool
 fieldsFollow size block =
     both (headerRuled size (headerOf block))
-    (both (leb (marksOf block) 3) (both (unusedClear (usedOf block) (payloadOf block) 500) (eqb (zeroOf block) 0)))
+    (both (leb (marksOf block) 7) (both (unusedClear (usedOf block) (payloadOf block) 500) (eqb (zeroOf block) 0)))
 
 -- ---- the check sum
 -- the sum of (i+1) times byte i over the first n bytes
@@ -129,7 +143,7 @@ weighted block (suc n) = weighted block n + suc n * getD block n 0
 abbrev pub sumOf : List ℕ → ℕ
 sumOf block = weighted block 510 % 65521
 
--- ---- judging: "Blocks: 1, 21, 22, 23."
+-- ---- judging: "Blocks: 1, 21, 22, 23.", and then 5
 -- what is answered: the header, or the refusal's number and place
 abbrev pub toldChecked : Checked → Told Header
 toldChecked (Good header) = accepted header
@@ -151,17 +165,37 @@ abbrev pub ofClip : ℕ → Told Header → Told Header
 ofClip clip (accepted header) = pick (eqb (header .clip) clip) (accepted header) (refused 23 0)
 ofClip clip (refusedBy numbers) = refusedBy numbers
 
--- the same for a receiver of one clip
-unfoldable pub judgeOf : Size → ℕ → List ℕ → Told Header
-judgeOf size clip block = ofClip clip (checkOf size block)
+-- document 02, T-04: "a block of the other standard is 5 (place 0, after 23)"
+abbrev pub sameStandard : Standard → Standard → Bool
+sameStandard H261 H261 = true
+sameStandard H261 H263 = false
+sameStandard H263 H261 = false
+sameStandard H263 H263 = true
+
+abbrev pub ofStandard : Standard → Told Header → Told Header
+ofStandard standard (accepted header) = pick (sameStandard (header .standard) standard) (accepted header) (refused 5 0)
+ofStandard standard (refusedBy numbers) = refusedBy numbers
+
+-- the same for a receiver of one clip, which has a standard
+unfoldable pub judgeOf : Size → Standard → ℕ → List ℕ → Told Header
+judgeOf size standard clip block = ofStandard standard (ofClip clip (checkOf size block))
 
 -- ---- making a block of a header and a payload
 abbrev pub bit : Bool → ℕ
 bit true = 1
 bit false = 0
 
+-- bits 0 and 1
+abbrev pub lowMarks : Header → ℕ
+lowMarks header = bit (header .last) + 2 * bit (header .refresh)
+
+-- bit 2
+abbrev pub standardMark : Standard → ℕ
+standardMark H261 = 0
+standardMark H263 = 4
+
 abbrev pub marksFor : Header → ℕ
-marksFor header = bit (header .last) + 2 * bit (header .refresh)
+marksFor header = standardMark (header .standard) + lowMarks header
 
 -- bytes 0 to 7
 abbrev pub headBytes : Header → List ℕ

@@ -8,6 +8,7 @@ use Rattle.laws.specs.Row.{row}
 use Rattle.size.specs.declared.Size.{Size}
 use Rattle.size.specs.Size.{limit}
 use Rattle.refusals.specs.Told.{accepted}
+use Rattle.vault.specs.declared.Standard.{Standard}
 use Rattle.vault.specs.Block.{pictures, unused, judgeOf}
 use Rattle.vault.specs.Parts.{partCount, keptByte, headerAt, blockAt}
 
@@ -19,8 +20,8 @@ pub record Part (size : Size) (clip picture count part : ℕ) : Type 0 where
   pub part-is : part < partCount count
 
 abbrev pub BlocksJudged : Type 0
-BlocksJudged = (clip picture : ℕ) (refresh : Bool) (bytes : List ℕ) (count : ℕ) (size : Size) (part : ℕ) → Part size clip picture count part
-    → judgeOf size clip (blockAt clip picture refresh bytes count part) ≡ accepted (headerAt clip picture refresh count part)
+BlocksJudged = (standard : Standard) (clip picture : ℕ) (refresh : Bool) (bytes : List ℕ) (count : ℕ) (size : Size) (part : ℕ) → Part size clip picture count part
+    → judgeOf size standard clip (blockAt standard clip picture refresh bytes count part) ≡ accepted (headerAt standard clip picture refresh count part)
 
 -- ---- what a receiver has collected
 -- the payloads of the first n parts stand at the start of a collection

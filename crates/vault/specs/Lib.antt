@@ -2,4 +2,5 @@ pub mod Block
 pub mod Parts
 pub mod Collected
 pub mod Before
+pub mod Standards
 pub mod Renewed

@@ -7,6 +7,7 @@ use lib.ListN.{length, getD, take, drop}
 use lib.Dec.{eqb}
 use Rattle.laws.specs.Choice.{both}
 use Rattle.laws.specs.Row.{row}
+use Rattle.vault.specs.declared.Standard.{Standard}
 use Rattle.vault.specs.declared.Header.{Header}
 use Rattle.vault.specs.Block.{unused, pictures, payloadOf, blockFor}
 
@@ -25,9 +26,10 @@ keptByte bytes count i = getD bytes i 0 / 2 ^ unused count i * 2 ^ unused count 
 unfoldable pub payloadAt : List ℕ → ℕ → ℕ → List ℕ
 payloadAt bytes count part = row 500 (λ j. keptByte bytes count (500 * part + j))
 
--- a part's header: the last part is marked, and part 0 of a refresh picture
-abbrev pub headerAt : ℕ → ℕ → Bool → ℕ → ℕ → Header
-headerAt clip picture refresh count part = record {
+-- a part's header: the last part is marked, part 0 of a refresh picture, and the standard on every part
+abbrev pub headerAt : Standard → ℕ → ℕ → Bool → ℕ → ℕ → Header
+headerAt standard clip picture refresh count part = record {
+  standard = standard;
   clip = clip;
   picture = picture;
   part = part;
@@ -36,17 +38,17 @@ headerAt clip picture refresh count part = record {
   used = usedAt count part;
 }
 
-unfoldable pub blockAt : ℕ → ℕ → Bool → List ℕ → ℕ → ℕ → List ℕ
-blockAt clip picture refresh bytes count part = blockFor (headerAt clip picture refresh count part) (payloadAt bytes count part)
+unfoldable pub blockAt : Standard → ℕ → ℕ → Bool → List ℕ → ℕ → ℕ → List ℕ
+blockAt standard clip picture refresh bytes count part = blockFor (headerAt standard clip picture refresh count part) (payloadAt bytes count part)
 
 -- the first n blocks, one after another
-unfoldable pub firstBlocks : ℕ → ℕ → Bool → List ℕ → ℕ → ℕ → List ℕ
-firstBlocks clip picture refresh bytes count zero = []
-firstBlocks clip picture refresh bytes count (suc n) = firstBlocks clip picture refresh bytes count n ++ blockAt clip picture refresh bytes count n
+unfoldable pub firstBlocks : Standard → ℕ → ℕ → Bool → List ℕ → ℕ → ℕ → List ℕ
+firstBlocks standard clip picture refresh bytes count zero = []
+firstBlocks standard clip picture refresh bytes count (suc n) = firstBlocks standard clip picture refresh bytes count n ++ blockAt standard clip picture refresh bytes count n
 
 -- all blocks of a picture
-abbrev pub blocksOf : ℕ → ℕ → Bool → List ℕ → ℕ → List ℕ
-blocksOf clip picture refresh bytes count = firstBlocks clip picture refresh bytes count (partCount count)
+abbrev pub blocksOf : Standard → ℕ → ℕ → Bool → List ℕ → ℕ → List ℕ
+blocksOf standard clip picture refresh bytes count = firstBlocks standard clip picture refresh bytes count (partCount count)
 
 -- ---- what cutting a picture asks for
 -- a part of a picture of so many bits

@@ -20,6 +20,7 @@ renewedBlock clip picture block = renewedBody clip picture block ++ twoBytes (su
 
 abbrev pub renewedHeader : ℕ → ℕ → Header → Header
 renewedHeader clip picture header = record {
+  standard = header .standard;
   clip = clip;
   picture = picture;
   part = header .part;
@@ -30,7 +31,7 @@ renewedHeader clip picture header = record {
 
 -- a good block is a good block of the other clip, with the same payload
 pub record RenewedAs (size : Size) (clip picture : ℕ) (block : List ℕ) (header : Header) : Type 0 where
-  pub judged : judgeOf size clip (renewedBlock clip picture block) ≡ accepted (renewedHeader clip picture header)
+  pub judged : judgeOf size (header .standard) clip (renewedBlock clip picture block) ≡ accepted (renewedHeader clip picture header)
   pub payload : payloadOf (renewedBlock clip picture block) ≡ payloadOf block
 
 abbrev pub RenewedGood : Type 0

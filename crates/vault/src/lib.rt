@@ -10,12 +10,19 @@ ghost use lib.ListN.{length, drop};
 ghost use lib.Seq.{sets, paste};
 ghost use Rattle.laws.specs.Choice.{both};
 ghost use Rattle.refusals.specs.Number.{refusal};
-ghost use Rattle.vault.specs.Block.{pairAt, pictureOf, headerOf, pictures, greatestPart, refreshRule, usedRule, headerRuled as ruledOf, unused, unusedClear, payloadOf, fieldsFollow as followsOf, sumOf, toldChecked, checkOf, judgeOf, marksFor, headBytes, twoBytes, blockFor};
+ghost use Rattle.vault.specs.Block.{pairAt, pictureOf, headerOf, pictures, greatestPart, refreshRule, usedRule, headerRuled as ruledOf, unused, unusedClear, payloadOf, fieldsFollow as followsOf, sumOf, toldChecked, checkOf, ofClip, sameStandard, judgeOf, standardBit, standardIn, standardMark, lowMarks, marksFor, headBytes, twoBytes, blockFor};
 ghost use Rattle.vault.specs.Renewed.{renewedBlock};
 ghost use Rattle.vault.specs.Parts.{partCount, usedAt, keptByte, payloadAt, headerAt, blocksOf, PartIn, PayloadRoom, BlocksRoom, placedPayload};
 
+// What a clip's pictures are coded by.
+pub enum Standard {
+    H261,
+    H263,
+}
+
 // What a block says before its payload.
 pub struct Header {
+    pub standard: Standard,
     pub clip: u16,
     pub picture: u32,
     pub part: u8,
@@ -50,12 +57,24 @@ fn picture_of(block: &[u8]) -> u32
     65536 * (block[508] as u32) + pair(block, 2) as u32
 }
 
+// Bit 2 of the marks says H.263.
+fn standard_in(marks: u8) -> Standard
+    ensures { λ r. ⌜ r ≡ standardIn (standardBit marks) ⌝ }
+{
+    if marks / 4 % 2 == 1 {
+        return Standard::H263;
+    }
+    Standard::H261
+}
+
 fn header_of(block: &[u8]) -> Header
     requires { ⌜ length (now block) ≡ 512 ⌝ }
     ensures { λ r. ⌜ r ≡ headerOf (now (block .entry)) ⌝ }
 {
     let marks = block[5];
+    let standard = standard_in(marks);
     Header {
+        standard,
         clip: pair(block, 0),
         picture: picture_of(block),
         part: block[4],
@@ -172,7 +191,7 @@ fn follows(size: Size, header: Header, block: &[u8]) -> bool
     if !ruled(size, header) {
         return false;
     }
-    if 3 < block[5] {
+    if 7 < block[5] {
         return false;
     }
     if !unused_zero(block, header.used as usize) {
@@ -209,8 +228,8 @@ pub fn check(size: Size, block: &[u8]) -> Checked
 }
 
 // 1, 21, 22, 23, or the header of a block of this clip.
-pub fn judge(size: Size, clip: u16, block: &[u8]) -> Checked
-    ensures { λ r. ⌜ toldChecked r ≡ judgeOf size clip (now (block .entry)) ⌝ }
+fn of_clip(size: Size, clip: u16, block: &[u8]) -> Checked
+    ensures { λ r. ⌜ toldChecked r ≡ ofClip clip (checkOf size (now (block .entry))) ⌝ }
 {
     match check(size, block) {
         Checked::Good(header) => {
@@ -224,10 +243,52 @@ pub fn judge(size: Size, clip: u16, block: &[u8]) -> Checked
     }
 }
 
+pub fn same_standard(a: Standard, b: Standard) -> bool
+    ensures { λ r. ⌜ r ≡ sameStandard a b ⌝ }
+{
+    match a {
+        Standard::H261 => match b {
+            Standard::H261 => true,
+            Standard::H263 => false,
+        },
+        Standard::H263 => match b {
+            Standard::H261 => false,
+            Standard::H263 => true,
+        },
+    }
+}
+
+// 1, 21, 22, 23, 5, or the header of a block of this clip, which has this standard.
+pub fn judge(size: Size, standard: Standard, clip: u16, block: &[u8]) -> Checked
+    ensures { λ r. ⌜ toldChecked r ≡ judgeOf size standard clip (now (block .entry)) ⌝ }
+{
+    match of_clip(size, clip, block) {
+        Checked::Good(header) => {
+            let said = header.standard;
+            if same_standard(said, standard) {
+                Checked::Good(header)
+            } else {
+                refused(Reason::OtherFormat)
+            }
+        }
+        Checked::Refused(refusal) => Checked::Refused(refusal),
+    }
+}
+
 // ---- making blocks
 
-fn marks(header: Header) -> u8
-    ensures { λ r. ⌜ r ≡ marksFor header ⌝ }
+fn standard_mark(standard: Standard) -> u8
+    ensures { λ r. ⌜ r ≡ standardMark standard ⌝ }
+{
+    match standard {
+        Standard::H261 => 0,
+        Standard::H263 => 4,
+    }
+}
+
+// The marks of the last part and of a refresh.
+fn low_marks(header: Header) -> u8
+    ensures { λ r. ⌜ r ≡ lowMarks header ⌝ }
 {
     if header.last {
         if header.refresh {
@@ -239,6 +300,13 @@ fn marks(header: Header) -> u8
         return 2;
     }
     0
+}
+
+fn marks(header: Header) -> u8
+    ensures { λ r. ⌜ r ≡ marksFor header ⌝ }
+{
+    let standard = header.standard;
+    standard_mark(standard) + low_marks(header)
 }
 
 fn write_head(header: Header, block: &mut [u8])
@@ -352,12 +420,20 @@ fn used_at(count: usize, part: usize) -> u16
     4000
 }
 
-fn header_at(clip: u16, picture: u32, refresh: bool, count: usize, part: usize) -> Header
+fn header_at(
+    standard: Standard,
+    clip: u16,
+    picture: u32,
+    refresh: bool,
+    count: usize,
+    part: usize,
+) -> Header
     requires { ⌜ PartIn count part ⌝ }
-    ensures { λ r. ⌜ r ≡ headerAt clip picture refresh count part ⌝ }
+    ensures { λ r. ⌜ r ≡ headerAt standard clip picture refresh count part ⌝ }
 {
     let parts = part_count(count);
     Header {
+        standard,
         clip,
         picture,
         part: part as u8,
@@ -369,6 +445,7 @@ fn header_at(clip: u16, picture: u32, refresh: bool, count: usize, part: usize) 
 
 // All blocks of a picture of `count` bits, from the start of `out` on, and how many they are.
 pub fn blocks(
+    standard: Standard,
     clip: u16,
     picture: u32,
     refresh: bool,
@@ -378,14 +455,14 @@ pub fn blocks(
 ) -> usize
     requires { ⌜ BlocksRoom picture (now bytes) count (now out) ⌝ }
     ensures { λ r. ⌜ r ≡ partCount count ⌝ }
-    ensures { λ _. ⌜ now (out .exit) ≡ blocksOf clip picture refresh (now (bytes .entry)) count ++ drop (512 * partCount count) (now (out .entry)) ⌝ }
+    ensures { λ _. ⌜ now (out .exit) ≡ blocksOf standard clip picture refresh (now (bytes .entry)) count ++ drop (512 * partCount count) (now (out .entry)) ⌝ }
 {
     let parts = part_count(count);
     let mut part: usize = 0;
     while part < parts {
         let at = 512 * part;
         let end = at + 512;
-        let header = header_at(clip, picture, refresh, count, part);
+        let header = header_at(standard, clip, picture, refresh, count, part);
         write_block(header, bytes, count, &mut out[at..end]);
         part += 1;
     }

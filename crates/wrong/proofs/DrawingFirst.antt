@@ -24,6 +24,7 @@ use Rattle.coding.specs.declared.Kind.the-variants.{H261Qcif}
 use Rattle.coding.specs.Kind.{kindSize, codingOf}
 use Rattle.coding.specs.Described.{bytesIn}
 use Rattle.coding.proofs.H261.{coding-lawful}
+use Rattle.vault.specs.declared.Standard.the-variants.{H261}
 use Rattle.vault.specs.declared.Header.{Header}
 use Rattle.vault.specs.Block.{headerOf}
 use Rattle.vault.specs.Parts.{partCount, payloadAt, headerAt, blockAt, placedPayload}
@@ -55,10 +56,10 @@ abbrev count : ℕ
 count = length bits
 
 abbrev block : List ℕ
-block = blockAt 1 0 true (bytesIn bits) count 0
+block = blockAt H261 1 0 true (bytesIn bits) count 0
 
 abbrev head : Header
-head = headerAt 1 0 true count 0
+head = headerAt H261 1 0 true count 0
 
 one-part : partCount count ≡ 1
 one-part = let l : count ≡ 110 = first-long in omega arith
@@ -106,19 +107,19 @@ after = placedPayload block 0 (lent .collection)
 -- ---- it is read
 collected : Collected (bytesIn bits) count 1 after
 collected =
-    collected-more (bytesIn bits) count block 0 (lent .collection) (at-payload 1 0 true (bytesIn bits) count 0) (omega (arith, all-long (collectionLength (sizeOf Qcif)) 0))
+    collected-more (bytesIn bits) count block 0 (lent .collection) (at-payload H261 1 0 true (bytesIn bits) count 0) (omega (arith, all-long (collectionLength (sizeOf Qcif)) 0))
     (collected-none (bytesIn bits) count (lent .collection))
 
 holds : Holds after bits
 holds =
     let long : length after ≡ collectionLength (sizeOf Qcif) =
-    placed-length block 0 (lent .collection) (at-length 1 0 true (bytesIn bits) count 0) (omega (arith, all-long (collectionLength (sizeOf Qcif)) 0)) ∙ all-long (collectionLength (sizeOf Qcif)) 0 in
+    placed-length block 0 (lent .collection) (at-length H261 1 0 true (bytesIn bits) count 0) (omega (arith, all-long (collectionLength (sizeOf Qcif)) 0)) ∙ all-long (collectionLength (sizeOf Qcif)) 0 in
     collected-holds bits after (omega (arith, long, one-part)) (subst (λ (n : ℕ). Collected (bytesIn bits) count n after) (sym one-part) collected)
 
 read-first : codingOf H261Qcif .read after (countOf head) ≡ accepted first
 unfolding codingOf
 read-first =
-    ap (codingOf H261Qcif .read after) (count-back 1 0 true (bytesIn bits) count 0 (omega (arith, first-long)) (sym one-part))
+    ap (codingOf H261Qcif .read after) (count-back H261 1 0 true (bytesIn bits) count 0 (omega (arith, first-long)) (sym one-part))
     ∙ coding-lawful .each H261Qcif .reads first after (T-true (valid Qcif first) first-valid) first-below holds
 
 no-refresh : codingOf H261Qcif .refresh first ≡ false
@@ -128,9 +129,9 @@ no-refresh = refl
 -- ---- 24 is due
 good : firstOf (blockRules receiver block lent) ≡ accepted tt
 good =
-    ap (λ (z : Bool). firstOf (when 1 (opposite z) ∷ judgeRules (sizeOf Qcif) 1 block)) lent-named
-    ∙ sym (value-verdict (headerOf block) (firstOf (judgeRules (sizeOf Qcif) 1 block)))
-    ∙ ap verdictOn (sym (judge-is (sizeOf Qcif) 1 block) ∙ at-judged 1 0 true (bytesIn bits) count (sizeOf Qcif) 0 part-0)
+    ap (λ (z : Bool). firstOf (when 1 (opposite z) ∷ judgeRules (sizeOf Qcif) H261 1 block)) lent-named
+    ∙ sym (value-verdict (headerOf block) (firstOf (judgeRules (sizeOf Qcif) H261 1 block)))
+    ∙ ap verdictOn (sym (judge-is (sizeOf Qcif) H261 1 block) ∙ at-judged H261 1 0 true (bytesIn bits) count (sizeOf Qcif) 0 part-0)
 
 -- by the header
 abbrev taken : Header → Bool

@@ -1,21 +1,42 @@
-//! Blocks as the programs see them that don't know H.263 yet: there its mark is against the rules, 22, and
-//! here byte 509 makes it so.
+//! QCIF's blocks as the programs see them that open no H.263 clip yet: a good block of that standard is 5 to
+//! them while no clip is known, and opens none.
 
-use reference::block::{check_sum, seal, BLOCK_LENGTH};
+use reference::block::{Block, BLOCK_LENGTH};
+use reference::kind::{Size, Standard};
+use reference::lister;
 
-/// The same blocks, but for those that bear the mark under a right sum.
-pub fn h263(input: &[u8]) -> Vec<u8> {
-    input.chunks(BLOCK_LENGTH).flat_map(one).collect()
+/// The numbers of the blocks that would open an H.263 clip.
+fn unopened(input: &[u8]) -> Vec<usize> {
+    let mut numbers = Vec::new();
+    for (number, bytes) in input.chunks(BLOCK_LENGTH).enumerate() {
+        match Block::judge(bytes, Size::Qcif) {
+            Ok(block) if block.standard == Standard::H261 => break,
+            Ok(_) => numbers.push(number),
+            Err(_) => {}
+        }
+    }
+    numbers
 }
 
-fn one(bytes: &[u8]) -> Vec<u8> {
-    let Ok(mut block) = <[u8; BLOCK_LENGTH]>::try_from(bytes) else {
-        return bytes.to_vec();
-    };
-    let has_mark = block[5] & 4 != 0;
-    if has_mark && block[BLOCK_LENGTH - 2..] == check_sum(&block).to_be_bytes() {
-        block[509] = 1;
-        seal(&mut block);
+/// The same blocks, but for those: their sum is wrong.
+pub fn h263(input: &[u8]) -> Vec<u8> {
+    let mut blocks = input.to_vec();
+    for number in unopened(input) {
+        blocks[BLOCK_LENGTH * number + BLOCK_LENGTH - 1] ^= 1;
     }
-    block.to_vec()
+    blocks
+}
+
+/// What the lister says of them: each of those is 5.
+pub fn list(input: &[u8]) -> String {
+    let unopened = unopened(input);
+    let listed = lister::list(Size::Qcif, &h263(input));
+    let line = |(number, line): (usize, &str)| {
+        if unopened.contains(&number) {
+            format!("{number} refused 5 at 0\n")
+        } else {
+            format!("{line}\n")
+        }
+    };
+    listed.lines().enumerate().map(line).collect()
 }

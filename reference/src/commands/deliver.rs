@@ -21,9 +21,6 @@ use super::made::Made;
 /// What every byte of the buffers holds before a session: collection, first store, second store.
 const BEFORE: [u8; 3] = [51, 17, 34];
 
-/// What the receiver is given of a block.
-type See = fn(&[u8]) -> Vec<u8>;
-
 struct Call {
     /// Which buffer is lent without its last byte: 0 none, 1 collection, 2 first store, 3 second store.
     length_kind: u8,
@@ -46,7 +43,7 @@ pub fn make(seed: u64, count: usize) -> Made {
         expected: Vec::new(),
     };
     for kind in Format::ALL.map(Kind::from) {
-        fixed_sessions(&mut made, &mut random, kind, super::before::h263);
+        fixed_sessions(&mut made, &mut random, kind);
     }
     for number in 0..count {
         let kind = Kind::from(if number % 8 == 7 {
@@ -57,7 +54,7 @@ pub fn make(seed: u64, count: usize) -> Made {
         let clip = random.between(1, 65_535) as u16;
         let honesties = [Honesty::Honest, Honesty::Forged];
         let calls = random_calls(&mut random, kind, clip, &honesties);
-        session(&mut made, kind, clip, &calls, super::before::h263);
+        session(&mut made, kind, clip, &calls);
     }
     made
 }
@@ -71,14 +68,14 @@ pub fn make_of_both(seed: u64, count: usize) -> Made {
     };
     for kind in Kind::ALL {
         if kind.standard() == Standard::H263 {
-            fixed_sessions(&mut made, &mut random, kind, <[u8]>::to_vec);
+            fixed_sessions(&mut made, &mut random, kind);
         }
         for calls in of_both_standards(&mut random, kind) {
-            session(&mut made, kind, 7, &calls, <[u8]>::to_vec);
+            session(&mut made, kind, 7, &calls);
         }
     }
     for calls in in_one_part() {
-        session(&mut made, SUB_QCIF, 7, &calls, <[u8]>::to_vec);
+        session(&mut made, SUB_QCIF, 7, &calls);
     }
     for number in 0..count {
         // CIF is rare.
@@ -86,20 +83,20 @@ pub fn make_of_both(seed: u64, count: usize) -> Made {
         let clip = random.between(1, 65_535) as u16;
         let honesties = [Honesty::Honest, Honesty::Forged, Honesty::Mixed];
         let calls = random_calls(&mut random, kind, clip, &honesties);
-        session(&mut made, kind, clip, &calls, <[u8]>::to_vec);
+        session(&mut made, kind, clip, &calls);
     }
     made
 }
 
 /// What is the same at every seed but for the pictures' contents.
-fn fixed_sessions(made: &mut Made, random: &mut Random, kind: Kind, see: See) {
-    session(made, kind, 0, &[], see);
+fn fixed_sessions(made: &mut Made, random: &mut Random, kind: Kind) {
+    session(made, kind, 0, &[]);
     for calls in hand_made(random, kind) {
-        session(made, kind, 7, &calls, see);
+        session(made, kind, 7, &calls);
     }
     let edges = clips::edge_blocks(kind, 7);
     let calls: Vec<Call> = edges.iter().map(|block| Call::of(block.to_vec())).collect();
-    session(made, kind, 7, &calls, see);
+    session(made, kind, 7, &calls);
 }
 
 /// What is expected of these sessions, as `make` writes them.
@@ -126,7 +123,7 @@ pub fn expected(input: &[u8]) -> Option<Vec<u8>> {
             });
             rest = after;
         }
-        session(&mut made, kind, clip, &calls, <[u8]>::to_vec);
+        session(&mut made, kind, clip, &calls);
     }
     Some(made.expected)
 }
@@ -439,7 +436,7 @@ fn more_parts(kind: Kind, is_last: bool, used: usize) -> Vec<Vec<u8>> {
         .collect()
 }
 
-fn session(made: &mut Made, kind: Kind, clip: u16, calls: &[Call], see: See) {
+fn session(made: &mut Made, kind: Kind, clip: u16, calls: &[Call]) {
     made.input.push(kind.number());
     super::put16(&mut made.input, usize::from(clip));
     super::put32(&mut made.input, calls.len());
@@ -467,7 +464,7 @@ fn session(made: &mut Made, kind: Kind, clip: u16, calls: &[Call], see: See) {
             first: &mut first[..first_length],
             second: &mut second[..second_length],
         };
-        let (answer, read) = receiver.receive_counting(&see(&call.block), &mut lent);
+        let (answer, read) = receiver.receive_counting(&call.block, &mut lent);
         let shown = match receiver.shown(&answer) {
             Some(Which::First) => "first",
             Some(Which::Second) => "second",

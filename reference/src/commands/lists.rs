@@ -7,7 +7,6 @@ use reference::clips::{self, Honesty};
 use reference::description::{Description, INTRA};
 use reference::format::Format;
 use reference::kind::{Kind, Standard};
-use reference::lister::list;
 use reference::random::Random;
 use reference::writer::{self, Plain};
 
@@ -37,7 +36,7 @@ pub fn files(seed: u64, count: usize) -> Vec<File> {
         .into_iter()
         .enumerate()
         .flat_map(|(number, input)| {
-            let expected = list(Format::Qcif, &super::before::h263(&input)).into_bytes();
+            let expected = super::before::list(&input).into_bytes();
             [
                 (format!("list-{number}.input"), input),
                 (format!("list-{number}.expected"), expected),

@@ -51,7 +51,7 @@ pub fn written(kind: Kind, old: u16, new: u16, list: &[u8]) -> Written {
     }
 }
 
-/// H.261's clips, as programs see them that don't know H.263 yet.
+/// H.261's clips.
 pub fn files(seed: u64, count: usize) -> Vec<File> {
     let mut random = Random::new(seed);
     let mut cases = fixed(&mut random, Format::Qcif.into());
@@ -65,7 +65,7 @@ pub fn files(seed: u64, count: usize) -> Vec<File> {
         let honesties = [Honesty::Honest, Honesty::Forged];
         cases.push(any(&mut random, kind.into(), &honesties));
     }
-    named("salvage", cases, super::before::h263)
+    named("salvage", cases)
 }
 
 /// Clips of all five kinds, with blocks of the other standard between.
@@ -82,11 +82,11 @@ pub fn files_of_both(seed: u64, count: usize) -> Vec<File> {
         let honesties = [Honesty::Honest, Honesty::Forged, Honesty::Mixed];
         cases.push(any(&mut random, kind, &honesties));
     }
-    named("h263-salvage", cases, <[u8]>::to_vec)
+    named("h263-salvage", cases)
 }
 
 /// For each N: NAME-N.input, the list; .words, how the program is called; .expected, the new clip; .log.
-fn named(name: &str, cases: Vec<Case>, see: fn(&[u8]) -> Vec<u8>) -> Vec<File> {
+fn named(name: &str, cases: Vec<Case>) -> Vec<File> {
     let mut files = Vec::new();
     for (number, case) in cases.into_iter().enumerate() {
         let Case {
@@ -95,7 +95,7 @@ fn named(name: &str, cases: Vec<Case>, see: fn(&[u8]) -> Vec<u8>) -> Vec<File> {
             new,
             list,
         } = case;
-        let written = written(kind, old, new, &see(&list));
+        let written = written(kind, old, new, &list);
         let words = format!("{} {old} {new}\n", kind.name());
         files.extend([
             (format!("{name}-{number}.input"), list),

@@ -9,20 +9,36 @@ use Rattle.counting.proofs.ended_after.Tie as tie
 
 ended-by-requires : tie.Need-ended-by-requires
 ended-by-requires c κs =
-    let a = c .before .before .before .before .before .before .before .before .before .before .before .before .args in
-    let fitting = ready (a .receiver .kind) (a .receiver .clip) _ (a .block .now) (a .collection .now) (a .first .now) (a .second .now) (c .before .before .before .before .before .before .before .size-of .ensures) (sym (c .before .before .before .before .before .before .named .ensures) ∙ c .before .before .before .before .before .if1 .taken)
-    (sym (c .before .before .before .before .judge .ensures) ∙ ap toldChecked (c .before .before .header .given .1)) .fitting in
+    let at-header = c .before .before in
+    let at-judge = at-header .before .before in
+    let at-if1 = at-judge .before .before in
+    let at-named = at-if1 .before in
+    let at-size-of = at-named .before in
+    let a = at-size-of .before .before .before .before .before .args in
+    let fitting = ready (a .receiver .kind) _ (a .receiver .clip) _ (a .block .now) (a .collection .now) (a .first .now) (a .second .now) (at-size-of .size-of .ensures) (sym (at-named .named .ensures) ∙ at-if1 .if1 .taken)
+    (sym (at-judge .judge .ensures) ∙ ap toldChecked (at-header .header .given .1)) .fitting in
     (fitting .part-is, fitting .used-is)
 
 returns : tie.Need-returns
 returns c =
-    let a = c .before .before .before .before .before .before .before .before .before .before .before .before .before .args in
-    good-ends (a .receiver) (a .block .now) (a .collection .now) (a .first .now) (a .second .now) (c .before .before .before .before .before .before .before .before .size-of .ensures) (c .before .before .before .before .before .before .before .named .ensures) (c .before .before .before .before .before .before .if1 .taken) (c .before .before .before .before .before .judge .ensures) (ap toldChecked (c .before .before .before .header .given .1)) (c .ended-by .ensures)
+    let at-header = c .before .before .before in
+    let at-judge = at-header .before .before in
+    let at-standard-of = at-judge .before in
+    let at-if1 = at-standard-of .before in
+    let at-named = at-if1 .before in
+    let at-size-of = at-named .before in
+    let a = at-size-of .before .before .before .before .before .args in
+    good-ends (a .receiver) (a .block .now) (a .collection .now) (a .first .now) (a .second .now) (at-size-of .size-of .ensures) (at-named .named .ensures) (at-standard-of .standard-of .ensures) (at-if1 .if1 .taken) (at-judge .judge .ensures) (ap toldChecked (at-header .header .given .1)) (c .ended-by .ensures)
 
 returns-2 : tie.Need-returns-2
 returns-2 c =
-    let a = c .before .before .before .before .before .before .before .before .before .before .args in
-    refused-ends (a .receiver) (a .block .now) (a .collection .now) (a .first .now) (a .second .now) (c .before .before .before .before .before .size-of .ensures) (c .before .before .before .before .named .ensures) (c .before .before .before .if1 .taken) (c .before .before .judge .ensures) (ap toldChecked (c .enum-told .given .1))
+    let at-judge = c .before .before in
+    let at-standard-of = at-judge .before in
+    let at-if1 = at-standard-of .before in
+    let at-named = at-if1 .before in
+    let at-size-of = at-named .before in
+    let a = at-size-of .before .before .before .before .before .args in
+    refused-ends (a .receiver) (a .block .now) (a .collection .now) (a .first .now) (a .second .now) (at-size-of .size-of .ensures) (at-named .named .ensures) (at-standard-of .standard-of .ensures) (at-if1 .if1 .taken) (at-judge .judge .ensures) (ap toldChecked (c .enum-told .given .1))
 
 returns-3 : tie.Need-returns-3
 returns-3 c =
@@ -32,4 +48,4 @@ returns-3 c =
 pub ended-after-spec : {M : Type 1} → statement M
 ended-after-spec =
     tie.close
-    (tie.spec (λ c κs. search needs) (λ c κs. search needs) (λ c κs. search needs) (λ c. search needs) ended-by-requires (λ c. search needs) returns returns-2 returns-3)
+    (tie.spec (λ c κs. search needs) (λ c κs. search needs) (λ c κs. search needs) (λ c κs. search needs) (λ c. search needs) ended-by-requires (λ c. search needs) returns returns-2 returns-3)

@@ -1,9 +1,11 @@
 -- `h261_reader::read_in` meets its contract: what was parsed is copied on acceptance alone. Assumes nothing.
-use mathlib.Core.Path.{sym, ap, _∙_}
-use Rattle.refusals.specs.Told.{toldVerdict}
+use mathlib.Core.Path.{sym, _∙_}
 use native.Mathlib.Omega.{arith}
+use Rattle.levels.proofs.Buffers.{copied}
+use Rattle.fields.proofs.PictureAnswer.{accepted-tag, refused-found}
+use Rattle.h261_reader.specs.Described.{described}
 use Rattle.h261_reader.proofs.Blank.{blank-lengths}
-use Rattle.h261_reader.proofs.ReadSteps.{accepted-tag, copied, accepted-buffers, refused-unchanged}
+use Rattle.h261_reader.proofs.ReadSteps.{accepted-buffers}
 use borrow.Author.Needs.{needs}
 use Rattle.h261_reader.proofs.read_in.Statement.{statement}
 use Rattle.h261_reader.proofs.read_in.Tie as tie
@@ -34,8 +36,8 @@ returns c =
     let start = at-parse .before .before .before .before .before .before .before .before .before .before .before in (
       at-parse .parse-counted .ensures .0,
       (
-        refused-unchanged (start .args .format) (start .args .bytes .now) (start .args .count) (at-parse .parse-counted .result .verdict) (at-parse .parse-counted .ensures .0) (at-match .match .keys1)
-            (flat (start .args .head .now) (start .args .macroblocks .now) (start .args .levels .now)),
+        refused-found (described (start .args .format) (start .args .bytes .now) (start .args .count)) (at-parse .parse-counted .result .verdict) (at-parse .parse-counted .ensures .0)
+            (flat (start .args .head .now) (start .args .macroblocks .now) (start .args .levels .now)) (at-match .match .keys1),
         at-parse .parse-counted .ensures .1 .1,
       ),
     )

@@ -9,8 +9,9 @@ use Rattle.laws.specs.Choice.{pick}
 use Rattle.refusals.specs.Number.{number, readTable}
 use Rattle.refusals.specs.Told.{Numbers, untabled, Told, accepted, refusedBy, refused}
 use Rattle.size.specs.declared.Size.{Size}
-use Rattle.coding.specs.Kind.{kindSize, codingOf}
+use Rattle.coding.specs.Kind.{kindSize, kindStandard, codingOf}
 use Rattle.vault.specs.Block.{toldChecked, judgeOf}
+use Rattle.vault.specs.declared.Standard.{Standard}
 use Rattle.vault.specs.declared.Header.{Header}
 use Rattle.standing.specs.declared.Receiver.{Receiver}
 use Rattle.standing.specs.Answered.{Reply, reply}
@@ -29,15 +30,15 @@ module _ {right : Bool} {size : Size} (r : Receiver) (block collection first sec
   unfolding step decide
   came k e = ap (λ (k : Told Header). cameTo codingOf r block lent (byJudgement codingOf k r block collection)) e
 
-  by-lengths : (b : Bool) → right ≡ b → pick b (judgeOf size (r .clip) block) (refused 1 0) ≡ judgedBlock r block lent
+  by-lengths : (b : Bool) → right ≡ b → pick b (judgeOf size (kindStandard (r .kind)) (r .clip) block) (refused 1 0) ≡ judgedBlock r block lent
   unfolding judgedBlock
   by-lengths b e =
-      ap (λ (t : Bool). pick t (judgeOf size (r .clip) block) (refused 1 0)) (sym e ∙ is)
-      ∙ ap (λ (z : Size). pick (namedLengths z (length collection) (length first) (length second)) (judgeOf z (r .clip) block) (refused 1 0)) sz
+      ap (λ (t : Bool). pick t (judgeOf size (kindStandard (r .kind)) (r .clip) block) (refused 1 0)) (sym e ∙ is)
+      ∙ ap (λ (z : Size). pick (namedLengths z (length collection) (length first) (length second)) (judgeOf z (kindStandard (r .kind)) (r .clip) block) (refused 1 0)) sz
 
-  module _ {found : Told Header} (t : right ≡ true) (f : found ≡ judgeOf size (r .clip) block) where
+  module _ {found : Told Header} {standard : Standard} (st : standard ≡ kindStandard (r .kind)) (t : right ≡ true) (f : found ≡ judgeOf size standard (r .clip) block) where
     judged-so : (k : Told Header) → found ≡ k → k ≡ judgedBlock r block lent
-    judged-so k e = sym e ∙ f ∙ by-lengths true t
+    judged-so k e = sym e ∙ f ∙ ap (λ (s : Standard). judgeOf size s (r .clip) block) st ∙ by-lengths true t
 
     good : {x : Outcome} {header : Header} → found ≡ accepted header
         → x ≡ cameTo codingOf r block lent (byLine codingOf (lineOf (r .progress) header) r header block collection) → x ≡ step codingOf r block lent
@@ -56,11 +57,12 @@ act-requires : tie.Need-act-requires
 act-requires c κs =
     let at-checked = c .before .before .before .before in
     let at-judge = at-checked .before .before in
-    let at-if1 = at-judge .before in
+    let at-standard-of = at-judge .before in
+    let at-if1 = at-standard-of .before in
     let at-named = at-if1 .before in
     let at-size-of = at-named .before in
     let start = at-size-of .before .before .before .before .before in
-    ready (start .args .receiver .kind) (start .args .receiver .clip) _ (start .args .block .now) (start .args .collection .now) (start .args .first .now) (start .args .second .now) (at-size-of .size-of .ensures) (sym (at-named .named .ensures) ∙ at-if1 .if1 .taken)
+    ready (start .args .receiver .kind) _ (start .args .receiver .clip) _ (start .args .block .now) (start .args .collection .now) (start .args .first .now) (start .args .second .now) (at-size-of .size-of .ensures) (sym (at-named .named .ensures) ∙ at-if1 .if1 .taken)
     (sym (at-judge .judge .ensures) ∙ ap toldChecked (at-checked .checked .given .1))
 
 returns : tie.Need-returns
@@ -68,21 +70,23 @@ returns c =
     let at-act = c .before .before .before .before .before .before in
     let at-checked = at-act .before .before .before .before .before in
     let at-judge = at-checked .before .before in
-    let at-if1 = at-judge .before in
+    let at-standard-of = at-judge .before in
+    let at-if1 = at-standard-of .before in
     let at-named = at-if1 .before in
     let at-size-of = at-named .before in
     let start = at-size-of .before .before .before .before .before in
-    good (start .args .receiver) (start .args .block .now) (start .args .collection .now) (start .args .first .now) (start .args .second .now) (at-size-of .size-of .ensures) (at-named .named .ensures) (at-if1 .if1 .taken) (at-judge .judge .ensures) (ap toldChecked (at-checked .checked .given .1)) (at-act .act .ensures)
+    good (start .args .receiver) (start .args .block .now) (start .args .collection .now) (start .args .first .now) (start .args .second .now) (at-size-of .size-of .ensures) (at-named .named .ensures) (at-standard-of .standard-of .ensures) (at-if1 .if1 .taken) (at-judge .judge .ensures) (ap toldChecked (at-checked .checked .given .1)) (at-act .act .ensures)
 
 returns-2 : tie.Need-returns-2
 returns-2 c =
     let at-checked2 = c .before .before in
     let at-judge = at-checked2 .before .before in
-    let at-if1 = at-judge .before in
+    let at-standard-of = at-judge .before in
+    let at-if1 = at-standard-of .before in
     let at-named = at-if1 .before in
     let at-size-of = at-named .before in
     let start = at-size-of .before .before .before .before .before in
-    bad (start .args .receiver) (start .args .block .now) (start .args .collection .now) (start .args .first .now) (start .args .second .now) (at-size-of .size-of .ensures) (at-named .named .ensures) (at-if1 .if1 .taken) (at-judge .judge .ensures) (ap toldChecked (at-checked2 .checked2 .given .1)) (c .refuse .ensures)
+    bad (start .args .receiver) (start .args .block .now) (start .args .collection .now) (start .args .first .now) (start .args .second .now) (at-size-of .size-of .ensures) (at-named .named .ensures) (at-standard-of .standard-of .ensures) (at-if1 .if1 .taken) (at-judge .judge .ensures) (ap toldChecked (at-checked2 .checked2 .given .1)) (c .refuse .ensures)
 
 returns-3 : tie.Need-returns-3
 unfolding number readTable
@@ -96,5 +100,5 @@ returns-3 c =
 pub receive-spec : {M : Type 1} → statement M
 receive-spec =
     tie.close
-    (tie.spec (λ c κs. search needs) (λ c κs. search needs) (λ c κs. search needs) (λ c. search needs) act-requires (λ c. search needs)
+    (tie.spec (λ c κs. search needs) (λ c κs. search needs) (λ c κs. search needs) (λ c κs. search needs) (λ c. search needs) act-requires (λ c. search needs)
     (λ c κs. search needs) (λ c κs. search needs) (λ c. search needs) (λ c. search needs) (λ c. search needs) returns returns-2 returns-3)

@@ -1,7 +1,7 @@
 -- `text::put_refusal` meets its contract: its words one after another. Assumes nothing.
 use borrow.Author.Needs.{needs}
 use Rattle.refusals.specs.Told.{numbersOf}
-use Rattle.text.proofs.Refused.{below-three, past-thirteen, refused-plain, refused-at}
+use Rattle.text.proofs.Refused.{below-three, past-fourteen, refused-plain, refused-at}
 use Rattle.text.proofs.put_refusal.Statement.{statement}
 use Rattle.text.proofs.put_refusal.Tie as tie
 
@@ -23,7 +23,7 @@ returns-2 c =
     let at-number-of = at-put .before .before .before in
     let why = at-number-of .before .before .args .why in (
       search needs,
-      refused-plain (numbersOf why) (at-number-of .number-of .ensures) (past-thirteen (numbersOf why) (at-number-of .number-of .ensures) (c .if2 .taken)) (search needs)
+      refused-plain (numbersOf why) (at-number-of .number-of .ensures) (past-fourteen (numbersOf why) (at-number-of .number-of .ensures) (c .if2 .taken)) (search needs)
           (at-put .put .ensures .1) (at-put-number .put-number .ensures .1),
     )
 

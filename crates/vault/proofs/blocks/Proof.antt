@@ -7,6 +7,7 @@ use mathlib.Core.Bool.{Bool}
 use mathlib.Core.List.{List, _++_}
 use lib.ListN.{length, take, drop, length-append, length-take, length-drop}
 use borrow.Rule.Slice.PartMut.{putMid}
+use Rattle.vault.specs.declared.Standard.{Standard}
 use Rattle.vault.specs.declared.Header.{Header}
 use Rattle.vault.specs.Block.{blockFor}
 use Rattle.vault.specs.Parts.{partCount, payloadAt, headerAt, blockAt, firstBlocks}
@@ -14,10 +15,10 @@ use Rattle.vault.proofs.Cut.{first-length, one-more}
 use Rattle.vault.proofs.blocks.Statement.{statement}
 use Rattle.vault.proofs.blocks.Tie as tie
 
-module _ (clip picture : ℕ) (refresh : Bool) (bytes : List ℕ) (count : ℕ) (out₀ : List ℕ) where
+module _ (standard : Standard) (clip picture : ℕ) (refresh : Bool) (bytes : List ℕ) (count : ℕ) (out₀ : List ℕ) where
   -- the blocks of the first n parts, stored
   record Stored (out : List ℕ) (n : ℕ) : Type 0 where
-    is : out ≡ firstBlocks clip picture refresh bytes count n ++ drop (512 * n) out₀
+    is : out ≡ firstBlocks standard clip picture refresh bytes count n ++ drop (512 * n) out₀
     long : length out ≡ length out₀
     within : n ≤ partCount count
 
@@ -26,7 +27,7 @@ module _ (clip picture : ℕ) (refresh : Bool) (bytes : List ℕ) (count : ℕ) 
   none = record { is = refl; long = refl; within = omega arith }
 
   more : {out : List ℕ} (n : ℕ) (header : Header) (block : List ℕ) → Stored out n → n < partCount count → 512 * partCount count ≤ length out₀
-      → header ≡ headerAt clip picture refresh count n → block ≡ blockFor header (payloadAt bytes count (header .part))
+      → header ≡ headerAt standard clip picture refresh count n → block ≡ blockFor header (payloadAt bytes count (header .part))
       → Stored (putMid (512 * n) (512 * n + 512 - 512 * n) out block) (n + 1)
   unfolding blockAt
   more {out} n header block h l r e f = record {
@@ -35,34 +36,34 @@ module _ (clip picture : ℕ) (refresh : Bool) (bytes : List ℕ) (count : ℕ) 
         ap length is
         ∙ omega (
           arith,
-          length-append (firstBlocks clip picture refresh bytes count (n + 1)) (drop (512 * (n + 1)) out₀),
-          first-length clip picture refresh bytes count (n + 1),
+          length-append (firstBlocks standard clip picture refresh bytes count (n + 1)) (drop (512 * (n + 1)) out₀),
+          first-length standard clip picture refresh bytes count (n + 1),
           length-drop (512 * (n + 1)) out₀,
         );
     within = omega arith;
   }
     where
-      part : block ≡ blockAt clip picture refresh bytes count n
+      part : block ≡ blockAt standard clip picture refresh bytes count n
       part = f ∙ ap (λ (h : Header). blockFor h (payloadAt bytes count (h .part))) e
 
       size : 512 * n + 512 - 512 * n ≡ 512
       size = omega arith
 
-      is : putMid (512 * n) (512 * n + 512 - 512 * n) out block ≡ firstBlocks clip picture refresh bytes count (n + 1) ++ drop (512 * (n + 1)) out₀
-      is = (λ i. putMid (512 * n) (size i) out (part i)) ∙ one-more clip picture refresh bytes count n out₀ out (h .is)
+      is : putMid (512 * n) (512 * n + 512 - 512 * n) out block ≡ firstBlocks standard clip picture refresh bytes count (n + 1) ++ drop (512 * (n + 1)) out₀
+      is = (λ i. putMid (512 * n) (size i) out (part i)) ∙ one-more standard clip picture refresh bytes count n out₀ out (h .is)
 
 -- the part that is lent
 lent : (out : List ℕ) (n : ℕ) → 512 * n + 512 ≤ length out → length (take (512 * n + 512 - 512 * n) (drop (512 * n) out)) ≡ 512
 lent out n l = omega (arith, length-take (512 * n + 512 - 512 * n) (drop (512 * n) out), length-drop (512 * n) out)
 
 abbrev Inv-loop : tie.InvT-loop
-Inv-loop clip picture refresh bytes count out₀ parts part₀ out part = Stored clip picture refresh bytes count out₀ out part
+Inv-loop standard clip picture refresh bytes count out₀ parts part₀ out part = Stored standard clip picture refresh bytes count out₀ out part
 
 abbrev μ-loop : tie.MeasureT-loop
-μ-loop clip picture refresh bytes count out₀ parts part₀ out part = partCount count - part
+μ-loop standard clip picture refresh bytes count out₀ parts part₀ out part = partCount count - part
 
 loop-holds : tie.Need-loop-holds Inv-loop μ-loop
-loop-holds c = none _ _ _ _ _ _
+loop-holds c = none _ _ _ _ _ _ _
 
 mul-at : tie.Need-mul-at Inv-loop μ-loop
 mul-at c = omega (arith, (c .before .before .part-count .ensures))
@@ -101,7 +102,7 @@ loop-again : tie.Need-loop-again Inv-loop μ-loop
 loop-again c =
     let at-header-at = c .before .before .before .before in
     let at-part-count = at-header-at .before .before .before in
-    more _ _ _ _ _ _ _ _ _ (at-header-at .before .before .loop .inv) (omega (arith, (at-part-count .part-count .ensures))) (omega arith)
+    more _ _ _ _ _ _ _ _ _ _ (at-header-at .before .before .loop .inv) (omega (arith, (at-part-count .part-count .ensures))) (omega arith)
     (at-header-at .header-at .ensures) (c .before .before .write-block .ensures)
 
 same-length : tie.Need-same-length Inv-loop μ-loop
@@ -116,7 +117,7 @@ returns c =
     let e : (at-loop .loop .part) ≡ partCount count = omega (arith, (at-part-count .part-count .ensures), (at-loop .loop .inv .within)) in (
       (at-part-count .part-count .ensures),
       (at-loop .loop .inv .is)
-          ∙ ap (λ (n : ℕ). firstBlocks (start .args .clip) (start .args .picture) (start .args .refresh) (start .args .bytes .now) count n ++ drop (512 * n)
+          ∙ ap (λ (n : ℕ). firstBlocks (start .args .standard) (start .args .clip) (start .args .picture) (start .args .refresh) (start .args .bytes .now) count n ++ drop (512 * n)
           (start .args .out .now))
           e,
     )

@@ -11,6 +11,7 @@ returns c =
     let part-here = start .args .part in
     λ i.
     record {
+      standard = (start .args .standard);
       clip = (start .args .clip);
       picture = (start .args .picture);
       part = part-here;

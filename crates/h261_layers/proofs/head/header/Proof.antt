@@ -51,6 +51,8 @@ use Rattle.bit_reader.specs.declared.BitReader.{BitReader}
 use Rattle.bit_reader.proofs.Held.{B, OwnAt, twice-at, typed-in-body}
 use Rattle.fields.specs.Rules.{spares}
 use Rattle.fields.specs.Answer.{placeOf, leaving, plainSpares}
+use Rattle.fields.specs.Header.{Below}
+use Rattle.fields.proofs.HeaderRow.{after-field, field-below}
 use Rattle.fields.specs.declared.PlaceRead.{PlaceRead}
 use Rattle.fields.proofs.PlaceRead as Q
 use Rattle.fields.proofs.PlaceRead.Laws as Q′
@@ -61,8 +63,8 @@ use Rattle.h261_groups.specs.declared.Format.{Format}
 use Rattle.h261_groups.proofs.Format as Y
 use Rattle.h261_groups.proofs.Format.Laws as Y′
 use Rattle.h261_layers.specs.Grammar.{header}
-use Rattle.h261_layers.specs.Answer.{Below, Counted, headerOf, asHeader}
-use Rattle.h261_layers.proofs.HeaderOf.{HeaderRead, header-read, after-field, field-below, spare-placed, spare-counted, spare-within}
+use Rattle.h261_layers.specs.Answer.{Counted, headerOf, asHeader}
+use Rattle.h261_layers.proofs.HeaderOf.{HeaderRead, header-read, spare-placed, spare-counted, spare-within}
 use Rattle.bit_reader.proofs.new as cn
 use Rattle.bit_reader.proofs.new.Symbol as cn-def
 use Rattle.bit_reader.proofs.new.Symbol.{name as #cn}
@@ -365,7 +367,7 @@ module _ {M : Type 1} (𝓤 : URA M) (H : Heap 𝓤) (A : Atoms 𝓤) (W : Given
         move ! (37 ∷ 38 ∷ []) $ free1 ! $ move ! (35 ∷ 36 ∷ []) $ free1 ! $ move ! (33 ∷ 34 ∷ []) $ free1 ! $ move ! (31 ∷ 32 ∷ []) $ free1 ! $ move ! (29 ∷ 30 ∷ []) $ free1 ! $ move ! (27 ∷ 28 ∷ []) $ free1 ! $
         move ! (25 ∷ 26 ∷ []) $ free1 ! $ move ! (23 ∷ 24 ∷ []) $ free1 ! $ move ! (21 ∷ 22 ∷ []) $ free1 ! $ move ! (19 ∷ 20 ∷ []) $ free1 ! $ move ! (17 ∷ 18 ∷ []) $ free1 ! $ move ! (15 ∷ 16 ∷ []) $ free1 ! $
         move ! (13 ∷ 14 ∷ []) $ free1 ! $ move ! (11 ∷ 12 ∷ []) $ free1 ! $ move ! (9 ∷ 10 ∷ []) $ free1 ! $ move ! (7 ∷ 8 ∷ []) $ free1 ! $ move ! (5 ∷ 6 ∷ []) $ free1 ! $ move ! (3 ∷ 4 ∷ []) $ free1 ! $ free0 ! $
-        by ! (exits h uh isg (total (record { placed = needed; psc-read = a-read; tr-read = b-read; ptype-read = c-read; spare-read = d-read; gbsc-read = e-read }) fh)))))))))))))))))))))))))))))))))))))))))))))))))))))))))))))))))))))))))))
+        by ! (exits h uh isg (total (record { psc-read = a-read; tr-read = b-read; ptype-read = c-read; spare-read = d-read; gbsc-read = e-read }) fh)))))))))))))))))))))))))))))))))))))))))))))))))))))))))))))))))))))))))))
 
 header-meets : {M : Type 1} (𝓤 : URA M) (H : Heap 𝓤) (A : Atoms 𝓤) → Given 𝓤 H A → (mem : Memory → SProp 𝓤) (run : Routine → Fun 𝓤) (𝓣 : Tables 𝓤 H)
     → Triple 𝓤 (𝓣 .C #cn) (New 𝓤 H A mem run) → Triple 𝓤 (𝓣 .C #cf) (FieldC 𝓤 H A mem run) → Triple 𝓤 (𝓣 .C #ca) (After 𝓤 H A mem run) → Triple 𝓤 (𝓣 .C #cs) (Spares 𝓤 H A mem run) → Triple 𝓤 (𝓣 .C #cp) (PlainSpares 𝓤 H A mem run) → Triple 𝓤 (𝓣 .C #ch) (HeaderOf 𝓤 H A mem run)

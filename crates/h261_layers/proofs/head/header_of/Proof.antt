@@ -2,12 +2,13 @@
 use mathlib.Core.Path.{sym, _∙_}
 use native.Mathlib.Omega.{arith}
 use borrow.Author.Needs.{needs}
-use Rattle.h261_layers.proofs.HeaderOf.{no-psc, bad-psc, no-tr, no-ptype, other-format, still-image, no-spare, no-gbsc, bad-gbsc, header-got, below-got, counted-got}
+use Rattle.fields.proofs.HeaderRow.{below-got}
+use Rattle.h261_layers.proofs.HeaderOf.{no-psc, bad-psc, no-tr, no-ptype, other-format, still-image, no-spare, no-gbsc, bad-gbsc, header-got, counted-got}
 use Rattle.h261_layers.proofs.head.header_of.Statement.{statement}
 use Rattle.h261_layers.proofs.head.header_of.Tie as tie
 
 returns : tie.Need-returns
-returns c = no-psc _ _ _ _ _ _ _ _ (c .before .before .match .keys2) (c .refused .ensures)
+returns c = no-psc _ _ _ _ _ _ _ _ (c .before .before .match .keys2) (c .field-stopped .ensures)
 
 returns-2 : tie.Need-returns-2
 returns-2 c = bad-psc _ _ _ _ _ _ _ (c .before .before .psc .given .1) (c .if1 .taken)
@@ -15,13 +16,13 @@ returns-2 c = bad-psc _ _ _ _ _ _ _ (c .before .before .psc .given .1) (c .if1 .
 returns-3 : tie.Need-returns-3
 returns-3 c =
     let at-if1 = c .before .before .before in
-    no-tr _ _ _ _ _ _ _ (at-if1 .before .before .psc .given .1) (at-if1 .if1 .left) _ (c .before .before .match2 .keys2) (c .refused2 .ensures)
+    no-tr _ _ _ _ _ _ _ (at-if1 .before .before .psc .given .1) (at-if1 .if1 .left) _ (c .before .before .match2 .keys2) (c .field-stopped2 .ensures)
 
 returns-4 : tie.Need-returns-4
 returns-4 c =
     let at-tr = c .before .before .before .before in
     let at-if1 = at-tr .before .before in
-    no-ptype _ _ _ _ _ _ _ (at-if1 .before .before .psc .given .1) (at-if1 .if1 .left) (at-tr .tr .given .1) _ (c .before .before .match3 .keys2) (c .refused3 .ensures)
+    no-ptype _ _ _ _ _ _ _ (at-if1 .before .before .psc .given .1) (at-if1 .if1 .left) (at-tr .tr .given .1) _ (c .before .before .match3 .keys2) (c .field-stopped3 .ensures)
 
 returns-5 : tie.Need-returns-5
 returns-5 c =
@@ -64,7 +65,7 @@ returns-8 c =
     let at-tr = at-ptype .before .before .before in
     let at-if1 = at-tr .before .before in
     no-gbsc _ _ _ _ _ _ _ (at-if1 .before .before .psc .given .1) (at-if1 .if1 .left) (at-tr .tr .given .1) (at-ptype .ptype .given .1) (at-if3 .before .if2 .left ∙ at-bit .bit .ensures) (at-if3 .if3 .left)
-    (at-spare .spare .given .1) _ (c .before .before .match5 .keys2) (c .refused4 .ensures)
+    (at-spare .spare .given .1) _ (c .before .before .match5 .keys2) (c .field-stopped4 .ensures)
 
 returns-9 : tie.Need-returns-9
 returns-9 c =

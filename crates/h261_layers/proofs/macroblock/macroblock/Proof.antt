@@ -12,7 +12,7 @@ use Rattle.bits.proofs.Once.{once-word}
 use Rattle.bits.specs.Code.{word}
 use Rattle.fields.specs.Rules.{optional, quantiser}
 use Rattle.fields.specs.Answer.{mapRead, asNumber}
-use Rattle.fields.proofs.Row.{Row, row-number, row-no-number, row-number-good}
+use Rattle.fields.proofs.Row.{Row, row-number, row-no-number, row-number-good, row-pair, row-no-pair, row-pair-good}
 use Rattle.fields.proofs.Told.{number-once, no-place, is-place}
 use Rattle.h261_words.specs.Tables.{table2}
 use Rattle.h261_words.specs.Words.{isMC, hasMQUANT}
@@ -21,7 +21,6 @@ use Rattle.h261_description.specs.Vector.{Before}
 use Rattle.h261_layers.specs.Answer.{KeptVector, vectorOf, beforeOf, Sent, putSent}
 use Rattle.h261_layers.specs.Grammar.{patternRead, macroblock}
 use Rattle.h261_layers.proofs.Layers.{pattern-reads}
-use Rattle.h261_layers.proofs.Told.{row-vector, row-no-vector, row-vector-good}
 use Rattle.h261_layers.proofs.MacroblockSteps.{Typed, typed-of}
 use Rattle.h261_layers.proofs.MacroblockWhole as row
 use Rattle.h261_layers.proofs.MacroblockWhole.{type-reads, mquant-reads, moved-reads, macroblock-begun, no-blocks, whole-macroblock, vector-kept, quantiser-small, small-byte}
@@ -117,13 +116,13 @@ module _ (c : tie.After-known-told3) where
 
   pointed : To start₃ (afterVector start₃ type₃ (mquant told₃) (vectorOf across down)) (c .before .pointed .given .0 .1 .1 .0)
   pointed =
-      row-vector (λ P. vectorAfter start₃ type₃) (afterVector start₃ type₃ (mquant told₃)) (quantised told₃) (moved-reads (start₃ .args .format) (start₃ .args .number) (before start₃) (start₃ .args .step) type₃)
+      row-pair vectorOf (λ P. vectorAfter start₃ type₃) (afterVector start₃ type₃ (mquant told₃)) (quantised told₃) (moved-reads (start₃ .args .format) (start₃ .args .number) (before start₃) (start₃ .args .step) type₃)
       (c .before .before .before .moved .ensures) (c .before .pointed .given .1)
 
   kept : KeptVector across down
   kept =
       let k = vector-kept (isMC type₃) (start₃ .args .format) (start₃ .args .number) _ across down
-      (row-vector-good (λ P. vectorAfter start₃ type₃) (afterVector start₃ type₃ (mquant told₃)) (quantised told₃) (moved-reads (start₃ .args .format) (start₃ .args .number) (before start₃) (start₃ .args .step) type₃)
+      (row-pair-good vectorOf (λ P. vectorAfter start₃ type₃) (afterVector start₃ type₃ (mquant told₃)) (quantised told₃) (moved-reads (start₃ .args .format) (start₃ .args .number) (before start₃) (start₃ .args .step) type₃)
       (c .before .before .before .moved .ensures) (c .before .pointed .given .1)) in
       record { horizontally = k .0; vertically = k .1 }
 
@@ -188,7 +187,7 @@ returns-3 c =
     let at-moved = c .before .before .before in
     let told = at-moved .before in
     ap (mapRead (put (start₂ told)))
-    (row-no-vector (λ P. vectorAfter (start₂ told) (type (told₂ told))) (afterVector (start₂ told) (type (told₂ told)) (mquant told)) (quantised told) (at-moved .moved .result)
+    (row-no-pair vectorOf (λ P. vectorAfter (start₂ told) (type (told₂ told))) (afterVector (start₂ told) (type (told₂ told)) (mquant told)) (quantised told) (at-moved .moved .result)
     (c .before .before .match3 .keys2) (at-moved .moved .ensures) (c .pair-stopped .ensures))
 
 pattern-requires : tie.Need-pattern-requires

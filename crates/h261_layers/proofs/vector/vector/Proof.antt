@@ -6,12 +6,12 @@ use Rattle.bits.specs.Bits.{bitsLeft}
 use Rattle.bits.specs.Places.{counted}
 use Rattle.bits.specs.Read.{ReaderIn, _>>=_, done}
 use Rattle.bits.specs.declared.Place.{Place}
-use Rattle.fields.proofs.Row.{Row, row-done}
+use Rattle.fields.proofs.Row.{Row, row-done, row-meant, row-no-meant}
+use Rattle.fields.proofs.Told.{is-meant}
 use Rattle.layout.specs.Value.{Vector}
 use Rattle.h261_layers.specs.Answer.{componentOf, vectorOf}
 use Rattle.h261_layers.specs.Vector.{componentRead, componentsRead}
 use Rattle.h261_layers.proofs.Layers.{component-reads}
-use Rattle.h261_layers.proofs.Told.{is-component, row-component, row-no-component}
 use Rattle.h261_layers.proofs.VectorSteps.{components-begun, afterFirst, vector-refused, BothRead, vector-left, vector-right, vector-above, vector-below, vector-inside, component-kept}
 use Rattle.h261_layers.proofs.vector.vector.Statement.{statement}
 use Rattle.h261_layers.proofs.vector.vector.Tie as tie
@@ -31,7 +31,7 @@ start₁ c = c .before .before .before .before .before
 
 first : (c : tie.After-known-told) → To (start₁ c) (afterFirst (preceding (start₁ c)) (componentOf (c .before .first .given .0 .0))) (c .before .first .given .0 .1 .0)
 first c =
-    row-component (λ P. componentRead (componentOf (start₁ c .args .horizontal))) (afterFirst (preceding (start₁ c))) (begun (start₁ c)) (component-reads _)
+    row-meant componentOf (λ P. componentRead (componentOf (start₁ c .args .horizontal))) (afterFirst (preceding (start₁ c))) (begun (start₁ c)) (component-reads _)
     (c .before .before .before .component .ensures) (c .before .first .given .1)
 
 -- ---- both were got
@@ -50,11 +50,11 @@ module _ (c : tie.After-known-told2) where
 
   both : BothRead (preceding start) (start .args .bytes .now) (start .args .count) (start .args .at) across down (c .before .second .given .0 .1 .0)
   both = record {
-    both = row-done (row-component (λ P. componentRead (componentOf (start .args .vertical))) (λ v. done (record { horizontal = componentOf across; vertical = v })) (first at-first) (component-reads _)
+    both = row-done (row-meant componentOf (λ P. componentRead (componentOf (start .args .vertical))) (λ v. done (record { horizontal = componentOf across; vertical = v })) (first at-first) (component-reads _)
         (c .before .before .before .component2 .ensures) (c .before .second .given .1));
     kept = record {
-      horizontally = component-kept _ _ _ _ _ _ (start .pre .0 .placed .within .inside) (is-component _ _ _ _ _ (at-first .before .before .before .component .ensures) (at-first .before .first .given .1));
-      vertically = component-kept _ _ _ _ _ _ (first at-first .placed .within .inside) (is-component _ _ _ _ _ (c .before .before .before .component2 .ensures) (c .before .second .given .1));
+      horizontally = component-kept _ _ _ _ _ _ (start .pre .0 .placed .within .inside) (is-meant componentOf _ _ _ _ _ (at-first .before .before .before .component .ensures) (at-first .before .first .given .1));
+      vertically = component-kept _ _ _ _ _ _ (first at-first .placed .within .inside) (is-meant componentOf _ _ _ _ _ (c .before .before .before .component2 .ensures) (c .before .second .given .1));
     };
   }
 
@@ -67,7 +67,7 @@ returns c =
     let at-component = c .before .before .before in
     let s = at-component .before .before in
     vector-refused (s .args .format) (s .args .number) (s .args .address) (preceding s) _ _ _
-    (row-no-component (λ P. componentRead (componentOf (s .args .horizontal))) (afterFirst (preceding s)) (begun s) (at-component .component .result) (c .before .before .match .keys2)
+    (row-no-meant componentOf (λ P. componentRead (componentOf (s .args .horizontal))) (afterFirst (preceding s)) (begun s) (at-component .component .result) (c .before .before .match .keys2)
     (at-component .component .ensures) (c .number-stopped .ensures))
 
 component-requires-2 : tie.Need-component-requires-2
@@ -79,7 +79,7 @@ returns-2 c =
     let read = at-component .before in
     let s = start₁ read in
     vector-refused (s .args .format) (s .args .number) (s .args .address) (preceding s) _ _ _
-    (row-no-component (λ P. componentRead (componentOf (s .args .vertical))) (λ v. done (record { horizontal = componentOf (read .before .first .given .0 .0); vertical = v })) (first read)
+    (row-no-meant componentOf (λ P. componentRead (componentOf (s .args .vertical))) (λ v. done (record { horizontal = componentOf (read .before .first .given .0 .0); vertical = v })) (first read)
     (at-component .component2 .result) (c .before .before .match2 .keys2) (at-component .component2 .ensures) (c .number-stopped2 .ensures))
 
 column-requires : tie.Need-column-requires

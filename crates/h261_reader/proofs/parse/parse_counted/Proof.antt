@@ -1,38 +1,47 @@
 -- `h261_reader::parse::parse_counted` meets its contract: the count is refused, or the header is, or a group is, and the buffers are cleared; or the groups are laid out.
-use Prim.Native.Nat.{zero-le, _+_}
-use Rattle.h261_groups.specs.Format.{groupCount}
-use mathlib.Core.Path.{refl, ap, _∙_}
+use Prim.Native.Nat.{zero-le, _+_, _*_}
+use Rattle.h261_groups.specs.Format.{groupCount, sizeOf}
+use mathlib.Core.Path.{_≡_, refl, ap, _∙_}
 use native.Mathlib.Omega.{arith}
-use lib.ListN.{length-set}
+use lib.Dec.{ltb}
+use lib.ListN.{length, length-set}
+use Rattle.laws.specs.Choice.{either}
 use Rattle.h261_reader.proofs.Blank.{blank-lengths}
 use Rattle.h261_layers.proofs.Layers as layers
 use Rattle.bits.specs.Answer.{Placed}
-use Rattle.fields.specs.Answer.{placeOf}
-use Rattle.fields.proofs.Told.{within-next}
-use Rattle.h261_reader.proofs.ParseSteps.{described-count, counted-is, limit-low, lent-is, described-no-header, header-is, groups-described, cleared-as, refused-blank, read-laid, unread}
-use Rattle.h261_reader.specs.ReadOf.{refusedPicture}
+use Rattle.fields.specs.Answer.{placeOf, refusedPicture}
+use Rattle.fields.proofs.Told.{within-next, no-place}
+use Rattle.fields.proofs.PictureAnswer.{above-by}
+use Rattle.levels.proofs.Buffers.{cleared-as}
+use Rattle.size.specs.Size.{limit}
+use Rattle.h261_reader.proofs.ParseSteps.{described-count, bounds, limit-low, described-no-header, header-is, groups-described, refused-blank, read-laid}
 use borrow.Author.Needs.{needs}
 use Rattle.h261_reader.proofs.parse.parse_counted.Statement.{statement}
 use Rattle.h261_reader.proofs.parse.parse_counted.Tie as tie
 
+-- N is judged
+module _ (c : tie.After-count-above) where
+  abbrev begun : tie.Start
+  begun = c .before .before .before .before .before .before
+
+  above-is : c .count-above .result ≡ either (ltb (8 * length (begun .args .bytes .now)) (begun .args .count)) (ltb (limit (sizeOf (begun .args .format))) (begun .args .count))
+  above-is = above-by (length (begun .args .bytes .now)) (begun .args .count) (c .count-above .ensures) (c .before .limit .ensures)
+
 returns : tie.Need-returns
 returns c =
     let at-above = c .before in
-    let start = at-above .before .before .before .before .before in
-    refused-blank (start .args .format) _ _ (described-count (start .args .format) (start .args .bytes .now) (start .args .count) (at-above .above .result) (at-above .above .ensures) (c .if1 .taken)) refl (start .pre)
+    let start = begun at-above in
+    refused-blank (start .args .format) _ _ (described-count (start .args .format) (start .args .bytes .now) (start .args .count) (at-above .count-above .result) (above-is at-above) (c .if1 .taken)) refl (start .pre)
 
 -- the bytes have N bits
 module _ (c : tie.Else1) where
   abbrev began : tie.Start
-  began = c .before .before .before .before .before .before
+  began = begun (c .before)
 
   lent : Placed (began .args .bytes .now) (began .args .count) (placeOf 0 0)
   lent =
-      let low = counted-is (began .args .format) (began .args .bytes .now) _ (c .before .above .result) (c .before .above .ensures) (c .if1 .left) in
-      record {
-        within = record { lent = lent-is (began .args .format) (began .args .bytes .now) _ (c .before .above .result) (c .before .above .ensures) (c .if1 .left); inside = zero-le };
-        countable = omega (arith, low, limit-low (began .args .format));
-      }
+      let h = bounds (began .args .format) (began .args .bytes .now) _ (c .before .count-above .result) (above-is (c .before)) (c .if1 .left) in
+      record { within = record { lent = h .0; inside = zero-le }; countable = omega (arith, h .1, limit-low (began .args .format)) }
 
 header-requires : tie.Need-header-requires
 header-requires c κs = lent c
@@ -44,18 +53,18 @@ returns-2 c =
     let at-above = at-if1 .before in
     let start = began at-if1 in
     refused-blank (start .args .format) _ _
-    (described-no-header _ _ _ (at-above .above .result) (at-above .above .ensures) (at-if1 .if1 .left) (at-header .header .result) (at-header .header .ensures)
+    (described-no-header _ _ _ (at-above .count-above .result) (above-is at-above) (at-if1 .if1 .left) (at-header .header .result) (at-header .header .ensures)
     (c .before .before .before .match .keys2))
-    (c .refused .ensures ∙ ap refusedPicture (c .before .pair-stopped .ensures)) (start .pre)
+    (c .refused-picture .ensures ∙ ap refusedPicture (c .before .pair-stopped .ensures)) (start .pre)
 
 slice-write-head : tie.Need-slice-write-head
-slice-write-head c = omega (arith, blank-lengths (c .before .before .before .before .before .before .before .before .before .before .pre) .head-long)
+slice-write-head c = omega (arith, blank-lengths (c .before .before .before .before .before .before .before .before .before .before .before .pre) .head-long)
 
 slice-write-head-2 : tie.Need-slice-write-head-2
-slice-write-head-2 c = simp length-set (omega (arith, blank-lengths (c .before .before .before .before .before .before .before .before .before .before .pre) .head-long))
+slice-write-head-2 c = simp length-set (omega (arith, blank-lengths (c .before .before .before .before .before .before .before .before .before .before .before .pre) .head-long))
 
 slice-write-head-3 : tie.Need-slice-write-head-3
-slice-write-head-3 c = simp length-set (omega (arith, blank-lengths (c .before .before .before .before .before .before .before .before .before .before .before .pre) .head-long))
+slice-write-head-3 c = simp length-set (omega (arith, blank-lengths (c .before .before .before .before .before .before .before .before .before .before .before .before .pre) .head-long))
 
 groups-requires : tie.Need-groups-requires
 groups-requires c κs =
@@ -69,7 +78,7 @@ groups-requires c κs =
       record {
         tabled = at-tables .tables .ensures;
         placed = within-next _ _ _ _ _ (layers.header-reads (start .args .format)) (lent at-if1)
-            (header-is _ _ _ (at-above .above .result) (at-above .above .ensures) (at-if1 .if1 .left) (at-header .header .result) (at-header .header .ensures) _ _ _
+            (header-is _ _ _ (at-above .count-above .result) (above-is at-above) (at-if1 .if1 .left) (at-header .header .result) (at-header .header .ensures) _ _ _
             (at-opened .opened .given .1));
       },
       record { head-long = simp length-set (long .head-long); ms-long = long .ms-long; ls-long = long .ls-long },
@@ -107,10 +116,10 @@ returns-3 c =
     let start = began at-if1 in
     let long = blank-lengths (start .pre) in
     let laid =
-    groups-described _ _ _ _ (at-if1 .before .above .ensures) (at-if1 .if1 .left) (at-header .header .result) (at-header .header .ensures) (at-opened .opened .given .1)
+    groups-described _ _ _ _ (above-is (at-if1 .before)) (at-if1 .if1 .left) (at-header .header .result) (at-header .header .ensures) (at-opened .opened .given .1)
     (at-bit .bit .ensures) (start .pre) (at-groups .groups .ensures) in
-    refused-blank (start .args .format) _ _ (unread (start .args .format) _ _ (at-groups .groups .result) _ laid (at-match2 .match2 .keys2))
-    (c .refused2 .ensures ∙ ap refusedPicture (c .before .place-stopped .ensures))
+    refused-blank (start .args .format) _ _ (no-place _ _ _ (at-groups .groups .result) (at-match2 .match2 .keys2) laid)
+    (c .refused-picture2 .ensures ∙ ap refusedPicture (c .before .place-stopped .ensures))
     (record {
       head-blank = cleared-as _ (3 + groupCount (start .args .format)) _ (at-clear .clear .ensures) (at-groups .groups .kept .1 .1 .1 .1 .1 .0 ∙ simp length-set (long .head-long));
       ms-blank = cleared-as _ _ _ (at-clear2 .clear2 .ensures) (at-groups .groups .kept .1 .1 .1 .1 .1 .1 .0 ∙ long .ms-long);
@@ -142,14 +151,14 @@ returns-4 c =
     let at-if1 = at-header .before in
     let start = began at-if1 in
     let laid =
-    groups-described _ _ _ _ (at-if1 .before .above .ensures) (at-if1 .if1 .left) (at-header .header .result) (at-header .header .ensures) (at-opened .opened .given .1)
+    groups-described _ _ _ _ (above-is (at-if1 .before)) (at-if1 .if1 .left) (at-header .header .result) (at-header .header .ensures) (at-opened .opened .given .1)
     (at-bit .bit .ensures) (start .pre) (at-groups .groups .ensures) in
     read-laid (start .args .format) _ _ (at-groups .groups .result) _ laid _ (c .before .read .given .1)
 
 pub parse-counted-spec : {M : Type 1} → statement M
 parse-counted-spec =
     tie.close
-    (tie.spec (λ c κs. search needs) returns header-requires (λ c. search needs) (λ c. search needs) (λ c κs. search needs) (λ c κs. search needs) returns-2
+    (tie.spec (λ c κs. search needs) (λ c κs. search needs) returns header-requires (λ c. search needs) (λ c. search needs) (λ c κs. search needs) (λ c κs. search needs) returns-2
     slice-write-head slice-write-head-2 (λ c κs. search needs) slice-write-head-3 (λ c κs. search needs) groups-requires
     (λ c. search needs) (λ c. search needs) (λ c κs. search needs) (λ c κs. search needs) (λ c κs. search needs) (λ c κs. search needs) (λ c κs. search needs)
     same-length same-length-2 same-length-3 returns-3 same-length-4 same-length-5 same-length-6 returns-4)

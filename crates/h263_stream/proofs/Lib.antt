@@ -1,0 +1,4 @@
+pub mod StreamLaws
+pub mod Passes
+pub mod Dropped
+pub mod Pictures

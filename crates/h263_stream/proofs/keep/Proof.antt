@@ -1,0 +1,14 @@
+-- `h263_stream::keep` meets its contract: past the end nothing is set. Assumes nothing.
+use mathlib.Core.Path.{sym}
+use borrow.Author.Needs.{needs}
+use lib.Seq.{set-out}
+use Rattle.h263_stream.proofs.keep.Statement.{statement}
+use Rattle.h263_stream.proofs.keep.Tie as tie
+
+returns-2 : tie.Need-returns-2
+returns-2 c =
+    let a = c .before .args in
+    sym (set-out (a .picture .now) (a .at) (a .byte) (c .if1 .left))
+
+pub keep-spec : {M : Type 1} → statement M
+keep-spec = tie.close (tie.spec (λ c. search needs) (λ c. search needs) (λ c. search needs) returns-2)

@@ -1,0 +1,4 @@
+pub mod Stream
+pub mod Passed
+pub mod Pictures
+pub mod Filled

@@ -1,0 +1,4 @@
+pub mod Told
+pub mod Replayed
+pub mod Again
+pub mod Wrong

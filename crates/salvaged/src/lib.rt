@@ -1,0 +1,1 @@
+// Theorems alone: what a salvaged clip and its log are, over any coding. Assumes nothing.

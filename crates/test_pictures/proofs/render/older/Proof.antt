@@ -1,0 +1,27 @@
+-- `test_pictures::render::older` meets its contract: what is drawn is valid, and both stores have the format's length. Assumes nothing.
+use mathlib.Core.Path.{sym, ap, _∙_}
+use borrow.Author.Needs.{needs}
+use borrow.Author.Tests.{not-false}
+use Rattle.laws.proofs.Choice.{true-T}
+use Rattle.size.specs.Size.{storeLength}
+use Rattle.test_pictures.proofs.render.older.Statement.{statement}
+use Rattle.test_pictures.proofs.render.older.Tie as tie
+
+render-requires : tie.Need-render-requires
+render-requires c κs =
+    let at-valid = c .before .before in
+    let at-if2 = at-valid .before in
+    let at-if1 = at-if2 .before in
+    let at-store-length = at-if1 .before in
+    let long = at-store-length .store-length .ensures ∙ ap storeLength (at-store-length .before .size-of .ensures) in
+    record {
+      fine = true-T _ (sym (at-valid .valid .ensures) ∙ not-false _ (c .before .if3 .left));
+      reference = at-if1 .if1 .left ∙ long;
+      store = at-if2 .if2 .left ∙ long;
+    }
+
+pub older-spec : {M : Type 1} → statement M
+older-spec =
+    tie.close
+    (tie.spec (λ c κs. search needs) (λ c κs. search needs) (λ c. search needs) (λ c. search needs) (λ c κs. search needs) (λ c. search needs) render-requires
+    (λ c. search needs) (λ c. search needs))
