@@ -221,6 +221,13 @@ impl Bits {
         }
     }
 
+    /// Zeros up to the end of the last started byte.
+    pub fn fill(&mut self) {
+        while !self.count.is_multiple_of(8) {
+            self.push(false);
+        }
+    }
+
     pub fn append(&mut self, other: &Bits) {
         for place in 0..other.count {
             self.push(bit_of(&other.bytes, place));

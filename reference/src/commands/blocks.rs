@@ -14,10 +14,7 @@ pub fn put_block(bytes: &mut Vec<u8>, block: &Block) {
 
 pub fn make(seed: u64, count: usize) -> Made {
     let mut random = Random::new(seed);
-    let mut made = Made {
-        input: Vec::new(),
-        expected: Vec::new(),
-    };
+    let mut made = Made::default();
     for number in 0..count {
         let block = coefficient_block(&mut random, number);
         put_block(&mut made.input, &block);

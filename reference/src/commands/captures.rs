@@ -154,10 +154,7 @@ pub fn recorded(stream: &[u8]) -> Vec<u8> {
 pub fn make(seed: u64, count: usize) -> Made {
     let code = Code::new();
     let mut random = Random::new(seed);
-    let mut made = Made {
-        input: Vec::new(),
-        expected: Vec::new(),
-    };
+    let mut made = Made::default();
     for cut in 0..=2 * FRAME {
         let bits = some(&code, &mut random, 26);
         record(&code, &mut made, &bits, 24 * FRAME + cut, 0);

@@ -38,10 +38,7 @@ impl Call {
 
 pub fn make(seed: u64, count: usize) -> Made {
     let mut random = Random::new(seed);
-    let mut made = Made {
-        input: Vec::new(),
-        expected: Vec::new(),
-    };
+    let mut made = Made::default();
     for kind in Format::ALL.map(Kind::from) {
         fixed_sessions(&mut made, &mut random, kind);
     }
@@ -62,10 +59,7 @@ pub fn make(seed: u64, count: usize) -> Made {
 /// Sessions of all five kinds, with blocks of the other standard between.
 pub fn make_of_both(seed: u64, count: usize) -> Made {
     let mut random = Random::new(seed);
-    let mut made = Made {
-        input: Vec::new(),
-        expected: Vec::new(),
-    };
+    let mut made = Made::default();
     for kind in Kind::ALL {
         if kind.standard() == Standard::H263 {
             fixed_sessions(&mut made, &mut random, kind);
@@ -101,10 +95,7 @@ fn fixed_sessions(made: &mut Made, random: &mut Random, kind: Kind) {
 
 /// What is expected of these sessions, as `make` writes them.
 pub fn expected(input: &[u8]) -> Option<Vec<u8>> {
-    let mut made = Made {
-        input: Vec::new(),
-        expected: Vec::new(),
-    };
+    let mut made = Made::default();
     let mut rest = input;
     while !rest.is_empty() {
         let (head, after) = rest.split_at_checked(7)?;

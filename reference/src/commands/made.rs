@@ -4,6 +4,7 @@
 pub type File = (String, Vec<u8>);
 
 /// An input and what is expected of it, under the subcommand's name.
+#[derive(Default)]
 pub struct Made {
     pub input: Vec<u8>,
     pub expected: Vec<u8>,

@@ -63,9 +63,7 @@ fn tame_stream(random: &mut Random, format: Format) -> Bits {
         let mut description = maker::description(random, format, style);
         description.temporal_reference = number;
         stream.append(&writer::picture(&description, &mut Plain));
-        while stream.count % 8 != 0 {
-            stream.push(false);
-        }
+        stream.fill();
     }
     stream
 }

@@ -49,10 +49,7 @@ impl Call {
 
 pub fn make(seed: u64, count: usize) -> Made {
     let mut random = Random::new(seed);
-    let mut made = Made {
-        input: Vec::new(),
-        expected: Vec::new(),
-    };
+    let mut made = Made::default();
     session(&mut made, Format::Qcif.into(), 0, 0, &[]);
     session(&mut made, Format::Cif.into(), 0, 0, &[]);
     // All of 4,100 pictures; past 65,535; to the last one, and from a state past it.

@@ -83,9 +83,7 @@ fn is_dropped(stretch: &[u8], from: usize) -> bool {
 /// A picture followed by fill to the byte's end.
 pub fn append(stream: &mut Bits, picture: &Bits) {
     stream.append(picture);
-    while !stream.count.is_multiple_of(8) {
-        stream.push(false);
-    }
+    stream.fill();
 }
 
 #[cfg(test)]
@@ -109,8 +107,8 @@ mod tests {
                 if number % 3 == 0 {
                     // An end code right after the picture or, with ESTUF, from a byte on; now and then
                     // something after it.
-                    while number % 2 == 0 && !bits.count.is_multiple_of(8) {
-                        bits.push(false);
+                    if number % 2 == 0 {
+                        bits.fill();
                     }
                     bits.word(END_OF_SEQUENCE);
                     if number % 4 == 0 {

@@ -136,9 +136,7 @@ fn group_header(
     manner: &mut impl Manner,
 ) {
     if manner.aligns_header() {
-        while !bits.count.is_multiple_of(8) {
-            bits.push(false);
-        }
+        bits.fill();
     }
     bits.word(GROUP_START_CODE);
     bits.field(group as u32, 5);

@@ -17,10 +17,7 @@ use super::write::{near_limit, spoil};
 
 pub fn make(seed: u64, count: usize) -> Made {
     let mut random = Random::new(seed);
-    let mut made = Made {
-        input: Vec::new(),
-        expected: Vec::new(),
-    };
+    let mut made = Made::default();
     for format in Format::ALL {
         session(&mut made, format.into(), 0, 0, &[]);
         // Past 65,535, to the last one, and from a state past it.
