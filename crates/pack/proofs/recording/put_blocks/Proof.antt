@@ -1,9 +1,9 @@
--- `pack::put_blocks` writes within the output. Assumes nothing.
+-- `pack::recording::put_blocks` writes within the output. Assumes nothing.
 use borrow.Author.Needs.{needs}
 use mathlib.Core.Path.{sym}
 use lib.Seq.{length-take-le}
-use Rattle.pack.proofs.put_blocks.Statement.{statement}
-use Rattle.pack.proofs.put_blocks.Tie as tie
+use Rattle.pack.proofs.recording.put_blocks.Statement.{statement}
+use Rattle.pack.proofs.recording.put_blocks.Tie as tie
 
 slice-aggregate-write-all : tie.Need-slice-aggregate-write-all
 slice-aggregate-write-all c = sym (length-take-le _ _ (c .before .if2 .taken))

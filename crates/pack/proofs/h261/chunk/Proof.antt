@@ -1,11 +1,11 @@
--- `pack::chunk` ends: each turn goes on by a bit at least, and no buffer changes its length. Assumes nothing.
+-- `pack::h261::chunk` ends: each turn goes on by a bit at least, and no buffer changes its length. Assumes nothing.
 use mathlib.Core.Path.{_≡_}
 use Prim.Native.Nat.{_-_, _*_}
 use native.Mathlib.Omega.{arith}
 use lib.ListN.{length}
 use borrow.Author.Needs.{needs}
-use Rattle.pack.proofs.chunk.Statement.{statement}
-use Rattle.pack.proofs.chunk.Tie as tie
+use Rattle.pack.proofs.h261.chunk.Statement.{statement}
+use Rattle.pack.proofs.h261.chunk.Tie as tie
 
 abbrev Inv-loop : tie.InvT-loop
 Inv-loop bytes picture₀ first₀ second₀ pack₀ at₀ picture first second pack at = (length picture ≡ length picture₀) × (length first ≡ length first₀) × (length second ≡ length second₀)
