@@ -18,7 +18,6 @@ const USAGE: &str = "usage:
   reference annex-a > COEFFICIENTS
   reference annex-a-figures < OUTPUTS
   reference delivered < SESSIONS
-  reference before-h263 < BLOCKS > BLOCKS
   reference list [sqcif|qcif|cif] < BLOCKS
   reference reads sqcif|qcif|cif < BLOCKS
   reference frames sqcif|qcif|cif [timed] < BLOCKS > YUV4MPEG2
@@ -58,7 +57,6 @@ fn run(arguments: &[&str]) -> Outcome {
             let expected = commands::deliver::expected(&input()?);
             output(&expected.ok_or("sessions that end inside a call")?)
         }
-        ["before-h263"] => output(&commands::before::h263(&input()?)),
         ["list"] => output(reference::lister::list(Size::Qcif, &input()?).as_bytes()),
         ["list", size] => output(reference::lister::list(sized(size)?, &input()?).as_bytes()),
         ["reads", size] => {

@@ -1,38 +1,79 @@
 -- What a word names, by what is left of it after some of its characters. Assumes nothing.
-use Prim.Native.Nat.{ℕ, _+_, _≤_, _<_}
+use Prim.Native.Nat.{ℕ, _+_, _-_, _≤_, _<_}
 use native.Mathlib.Omega.{arith}
 use borrow.Author.Tests.{le-leb, lt-leb, leb-true}
 use mathlib.Core.Path.{_≡_, refl, sym, ap, _∙_}
 use mathlib.Core.Bool.{Bool, true, false, false≢true}
 use mathlib.Core.List.{List, [], _∷_}
 use lib.Dec.{leb}
-use lib.ListN.{length, drop, getD, drop-of-length-le}
+use lib.ListN.{length, take, drop, getD, length-take, length-drop, drop-of-length-le}
+use lib.Seq.{take-all}
 use Rattle.laws.specs.Choice.{pick, both}
-use Rattle.laws.proofs.Lists.{drop-on}
 use Rattle.laws.specs.Lists.{alike}
-use Rattle.h261_groups.specs.declared.Format.the-variants.{Qcif, Cif}
-use Rattle.arguments.specs.declared.FormatWord.{FormatWord}
-use Rattle.arguments.specs.declared.FormatWord.the-variants as F
+use Rattle.laws.proofs.Lists.{drop-on, alike-lengths}
+use Rattle.size.specs.declared.Size.{Size}
+use Rattle.size.specs.declared.Size.the-variants.{SubQcif, Qcif, Cif}
+use Rattle.vault.specs.declared.Standard.{Standard}
+use Rattle.vault.specs.declared.Standard.the-variants.{H261, H263}
+use Rattle.coding.specs.declared.KindFound.{KindFound}
+use Rattle.coding.specs.Kind.{kindIn}
+use Rattle.arguments.specs.declared.SizeWord.{SizeWord}
+use Rattle.arguments.specs.declared.KindWord.{KindWord}
+use Rattle.arguments.specs.declared.SizeWord.the-variants as S
+use Rattle.arguments.specs.declared.KindWord.the-variants as K
 use Rattle.arguments.specs.declared.ClipWord.the-variants as C
-use Rattle.arguments.specs.Words.{qcifWord, cifWord, formatNamed, digit, longer, clipAfter, clipNamed}
+use Rattle.arguments.specs.Words.{subQcifWord, qcifWord, cifWord, h263Word, sizeNamed, kindFound, kindSized, kindNamed, digit, longer, clipAfter, clipNamed}
 
--- ---- a format
-abbrev byTests : Bool → Bool → FormatWord
-byTests a b = pick a (F.Names Qcif) (pick b (F.Names Cif) F.Other)
+-- ---- a size
+abbrev byTests : Bool → Bool → Bool → SizeWord
+byTests a b c = pick a (S.Names SubQcif) (pick b (S.Names Qcif) (pick c (S.Names Cif) S.Other))
 
-pub names-qcif : (word : List ℕ) {a : Bool} → a ≡ alike word qcifWord → a ≡ true → F.Names Qcif ≡ formatNamed word
-unfolding formatNamed
-names-qcif word e f = sym (ap (λ (t : Bool). byTests t (alike word cifWord)) (sym e ∙ f))
+module _ (word : List ℕ) {a : Bool} (e : a ≡ alike word subQcifWord) where
+  pub names-sub-qcif : a ≡ true → S.Names SubQcif ≡ sizeNamed word
+  unfolding sizeNamed
+  names-sub-qcif f = sym (ap (λ (t : Bool). byTests t (alike word qcifWord) (alike word cifWord)) (sym e ∙ f))
 
-pub names-other : (word : List ℕ) {a b : Bool} → a ≡ alike word qcifWord → a ≡ false → b ≡ alike word cifWord → byTests false b ≡ formatNamed word
-unfolding formatNamed
-names-other word e f g = λ i. byTests ((sym f ∙ e) i) (g i)
+  pub names-qcif : {b : Bool} → a ≡ false → b ≡ alike word qcifWord → b ≡ true → S.Names Qcif ≡ sizeNamed word
+  unfolding sizeNamed
+  names-qcif f g h = λ i. byTests ((sym f ∙ e) i) ((sym h ∙ g) i) (alike word cifWord)
 
-pub names-cif : (word : List ℕ) {a b : Bool} → a ≡ alike word qcifWord → a ≡ false → b ≡ alike word cifWord → b ≡ true → F.Names Cif ≡ formatNamed word
-names-cif word e f g h = ap (λ (t : Bool). byTests false t) (sym h) ∙ names-other word e f g
+  pub names-last : {b c : Bool} → a ≡ false → b ≡ alike word qcifWord → b ≡ false → c ≡ alike word cifWord → byTests false false c ≡ sizeNamed word
+  unfolding sizeNamed
+  names-last f g h k = λ i. byTests ((sym f ∙ e) i) ((sym h ∙ g) i) (k i)
 
-pub names-none : (word : List ℕ) {a b : Bool} → a ≡ alike word qcifWord → a ≡ false → b ≡ alike word cifWord → b ≡ false → F.Other ≡ formatNamed word
-names-none word e f g h = ap (λ (t : Bool). byTests false t) (sym h) ∙ names-other word e f g
+  pub names-cif : {b c : Bool} → a ≡ false → b ≡ alike word qcifWord → b ≡ false → c ≡ alike word cifWord → c ≡ true → S.Names Cif ≡ sizeNamed word
+  names-cif f g h k l = ap (λ (t : Bool). byTests false false t) (sym l) ∙ names-last f g h k
+
+  pub names-none : {b c : Bool} → a ≡ false → b ≡ alike word qcifWord → b ≡ false → c ≡ alike word cifWord → c ≡ false → S.Other ≡ sizeNamed word
+  names-none f g h k l = ap (λ (t : Bool). byTests false false t) (sym l) ∙ names-last f g h k
+
+-- ---- a kind
+module _ (standard : Standard) (word : List ℕ) {a : SizeWord} (e : a ≡ sizeNamed word) where
+  pub unsized : a ≡ S.Other → K.Other ≡ kindSized standard (sizeNamed word)
+  unsized f = ap (λ (w : SizeWord). kindSized standard w) (sym f ∙ e)
+
+  pub sized-as : {size : Size} {b : KindFound} → a ≡ S.Names size → b ≡ kindIn standard size → kindFound b ≡ kindSized standard (sizeNamed word)
+  sized-as f g = ap kindFound g ∙ ap (λ (w : SizeWord). kindSized standard w) (sym f ∙ e)
+
+module _ (word : List ℕ) where
+  abbrev byStart : Bool → KindWord
+  byStart t = pick t (kindSized H263 (sizeNamed (drop 5 word))) (kindSized H261 (sizeNamed word))
+
+  pub starts-h263 : {b : Bool} → b ≡ alike (take 5 word) h263Word → b ≡ true → kindSized H263 (sizeNamed (drop 5 word)) ≡ kindNamed word
+  unfolding kindNamed
+  starts-h263 e f = ap byStart (sym f ∙ e)
+
+  pub starts-h261 : {b : Bool} → b ≡ alike (take 5 word) h263Word → b ≡ false → kindSized H261 (sizeNamed word) ≡ kindNamed word
+  unfolding kindNamed
+  starts-h261 e f = ap byStart (sym f ∙ e)
+
+  -- what follows it, cut to its length
+  pub rest-named : kindSized H263 (sizeNamed (take (length word - 5) (drop 5 word))) ≡ kindSized H263 (sizeNamed (drop 5 word))
+  rest-named = ap (λ (l : List ℕ). kindSized H263 (sizeNamed l)) (take-all (length word - 5) (drop 5 word) (omega (arith, length-drop 5 word)))
+
+  -- a word that is too short for it doesn't start with it
+  pub starts-short : length word < 5 → kindSized H261 (sizeNamed word) ≡ kindNamed word
+  starts-short s = starts-h261 refl (alike-lengths (take 5 word) h263Word (λ (e : length (take 5 word) ≡ 5). omega (arith, e, length-take 5 word)))
 
 -- ---- a number
 pub clip-none : (l : List ℕ) → length l ≡ 0 → clipNamed l ≡ C.Other

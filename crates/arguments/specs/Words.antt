@@ -1,26 +1,57 @@
--- What a program's words name: a format, a clip. Assumes nothing.
+-- What a program's words name: a size, a kind, a clip. Assumes nothing.
 use Prim.Native.Nat.{ℕ, _+_, _-_, _*_}
 use mathlib.Core.Bool.{Bool}
 use mathlib.Core.List.{List, [], _∷_}
 use lib.Dec.{leb}
+use lib.ListN.{take, drop}
 use Rattle.laws.specs.Choice.{pick, both}
 use Rattle.laws.specs.Lists.{alike}
-use Rattle.h261_groups.specs.declared.Format.the-variants.{Qcif, Cif}
-use Rattle.arguments.specs.declared.FormatWord.{FormatWord}
+use Rattle.size.specs.declared.Size.the-variants.{SubQcif, Qcif, Cif}
+use Rattle.vault.specs.declared.Standard.{Standard}
+use Rattle.vault.specs.declared.Standard.the-variants.{H261, H263}
+use Rattle.coding.specs.declared.KindFound.{KindFound}
+use Rattle.coding.specs.declared.KindFound.the-variants as Found
+use Rattle.coding.specs.Kind.{kindIn}
+use Rattle.arguments.specs.declared.SizeWord.{SizeWord}
+use Rattle.arguments.specs.declared.KindWord.{KindWord}
 use Rattle.arguments.specs.declared.ClipWord.{ClipWord}
-use Rattle.arguments.specs.declared.FormatWord.the-variants as F
+use Rattle.arguments.specs.declared.SizeWord.the-variants as S
+use Rattle.arguments.specs.declared.KindWord.the-variants as K
 use Rattle.arguments.specs.declared.ClipWord.the-variants as C
 
--- "qcif", "cif"
+-- ---- a size
+-- "sqcif", "qcif", "cif"
+abbrev pub subQcifWord : List ℕ
+subQcifWord = 115 ∷ 113 ∷ 99 ∷ 105 ∷ 102 ∷ []
+
 abbrev pub qcifWord : List ℕ
 qcifWord = 113 ∷ 99 ∷ 105 ∷ 102 ∷ []
 
 abbrev pub cifWord : List ℕ
 cifWord = 99 ∷ 105 ∷ 102 ∷ []
 
-unfoldable pub formatNamed : List ℕ → FormatWord
-formatNamed word = pick (alike word qcifWord) (F.Names Qcif) (pick (alike word cifWord) (F.Names Cif) F.Other)
+unfoldable pub sizeNamed : List ℕ → SizeWord
+sizeNamed word = pick (alike word subQcifWord) (S.Names SubQcif) (pick (alike word qcifWord) (S.Names Qcif) (pick (alike word cifWord) (S.Names Cif) S.Other))
 
+-- ---- a kind
+-- a standard's of a size, if it has one
+abbrev pub kindFound : KindFound → KindWord
+kindFound (Found.Kind k) = K.Names k
+kindFound Found.Absent = K.Other
+
+abbrev pub kindSized : Standard → SizeWord → KindWord
+kindSized standard (S.Names size) = kindFound (kindIn standard size)
+kindSized standard S.Other = K.Other
+
+-- "h263-"
+abbrev pub h263Word : List ℕ
+h263Word = 104 ∷ 50 ∷ 54 ∷ 51 ∷ 45 ∷ []
+
+-- a size's word after that is H.263 in the size, and alone is H.261 in it
+unfoldable pub kindNamed : List ℕ → KindWord
+kindNamed word = pick (alike (take 5 word) h263Word) (kindSized H263 (sizeNamed (drop 5 word))) (kindSized H261 (sizeNamed word))
+
+-- ---- a clip
 -- decimal digits, and a number of 16 bits
 abbrev pub digit : ℕ → Bool
 digit c = both (leb 48 c) (leb c 57)

@@ -1,12 +1,20 @@
 // What the words that a program is started with name.
-use h261_groups::Format;
+use coding::Kind;
+use coding::KindFound;
+use size::Size;
 use text::same;
+use vault::Standard;
 ghost use mathlib.Core.Path.{_≡_};
 ghost use Prim.Native.Nat.{_+_, _-_, _*_, _≤_};
-ghost use Rattle.arguments.specs.Words.{formatNamed, digit, longer, clipNamed};
+ghost use Rattle.arguments.specs.Words.{sizeNamed, kindSized, kindNamed, digit, longer, clipNamed};
 
-pub enum FormatWord {
-    Names(Format),
+pub enum SizeWord {
+    Names(Size),
+    Other,
+}
+
+pub enum KindWord {
+    Names(Kind),
     Other,
 }
 
@@ -15,16 +23,46 @@ pub enum ClipWord {
     Other,
 }
 
-pub fn format_named(word: &[u8]) -> FormatWord
-    ensures { λ r. ⌜ r ≡ formatNamed (now (word .entry)) ⌝ }
+// "sqcif", "qcif" or "cif".
+pub fn size_named(word: &[u8]) -> SizeWord
+    ensures { λ r. ⌜ r ≡ sizeNamed (now (word .entry)) ⌝ }
 {
+    if same(word, b"sqcif") {
+        return SizeWord::Names(Size::SubQcif);
+    }
     if same(word, b"qcif") {
-        return FormatWord::Names(Format::Qcif);
+        return SizeWord::Names(Size::Qcif);
     }
     if same(word, b"cif") {
-        return FormatWord::Names(Format::Cif);
+        return SizeWord::Names(Size::Cif);
     }
-    FormatWord::Other
+    SizeWord::Other
+}
+
+// A standard's kind of the size that a word names.
+fn kind_sized(standard: Standard, word: &[u8]) -> KindWord
+    ensures { λ r. ⌜ r ≡ kindSized standard (sizeNamed (now (word .entry))) ⌝ }
+{
+    let SizeWord::Names(size) = size_named(word) else {
+        return KindWord::Other;
+    };
+    match coding::kind_in(standard, size) {
+        KindFound::Kind(kind) => KindWord::Names(kind),
+        KindFound::Absent => KindWord::Other,
+    }
+}
+
+// A size's word is H.261's; after "h263-" it is H.263's.
+pub fn kind_named(word: &[u8]) -> KindWord
+    ensures { λ r. ⌜ r ≡ kindNamed (now (word .entry)) ⌝ }
+{
+    if word.len() < 5 {
+        return kind_sized(Standard::H261, word);
+    }
+    if same(&word[..5], b"h263-") {
+        return kind_sized(Standard::H263, &word[5..]);
+    }
+    kind_sized(Standard::H261, word)
 }
 
 fn is_digit(c: u8) -> bool

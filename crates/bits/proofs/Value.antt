@@ -6,7 +6,7 @@ use Prim.Native.Nat.{ℕ, zero, suc, _+_, _-_, _*_, _/_, _%_, _^_, _<_, _≤_}
 use native.Mathlib.Nat.{add-zero, zero-add, add-suc, add-assoc, mul-assoc, mul-one, pow-suc, mod-lt, div-add-mod', div-one, div-eq-of-lt, div-div-eq-div-mul}
 use native.Mathlib.Omega.{arith}
 use lib.Dec.{lit<, lit≤}
-use lib.Pow.{high, low}
+use lib.Pow.{high, low, field, shl-shr, shr-shr}
 use lib.ListN.{length, getD, drop}
 use Rattle.laws.proofs.Rows.{lt-or-ge}
 use Rattle.bits.specs.Bits.{Bit, bitOf, num, bitsOf, bitNum, bitAt, value, bitsFrom, bitsLeft}
@@ -87,13 +87,23 @@ four-bytes s j b0 b1 b2 b3 e0 e1 e2 e3 h0 h1 h2 h3 =
     let b3 = byte-value s (a + 8 + 8 + 8) (j + 3) (omega arith) (rw e3 at h3) in
     omega arith
 
--- 24 bits from any place lie in four bytes
-pub window-is : (s : List ℕ) (at : ℕ) → value s (at / 8 * 8) 32 / 2 ^ (8 - at % 8) % 2 ^ 24 ≡ value s at 24
-window-is s at =
-    let t : 32 ≡ at % 8 + 24 + (8 - at % 8) = omega arith in
-    let p : at / 8 * 8 + at % 8 ≡ at = div-add-mod' at 8 in
-    ap (λ (x : ℕ). value s (at / 8 * 8) x / 2 ^ (8 - at % 8) % 2 ^ 24) t
-    ∙ value-within s (at / 8 * 8) (at % 8) 24 (8 - at % 8) ∙ ap (λ (x : ℕ). value s x 24) p
+-- 24 bits from any place lie in four bytes: those before the place are shifted out, then those after the 24
+pub window-is : (s : List ℕ) (at : ℕ) → (value s (at / 8 * 8) 32 * 2 ^ (at % 8)) % 2 ^ 32 / 2 ^ 8 ≡ value s at 24
+window-is s at = shifted (value s (at / 8 * 8) 32) (at % 8) (omega arith) ∙ within
+  where
+    shifted : (w r : ℕ) → r ≤ 8 → (w * 2 ^ r) % 2 ^ 32 / 2 ^ 8 ≡ w / 2 ^ (8 - r) % 2 ^ 24
+    shifted w r l =
+        let e : 8 ≡ r + (8 - r) = omega arith in
+        field (w * 2 ^ r) 24 8
+        ∙ ap (λ (x : ℕ). x % 2 ^ 24)
+        (ap (λ (k : ℕ). w * 2 ^ r / 2 ^ k) e ∙ sym (shr-shr (w * 2 ^ r) r (8 - r)) ∙ ap (λ (x : ℕ). x / 2 ^ (8 - r)) (shl-shr w r))
+
+    within : value s (at / 8 * 8) 32 / 2 ^ (8 - at % 8) % 2 ^ 24 ≡ value s at 24
+    within =
+        let t : 32 ≡ at % 8 + 24 + (8 - at % 8) = omega arith in
+        let p : at / 8 * 8 + at % 8 ≡ at = div-add-mod' at 8 in
+        ap (λ (x : ℕ). value s (at / 8 * 8) x / 2 ^ (8 - at % 8) % 2 ^ 24) t
+        ∙ value-within s (at / 8 * 8) (at % 8) 24 (8 - at % 8) ∙ ap (λ (x : ℕ). value s x 24) p
 
 -- the first k bits of a window
 pub window-first : (s : List ℕ) (at w k : ℕ) → w ≡ value s at 24 → k ≤ 24 → w / 2 ^ (24 - k) ≡ value s at k

@@ -82,8 +82,7 @@ pub fn window(bytes: &[u8], at: usize) -> u32
     ensures { λ r. ⌜ r ≡ value (now (bytes .entry)) at 24 ⌝ }
 {
     let whole = four(bytes, at / 8);
-    let after = 8 - at % 8;
-    (whole >> after) % 16777216
+    (whole << (at % 8)) / 256
 }
 
 // A field of `width` bits. "A field with too few bits left is 3, whatever they hold."

@@ -1,20 +1,20 @@
-// What the test programs share: numbers, formats and descriptions in records, lent and filled buffers, the check by which a long output is compared in a line, and what they
+// What the test programs share: numbers, kinds and descriptions in records, lent and filled buffers, the check by which a long output is compared in a line, and what they
 // print.
+use coding::Kind;
 use h261_groups::Format;
 use libc::STDIN_FILENO;
 use libc::STDOUT_FILENO;
 use refusals::Refusal;
+use size::Size;
 ghost use mathlib.Core.Path.{_≡_};
 ghost use mathlib.Core.Bool.{true};
 ghost use Prim.Native.Nat.{_+_, _-_, _*_, _<_, _≤_, min};
-ghost use lib.Dec.{eqb};
 ghost use lib.ListN.{length, replicate};
 ghost use Rattle.io.specs.Counts.{Counts};
 ghost use Rattle.laws.specs.Choice.{pick};
 ghost use Rattle.laws.specs.Lists.{alike};
-ghost use Rattle.h261_groups.specs.declared.Format.the-variants.{Qcif, Cif};
 ghost use Rattle.checks.specs.Check.{checkFrom};
-ghost use Rattle.checks.specs.Input.{Kept, roomFor};
+ghost use Rattle.checks.specs.Input.{kindNumbered, Kept, roomFor};
 
 // ---- records
 
@@ -64,14 +64,17 @@ pub fn picture_of(a: u8, b: u8, c: u8, d: u8) -> u32
     four(a, b, c, d) as u32
 }
 
-// The format that a record names: 0 QCIF, else CIF.
-pub fn format_of(byte: u8) -> Format
-    ensures { λ r. ⌜ r ≡ pick (eqb byte 0) Qcif Cif ⌝ }
+// The kind that a record's first byte names: 0 QCIF and 1 CIF of H.261, 2 sub-QCIF, 3 QCIF and else CIF of H.263.
+pub fn kind_named(byte: u8) -> Kind
+    ensures { λ r. ⌜ r ≡ kindNumbered byte ⌝ }
 {
-    if byte == 0 {
-        return Format::Qcif;
+    match byte {
+        0 => Kind::H261(Format::Qcif),
+        1 => Kind::H261(Format::Cif),
+        2 => Kind::H263(Size::SubQcif),
+        3 => Kind::H263(Size::Qcif),
+        _ => Kind::H263(Size::Cif),
     }
-    Format::Cif
 }
 
 // Whether the input fills a buffer.

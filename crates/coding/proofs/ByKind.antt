@@ -1,84 +1,88 @@
--- What a function of H.261's says of the kind's format is what the kind's coding says. Assumes nothing.
+-- What a function of one standard asks and says is what the kind's coding asks and says. Assumes nothing.
 use mathlib.Core.Path.{_≡_, sym, ap, subst, _∙_}
-use mathlib.Core.Bool.{Bool, true}
-use mathlib.Core.List.{List, []}
+use mathlib.Core.Bool.{true}
+use mathlib.Core.List.{List}
 use Prim.Native.Nat.{ℕ}
 use lib.Dec.{T}
 use lib.ListN.{length}
 use Rattle.laws.proofs.Choice.{true-T}
+use Rattle.bits.specs.Output.{limitedOutput}
 use Rattle.refusals.specs.Told.{Told, verdictOn, foundOr}
-use Rattle.size.specs.Size.{storeLength, outputLength}
+use Rattle.size.specs.declared.Size.{Size}
+use Rattle.size.specs.Size.{limit, storeLength}
 use Rattle.h261_groups.specs.declared.Format.{Format}
-use Rattle.h261_groups.specs.Format.{sizeOf, macroblocksLength}
-use Rattle.layout.specs.Flat.{Flat, flat}
-use Rattle.h261_description.specs.Fields.{refresh}
-use Rattle.h261_description.specs.Valid.{valid}
-use Rattle.h261_description.proofs.Pictured.{valid-lists}
-use Rattle.fields.specs.Answer.{found}
-use Rattle.h261_reader.specs.Described.{Blank, described, zeros}
-use Rattle.h261_writer.specs.Output.{pictureBits, filledWithin}
-use Rattle.h261_render.specs.Sample.{rendered}
-use Rattle.h261_render.specs.Turn.{PictureOf}
+use Rattle.h261_groups.specs.Format.{sizeOf}
+use Rattle.layout.specs.Flat.{Flat}
 use Rattle.coding.specs.declared.Kind.{Kind}
-use Rattle.h261_layers.specs.Grammar.{readWidths}
-use Rattle.coding.specs.Kind.{formatOf, kindSize, codingOf, readsOf}
-use Rattle.coding.specs.Described.{BlankFor, outputWith, Writable, Drawable}
+use Rattle.coding.specs.declared.Kind.the-variants.{H261, H263}
+use Rattle.coding.specs.Coding.{Coding}
+use Rattle.coding.specs.H261.{h261}
+use Rattle.coding.specs.H263.{h263}
+use Rattle.coding.specs.Kind.{kindSize, codingOf, readsOf}
+use Rattle.coding.specs.Described.{BlankFor, Drawable}
+use Rattle.h261_layers.specs.Grammar as G261
+use Rattle.h261_reader.specs.Described as R261
+use Rattle.h261_render.specs.Turn as T261
+use Rattle.h263_layers.specs.Grammar as G263
+use Rattle.h263_reader.specs.Described as R263
+use Rattle.h263_render.specs.Turn as T263
 
-module _ (k : Kind) {f : Format} (is : f ≡ formatOf k) where
-  -- ---- reading
-  pub can-parse : {head macroblocks levels : List ℕ} → BlankFor k head macroblocks levels → Blank f head macroblocks levels
-  can-parse {head} {macroblocks} {levels} b = subst (λ (g : Format). Blank g head macroblocks levels) (sym is) b
+-- ---- what a coding says, another says that it equals
+module _ {c e : Coding Flat} (is : c ≡ e) where
+  pub says-verdict : {v : Told (Unit {0})} (bytes : List ℕ) (n : ℕ) → v ≡ verdictOn (c .read bytes n) → v ≡ verdictOn (e .read bytes n)
+  says-verdict bytes n h = h ∙ ap (λ (x : Coding Flat). verdictOn (x .read bytes n)) is
 
-  module _ {head macroblocks levels : List ℕ} (b : BlankFor k head macroblocks levels) (bytes : List ℕ) (n : ℕ) where
-    pub parsed-verdict : {v : Told (Unit {0})} → v ≡ verdictOn (found (described f bytes n)) → v ≡ verdictOn (codingOf k .read bytes n)
-    unfolding codingOf
-    parsed-verdict e = e ∙ ap (λ (g : Format). verdictOn (found (described g bytes n))) is
+  pub says-buffers : {d before zeros : Flat} (bytes : List ℕ) (n : ℕ) → zeros ≡ before → d ≡ foundOr zeros (c .read bytes n) → d ≡ foundOr before (e .read bytes n)
+  says-buffers bytes n b h = h ∙ (λ i. foundOr (b i) (is i .read bytes n))
 
-    pub parsed-buffers : {d : Flat} → d ≡ foundOr (zeros f) (found (described f bytes n)) → d ≡ foundOr (flat head macroblocks levels) (codingOf k .read bytes n)
-    unfolding codingOf
-    parsed-buffers e =
-        e ∙ ap (λ (g : Format). foundOr (zeros g) (found (described g bytes n))) is
-        ∙ (λ i. foundOr (flat (sym (b .head-blank) i) (sym (b .ms-blank) i) (sym (b .ls-blank) i)) (found (described (formatOf k) bytes n)))
+  pub is-valid : (d : Flat) → e .valid d ≡ true → T (c .valid d)
+  is-valid d v = true-T (c .valid d) (ap (λ (x : Coding Flat). x .valid d) is ∙ v)
 
-  pub parsed-reads : (bytes : List ℕ) (n : ℕ) {reads : ℕ} → reads ≡ length (readWidths f bytes n) → reads ≡ readsOf k bytes n
+  pub says-output : {s t : Size} {after : List ℕ} (d : Flat) (out : List ℕ) → s ≡ t → after ≡ limitedOutput (limit s) (c .written d) out → after ≡ limitedOutput (limit t) (e .written d) out
+  says-output d out s h = h ∙ (λ i. limitedOutput (limit (s i)) (is i .written d) out)
+
+-- ---- H.261
+module _ {k : Kind} {f : Format} (is : k ≡ H261 f) where
+  pub coded-h261 : h261 f ≡ codingOf k
+  unfolding codingOf
+  coded-h261 = sym (ap codingOf is)
+
+  pub size-h261 : sizeOf f ≡ kindSize k
+  size-h261 = sym (ap kindSize is)
+
+  pub blank-h261 : {head macroblocks levels : List ℕ} → BlankFor k head macroblocks levels → R261.Blank f head macroblocks levels
+  blank-h261 {head} {macroblocks} {levels} blank =
+      let b : BlankFor (H261 f) head macroblocks levels = subst (λ (x : Kind). BlankFor x head macroblocks levels) is blank in
+      record { head-blank = b .head-blank; ms-blank = b .ms-blank; ls-blank = b .ls-blank }
+
+  pub reads-h261 : {reads : ℕ} (bytes : List ℕ) (n : ℕ) → reads ≡ length (G261.readWidths f bytes n) → reads ≡ readsOf k bytes n
   unfolding readsOf
-  parsed-reads bytes n e = e ∙ ap (λ (g : Format). length (readWidths g bytes n)) is
+  reads-h261 bytes n e = e ∙ sym (ap (λ (x : Kind). readsOf x bytes n) is)
 
-  -- ---- judging
-  pub judged-valid : (d : Flat) {v : Bool} → v ≡ valid f d → v ≡ codingOf k .valid d
+  pub drawable-h261 : (d : Flat) (reference store : List ℕ) → Drawable k d reference store → T261.PictureOf f d (length reference) (length store)
+  drawable-h261 d reference store r =
+      let size = sym (ap storeLength size-h261) in
+      record { fine = is-valid coded-h261 d (r .valid-is); reference = r .reference-long ∙ size; store = r .store-long ∙ size }
+
+-- ---- H.263
+module _ {k : Kind} {size : Size} (is : k ≡ H263 size) where
+  pub coded-h263 : h263 size ≡ codingOf k
   unfolding codingOf
-  judged-valid d e = e ∙ ap (λ (g : Format). valid g d) is
+  coded-h263 = sym (ap codingOf is)
 
-  is-valid : (d : Flat) → codingOf k .valid d ≡ true → T (valid f d)
-  unfolding codingOf
-  is-valid d e = subst (λ (g : Format). T (valid g d)) (sym is) (true-T (valid (formatOf k) d) e)
+  pub size-h263 : size ≡ kindSize k
+  size-h263 = sym (ap kindSize is)
 
-  pub can-refresh : (d : Flat) → codingOf k .valid d ≡ true → length (d .macroblocks) ≡ macroblocksLength f
-  can-refresh d e = valid-lists f d (is-valid d e) .macroblocks-length
+  pub blank-h263 : {head macroblocks levels : List ℕ} → BlankFor k head macroblocks levels → R263.Blank size head macroblocks levels
+  blank-h263 {head} {macroblocks} {levels} blank =
+      let b : BlankFor (H263 size) head macroblocks levels = subst (λ (x : Kind). BlankFor x head macroblocks levels) is blank in
+      record { head-blank = b .head-blank; ms-blank = b .ms-blank; ls-blank = b .ls-blank }
 
-  -- the macroblocks' types alone decide
-  pub judged-refresh : (head macroblocks levels : List ℕ) {r : Bool} → r ≡ refresh f (flat [] macroblocks []) → r ≡ codingOf k .refresh (flat head macroblocks levels)
-  unfolding codingOf refresh
-  judged-refresh head macroblocks levels e = e ∙ ap (λ (g : Format). refresh g (flat head macroblocks levels)) is
+  pub reads-h263 : {reads : ℕ} (bytes : List ℕ) (n : ℕ) → reads ≡ length (G263.readWidths size bytes n) → reads ≡ readsOf k bytes n
+  unfolding readsOf
+  reads-h263 bytes n e = e ∙ sym (ap (λ (x : Kind). readsOf x bytes n) is)
 
-  -- ---- writing
-  pub can-write : (d : Flat) (out : List ℕ) → Writable k d out → (T (valid f d)) × (length out ≡ outputLength (sizeOf f))
-  can-write d out w = (is-valid d (w .valid-is), w .out-long ∙ sym (ap (λ (g : Format). outputLength (sizeOf g)) is))
-
-  pub wrote-count : (d : Flat) {count : ℕ} → count ≡ length (pictureBits f d) → count ≡ length (codingOf k .written d)
-  unfolding codingOf
-  wrote-count d e = e ∙ ap (λ (g : Format). length (pictureBits g d)) is
-
-  pub wrote-bytes : (d : Flat) (out : List ℕ) {after : List ℕ} → after ≡ filledWithin f d out → after ≡ outputWith (kindSize k) (codingOf k .written d) out
-  unfolding codingOf
-  wrote-bytes d out e = e ∙ ap (λ (g : Format). filledWithin g d out) is
-
-  -- ---- drawing
-  pub can-render : (d : Flat) (reference store : List ℕ) → Drawable k d reference store → PictureOf f d (length reference) (length store)
-  can-render d reference store r =
-      let size = sym (ap (λ (g : Format). storeLength (sizeOf g)) is) in
-      record { fine = is-valid d (r .valid-is); reference = r .reference-long ∙ size; store = r .store-long ∙ size }
-
-  pub drew : (d : Flat) (reference : List ℕ) {store : List ℕ} → store ≡ rendered f d reference → store ≡ codingOf k .render d reference
-  unfolding codingOf
-  drew d reference e = e ∙ ap (λ (g : Format). rendered g d reference) is
+  pub drawable-h263 : (d : Flat) (reference store : List ℕ) → Drawable k d reference store → T263.PictureOf size d (length reference) (length store)
+  drawable-h263 d reference store r =
+      let long = sym (ap storeLength size-h263) in
+      record { fine = is-valid coded-h263 d (r .valid-is); reference = r .reference-long ∙ long; store = r .store-long ∙ long }

@@ -1,4 +1,4 @@
--- H.261 obeys the laws of a coding, and so does what each kind's pictures are coded by. Assumes nothing.
+-- H.261 obeys the laws of a coding. Assumes nothing.
 use mathlib.Core.Path.{_≡_, refl, sym, ap, subst, _∙_}
 use mathlib.Core.List.{List}
 use mathlib.Core.Bool.{true}
@@ -30,7 +30,6 @@ use Rattle.h261_readback.proofs.ReadBack.{reads-back}
 use Rattle.h261_render.proofs.Rendered.{rendered-length}
 use Rattle.h261_render.proofs.Reference.{refresh-same}
 use Rattle.coding.specs.H261.{trOf, H261Lawful}
-use Rattle.coding.specs.Kind.{formatOf, codingOf, CodingLawful}
 
 module _ (f : Format) where
   read-found : (d : Flat) (bytes : List ℕ) → T (valid f d) → length (pictureBits f d) ≤ limit (sizeOf f) → Holds bytes (pictureBits f d)
@@ -78,7 +77,3 @@ h261-lawful f = record {
   modulus-most = lit≤ tt;
   anew = λ d s t v r. refresh-same f d s t (true-T (refresh f d) r);
 }
-
-pub coding-lawful : CodingLawful
-unfolding codingOf
-coding-lawful = record { each = λ k. h261-lawful (formatOf k) }

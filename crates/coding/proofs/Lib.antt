@@ -1,4 +1,5 @@
 pub mod H261
 pub mod H263
+pub mod AllLawful
 pub mod Scratch
 mod ByKind

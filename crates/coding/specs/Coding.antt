@@ -1,4 +1,4 @@
--- What a coding is: from bits to a description of a picture and back, and from a description to samples. H.261 is one (H261.antt). Assumes nothing.
+-- What a coding is: from bits to a description of a picture and back, and from a description to samples. H.261 and H.263 are two (H261.antt, H263.antt). Assumes nothing.
 use Prim.Native.Nat.{ℕ}
 use mathlib.Core.Bool.{Bool}
 use mathlib.Core.List.{List}

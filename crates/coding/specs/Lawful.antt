@@ -1,4 +1,4 @@
--- The laws of a coding: what a sender and a receiver of one clip rely on. H.261 obeys them (H261.antt). Assumes nothing.
+-- The laws of a coding: what a sender and a receiver of one clip rely on. H.261 and H.263 obey them (H261.antt, H263.antt). Assumes nothing.
 use mathlib.Core.Path.{_≡_}
 use mathlib.Core.Bool.{true}
 use mathlib.Core.List.{List}

@@ -1,5 +1,5 @@
 -- What a block ends, told without reading: the receiver's decision reads exactly where a last part is taken. Assumes nothing.
-use Prim.Native.Nat.{ℕ, _≤_}
+use Prim.Native.Nat.{ℕ}
 use mathlib.Core.Path.{_≡_, refl, sym, ap, _∙_}
 use mathlib.Core.Bool.{Bool, true, false}
 use mathlib.Core.List.{List}
@@ -8,7 +8,6 @@ use Rattle.laws.specs.Choice.{pick, alike}
 use Rattle.refusals.specs.Told.{Numbers, untabled, Told, accepted, refusedBy, refused}
 use Rattle.size.specs.declared.Size.{Size}
 use Rattle.layout.specs.Flat.{Flat}
-use Rattle.coding.specs.declared.Kind.{Kind}
 use Rattle.coding.specs.Kind.{kindSize, kindStandard, codingOf}
 use Rattle.vault.specs.declared.Standard.{Standard}
 use Rattle.vault.specs.declared.Header.{Header}
@@ -20,12 +19,9 @@ use Rattle.standing.specs.declared.Receiver.{Receiver}
 use Rattle.standing.specs.declared.Standing.{Standing}
 use Rattle.standing.specs.declared.Standing.the-variants as S
 use Rattle.standing.specs.Receive.{taken, failed, finished, countOf, markOf, Buffers, buffers, namedLengths, judgedBlock, endedPicture, tookOf, lineOf, byLine, byJudgement, decide}
-use Rattle.listing.specs.declared.Clip.{Clip}
-use Rattle.listing.specs.declared.Clip.the-variants as K
-use Rattle.listing.specs.Listed.{foundBy}
 use Rattle.counting.specs.declared.Ending.{Ending}
 use Rattle.counting.specs.declared.Ending.the-variants.{Nothing, Picture}
-use Rattle.counting.specs.Ending.{endedAfter, endedOpened, endedIn, endedWith, endedBy}
+use Rattle.counting.specs.Ending.{endedAfter, endedWith, endedBy}
 
 -- a last part that is taken is read, whatever is found
 read-ended : (r : Receiver) (header : Header) (found : Told Flat) → endedAfter (endedPicture codingOf r header found) ≡ Picture (countOf header)
@@ -84,14 +80,3 @@ module _ {right : Bool} {size : Size} (r : Receiver) (block collection first sec
   pub short-ends : right ≡ false → Nothing ≡ endedAfter (decide codingOf r block lent)
   unfolding byJudgement
   short-ends e = judged (refused 1 0) (by-lengths false e)
-
--- ---- of a block that comes while a clip is known, or none
-module _ (kind : Kind) (clip : Clip) (block : List ℕ) (b : Buffers) {x : Ending} where
-  pub known-ends : {r : Receiver} → clip ≡ K.Known r → x ≡ endedAfter (decide codingOf r block b) → x ≡ endedIn kind clip block b
-  unfolding endedIn
-  known-ends e h = h ∙ sym (ap (λ (k : Clip). endedIn kind k block b) e)
-
-  pub found-ends : {found told : Told Receiver} → clip ≡ K.Unknown → found ≡ foundBy kind block → found ≡ told → x ≡ endedOpened told block b → x ≡ endedIn kind clip block b
-  unfolding endedIn
-  found-ends e f g h =
-      h ∙ ap (λ (o : Told Receiver). endedOpened o block b) (sym g ∙ f) ∙ sym (ap (λ (k : Clip). endedIn kind k block b) e)

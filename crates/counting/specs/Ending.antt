@@ -3,8 +3,8 @@ use Prim.Native.Nat.{ℕ}
 use mathlib.Core.List.{List}
 use Rattle.laws.specs.Choice.{pick}
 use Rattle.refusals.specs.Told.{Told, accepted, refusedBy}
+use Rattle.size.specs.declared.Size.{Size}
 use Rattle.layout.specs.Flat.{Flat}
-use Rattle.coding.specs.declared.Kind.{Kind}
 use Rattle.coding.specs.Kind.{codingOf}
 use Rattle.vault.specs.declared.Header.{Header}
 use Rattle.standing.specs.declared.Line.{Line}
@@ -15,7 +15,6 @@ use Rattle.listing.specs.declared.Clip.{Clip}
 use Rattle.listing.specs.Listed.{foundBy}
 use Rattle.counting.specs.declared.Ending.{Ending}
 use Rattle.counting.specs.declared.Ending.the-variants.{Nothing, Picture}
-use Rattle.listing.specs.declared.Clip.the-variants as K
 
 -- a picture was read exactly where it failed or was finished
 abbrev pub endedAfter : Event Flat → Ending
@@ -26,14 +25,13 @@ endedAfter lost = Nothing
 endedAfter (failed header numbers) = Picture (countOf header)
 endedAfter (finished header d) = Picture (countOf header)
 
--- of a block that comes while this clip is known, or none
+-- of a block that comes to this receiver, or to none
 abbrev pub endedOpened : Told Receiver → List ℕ → Buffers → Ending
 endedOpened (accepted r) block b = endedAfter (decide codingOf r block b)
 endedOpened (refusedBy numbers) block b = Nothing
 
-unfoldable pub endedIn : Kind → Clip → List ℕ → Buffers → Ending
-endedIn kind K.Unknown block b = endedOpened (foundBy kind block) block b
-endedIn kind (K.Known r) block b = endedAfter (decide codingOf r block b)
+abbrev pub endedIn : Size → Clip → List ℕ → Buffers → Ending
+endedIn size clip block b = endedOpened (foundBy size clip block) block b
 
 -- ---- the same without reading: by the header of a block that is taken, and by its line
 abbrev pub endedWith : Header → Ending

@@ -1,6 +1,7 @@
 // How much reading the pictures of a vault cause: which blocks end one, how many fields and codewords reading it makes, and its line.
 use coding::Kind;
 use listing::Clip;
+use size::Size;
 use standing::Answer;
 use standing::Line;
 use standing::Opened;
@@ -78,23 +79,20 @@ fn ended_after(
     }
 }
 
-// A block that comes while this clip is known, or none: what `listing::list` will do with it.
+// A block that comes to this clip: what `listing::list` will do with it.
 pub fn ended(
-    kind: Kind,
+    size: Size,
     clip: Clip,
     block: &[u8],
     collection: &[u8],
     first: &[u8],
     second: &[u8],
 ) -> Ending
-    ensures { λ r. ⌜ r ≡ endedIn kind clip (now (block .entry)) (buffers (now (collection .entry)) (now (first .entry)) (now (second .entry))) ⌝ }
+    ensures { λ r. ⌜ r ≡ endedIn size clip (now (block .entry)) (buffers (now (collection .entry)) (now (first .entry)) (now (second .entry))) ⌝ }
 {
-    match clip {
-        Clip::Known(receiver) => ended_after(receiver, block, collection, first, second),
-        Clip::Unknown => match listing::find(kind, block) {
-            Opened::Open(receiver) => ended_after(receiver, block, collection, first, second),
-            Opened::Refused(_) => Ending::Nothing,
-        },
+    match listing::find(size, clip, block) {
+        Opened::Open(receiver) => ended_after(receiver, block, collection, first, second),
+        Opened::Refused(_) => Ending::Nothing,
     }
 }
 
@@ -104,7 +102,7 @@ pub fn ended(
 pub fn reads(kind: Kind, bytes: &[u8], count: usize) -> usize
     ensures { λ r. ⌜ r ≡ readsOf kind (now (bytes .entry)) count ⌝ }
 {
-    let mut head = [0u8; 15];
+    let mut head = [0u8; 23];
     let mut macroblocks = [0u8; 1584];
     let mut levels = [0u8; 152064];
     let heads = coding::head_length(kind);

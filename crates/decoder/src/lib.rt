@@ -95,11 +95,11 @@ fn draw_small(
     reference: &[u8],
     store: &mut [u8],
 ) -> Drawn
-    requires { ⌜ (RoomIn 6 396 38016 kind) × (Drawing kind (now reference) (now store)) ⌝ }
+    requires { ⌜ (RoomIn 14 396 38016 kind) × (Drawing kind (now reference) (now store)) ⌝ }
     ensures answer { λ r. ⌜ toldDrawn r ≡ markedTr kind mark (now (bytes .entry)) count ⌝ }
     ensures samples { λ _. ⌜ now (store .exit) ≡ foundOr (now (store .entry)) (markedStore kind mark (now (bytes .entry)) count (now (reference .entry))) ⌝ }
 {
-    let mut head = [0u8; 6];
+    let mut head = [0u8; 14];
     let mut macroblocks = [0u8; 396];
     let mut levels = [0u8; 38016];
     let heads = coding::head_length(kind);
@@ -131,7 +131,7 @@ fn draw_large(
     ensures answer { λ r. ⌜ toldDrawn r ≡ markedTr kind mark (now (bytes .entry)) count ⌝ }
     ensures samples { λ _. ⌜ now (store .exit) ≡ foundOr (now (store .entry)) (markedStore kind mark (now (bytes .entry)) count (now (reference .entry))) ⌝ }
 {
-    let mut head = [0u8; 15];
+    let mut head = [0u8; 23];
     let mut macroblocks = [0u8; 1584];
     let mut levels = [0u8; 152064];
     let heads = coding::head_length(kind);

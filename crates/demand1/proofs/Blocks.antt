@@ -4,7 +4,7 @@ use mathlib.Core.Path.{_≡_, refl, sym, ap, subst, _∙_}
 use mathlib.Core.Bool.{Bool, true, false}
 use mathlib.Core.List.{List, [], _∷_, _++_}
 use native.Mathlib.Omega.{arith}
-use borrow.Author.Tests.{eq-eqb, ne-eqb, leb-true}
+use borrow.Author.Tests.{eq-eqb, eqb-true, ne-eqb, leb-true}
 use lib.Dec.{eqb, ltb, leb}
 use lib.ListN.{length}
 use Rattle.laws.specs.Choice.{pick, both, either, opposite, alike}
@@ -15,7 +15,8 @@ use Rattle.size.specs.declared.Size.{Size}
 use Rattle.size.specs.Size.{limit}
 use Rattle.layout.specs.Flat.{Flat}
 use Rattle.coding.specs.declared.Kind.{Kind}
-use Rattle.coding.specs.Kind.{formatOf, kindSize, kindStandard, codingOf}
+use Rattle.coding.specs.declared.Kind.the-variants.{H261, H263}
+use Rattle.coding.specs.Kind.{kindSize, kindStandard, kindIn, codingOf}
 use Rattle.vault.specs.declared.Standard.{Standard}
 use Rattle.vault.specs.declared.Header.{Header}
 use Rattle.vault.specs.Block.{clipOf, partOf, lastOf, standardOf, checkSumOf, headerOf, headerRuled, fieldsFollow, sumOf, pictures, checkOf, ofClip, sameStandard, ofStandard, judgeOf}
@@ -26,15 +27,18 @@ use Rattle.standing.specs.declared.Standing.{Standing}
 use Rattle.standing.specs.declared.Receiver.{Receiver}
 use Rattle.standing.specs.Receive.{Event, refusing, taken, failed, finished, Buffers, freshReceiver, countOf, markOf, lineOf, judgedBlock, endedPicture, tookOf, byLine, byJudgement, decide, advance, answerOf, collectionAfter, storedBy, failedReceiver, cameTo, step}
 use Rattle.listing.specs.declared.Clip.{Clip}
-use Rattle.listing.specs.Listed.{openedBy, foundBy, Came, stepped, byOpened, listed}
+use Rattle.listing.specs.Listed.{openedKind, openedBy, foundBy, Came, stepped, byOpened, begun, listed}
 use Rattle.sender.specs.declared.Sender.{Sender}
 use Rattle.standing.specs.declared.Standing.the-variants as T
 use Rattle.standing.specs.Receive as R
 use Rattle.sender.specs.Send as S
 use Rattle.listing.specs.declared.Clip.the-variants as K
+use Rattle.size.specs.declared.Size.the-variants as Z
+use Rattle.h261_groups.specs.declared.Format.the-variants as F
+use Rattle.vault.specs.declared.Standard.the-variants as N
 use Rattle.demand1.specs.Order.{Verdict, when, firstOf, Refuses}
 use Rattle.demand1.specs.Rules.{pictureRules, sendRules, checkRules, judgeRules, blockRules, takes, markRule, lastRules}
-use Rattle.demand1.specs.Demand1.{verdictSaid, BlockRefuses, receiverOf}
+use Rattle.demand1.specs.Demand1.{verdictSaid, BlockRefuses, kindOr, kindOfBlock, receiverOf}
 use Rattle.demand1.proofs.Order.{orElse, first-append}
 use Rattle.demand1.proofs.Pictures.{kind-due}
 
@@ -132,14 +136,14 @@ module _ (r : Receiver) (block : List ℕ) (b : Buffers) where
       go false = λ numbers h. (refl, refl, refl)
 
   abbrev lastOnes : List Verdict
-  lastOnes = pictureRules (formatOf (r .kind)) after (countOf header) ++ (markRule r header (codingOf (r .kind) .read after (countOf header)) ∷ [])
+  lastOnes = pictureRules (r .kind) after (countOf header) ++ (markRule r header (codingOf (r .kind) .read after (countOf header)) ∷ [])
 
   took-due : (standing : Standing) → eventVerdict (tookOf codingOf r header standing after) ≡ firstOf (pick (lastOf block) lastOnes [])
   unfolding tookOf
   took-due standing = go (lastOf block)
     where
       go : (last : Bool) → eventVerdict (pick last (endedPicture codingOf r header (codingOf (r .kind) .read after (countOf header))) (taken header standing)) ≡ firstOf (pick last lastOnes [])
-      go true = ended-due (pictureRules (formatOf (r .kind)) after (countOf header)) (codingOf (r .kind) .read after (countOf header)) (kind-due (r .kind) after (countOf header))
+      go true = ended-due (pictureRules (r .kind) after (countOf header)) (codingOf (r .kind) .read after (countOf header)) (kind-due (r .kind) after (countOf header))
       go false = refl
 
   took-fails : (standing : Standing) → Fails (tookOf codingOf r header standing after)
@@ -226,39 +230,68 @@ all-fine true true false e = absurd (told-apart (sym e))
 all-fine true false fine e = absurd (told-apart (sym e))
 all-fine false sum fine e = absurd (told-apart (sym e))
 
-module _ (kind : Kind) (block : List ℕ) where
+-- a receiver of the block's standard is opened, or 5 is due
+opened-kind : (size : Size) (standard : Standard) (clip : ℕ) → eqb clip 0 ≡ false
+    → (let kind : Kind = kindOr size (kindIn standard size) in openedKind clip (kindIn standard size) ≡ withValue (freshReceiver clip kind) (firstOf (when 5 (opposite (sameStandard standard (kindStandard kind))) ∷ [])))
+opened-kind Z.SubQcif N.H261 clip e = refl
+opened-kind Z.Qcif N.H261 clip e = ap (λ (z : Bool). pick z (refused 22 0) (accepted (freshReceiver clip (H261 F.Qcif)))) e
+opened-kind Z.Cif N.H261 clip e = ap (λ (z : Bool). pick z (refused 22 0) (accepted (freshReceiver clip (H261 F.Cif)))) e
+opened-kind size N.H263 clip e = ap (λ (z : Bool). pick z (refused 22 0) (accepted (freshReceiver clip (H263 size)))) e
+
+kind-sized : (size : Size) (standard : Standard) → kindSize (kindOr size (kindIn standard size)) ≡ size
+kind-sized Z.SubQcif N.H261 = refl
+kind-sized Z.Qcif N.H261 = refl
+kind-sized Z.Cif N.H261 = refl
+kind-sized size N.H263 = refl
+
+-- a block that comes to a clip of this number
+module _ (size : Size) (clip : ℕ) (block : List ℕ) where
+  abbrev kind : Kind
+  kind = kindOfBlock size block
+
   abbrev own : Receiver
-  own = freshReceiver (clipOf block) kind
+  own = freshReceiver clip kind
 
   abbrev same : Bool
   same = sameStandard (standardOf block) (kindStandard kind)
 
-  -- its own clip's block is no other's: only 5 is left
-  abbrev ownVerdict : Verdict
-  ownVerdict = orElse (firstOf (checkRules (kindSize kind) block)) (firstOf (when 5 (opposite same) ∷ []))
-
-  found-is : foundBy kind block ≡ withValue own ownVerdict
-  unfolding foundBy openedBy
-  found-is = ap (openedBy kind) (check-is (kindSize kind) block) ∙ go (firstOf (checkRules (kindSize kind) block)) refl
+  found-is : openedBy size (ofClip clip (checkOf size block)) ≡ withValue own (firstOf (judgeRules size (kindStandard kind) clip block))
+  found-is =
+      ap (λ (x : Told Header). openedBy size (ofClip clip x)) (check-is size block)
+      ∙ go (firstOf (checkRules size block)) refl
+      ∙ ap (withValue own) (sym (first-append (checkRules size block) (when 23 (opposite (eqb (clipOf block) clip)) ∷ when 5 (opposite same) ∷ [])))
     where
-      go : (v : Verdict) → firstOf (checkRules (kindSize kind) block) ≡ v → openedBy kind (withValue (headerOf block) v) ≡ withValue own (orElse v (firstOf (when 5 (opposite same) ∷ [])))
+      some : firstOf (checkRules size block) ≡ accepted tt → eqb (clipOf block) 0 ≡ false
+      some e = clip-some size block (all-fine (eqb (length block) 512) (eqb (sumOf block) (checkSumOf block)) (fieldsFollow size block) e)
+
+      by-clip : (t : Bool) → eqb (clipOf block) clip ≡ t → eqb (clipOf block) 0 ≡ false
+          → openedBy size (pick t (accepted (headerOf block)) (refused 23 0)) ≡ withValue own (firstOf (when 23 (opposite t) ∷ when 5 (opposite same) ∷ []))
+      by-clip false q z = refl
+      by-clip true q z =
+          let is : clipOf block ≡ clip = eqb-true (clipOf block) clip q in
+          ap (λ (c : ℕ). openedKind c (kindIn (standardOf block) size)) is ∙ opened-kind size (standardOf block) clip (ap (λ (c : ℕ). eqb c 0) (sym is) ∙ z)
+
+      go : (v : Verdict) → firstOf (checkRules size block) ≡ v
+          → openedBy size (ofClip clip (withValue (headerOf block) v)) ≡ withValue own (orElse v (firstOf (when 23 (opposite (eqb (clipOf block) clip)) ∷ when 5 (opposite same) ∷ [])))
       go (refusedBy numbers) e = refl
-      go (accepted t) e =
-          ap (λ (z : Bool). pick same (pick z (refused 22 0) (accepted own)) (refused 5 0))
-          (clip-some (kindSize kind) block (all-fine (eqb (length block) 512) (eqb (sumOf block) (checkSumOf block)) (fieldsFollow (kindSize kind) block) e))
-          ∙ by-standard own same
+      go (accepted t) e = by-clip (eqb (clipOf block) clip) refl (some e)
 
-  own-rules : firstOf (judgeRules (kindSize kind) (kindStandard kind) (clipOf block) block) ≡ ownVerdict
-  own-rules =
-      first-append (checkRules (kindSize kind) block) (when 23 (opposite (eqb (clipOf block) (clipOf block))) ∷ when 5 (opposite same) ∷ [])
-      ∙ ap (λ (z : Bool). orElse (firstOf (checkRules (kindSize kind) block)) (firstOf (when 23 (opposite z) ∷ when 5 (opposite same) ∷ []))) (eq-eqb (clipOf block) (clipOf block) refl)
-
-  opened-is : (b : Buffers) → pick (R.lentLengths (kindSize kind) b) (foundBy kind block) (refused 1 0) ≡ withValue own (firstOf (blockRules own block b))
-  opened-is b = go (R.lentLengths (kindSize kind) b)
+  opened-is : (b : Buffers) → pick (R.lentLengths size b) (openedBy size (ofClip clip (checkOf size block))) (refused 1 0) ≡ withValue own (firstOf (blockRules own block b))
+  opened-is b =
+      go (R.lentLengths size b)
+      ∙ ap (λ (z : Size). withValue own (firstOf (when 1 (opposite (R.lentLengths z b)) ∷ judgeRules z (kindStandard kind) clip block))) (sym (kind-sized size (standardOf block)))
     where
-      go : (named : Bool) → pick named (foundBy kind block) (refused 1 0) ≡ withValue own (firstOf (when 1 (opposite named) ∷ judgeRules (kindSize kind) (kindStandard kind) (clipOf block) block))
-      go true = found-is ∙ ap (withValue own) (sym own-rules)
+      go : (named : Bool) → pick named (openedBy size (ofClip clip (checkOf size block))) (refused 1 0) ≡ withValue own (firstOf (when 1 (opposite named) ∷ judgeRules size (kindStandard kind) clip block))
+      go true = found-is
       go false = refl
+
+-- a block is of its own clip
+own-clip : (size : Size) (block : List ℕ) → ofClip (clipOf block) (checkOf size block) ≡ checkOf size block
+own-clip size block = subst (λ (x : Told Header). ofClip (clipOf block) x ≡ x) (sym (check-is size block)) (go (firstOf (checkRules size block)))
+  where
+    go : (v : Verdict) → ofClip (clipOf block) (withValue (headerOf block) v) ≡ withValue (headerOf block) v
+    go (refusedBy numbers) = refl
+    go (accepted t) = ap (λ (z : Bool). pick z (accepted (headerOf block)) (refused 23 0)) (eq-eqb (clipOf block) (clipOf block) refl)
 
 -- of what a call is known to come to
 abbrev ListRefuses : Receiver → List ℕ → Buffers → Clip → Came → Type 0
@@ -275,19 +308,17 @@ as-known r block b =
       at-last = λ numbers g h. let u = x .at-last numbers g h in (ap K.Known (u .0), u .1);
     }
 
-as-unknown : (kind : Kind) (block : List ℕ) (b : Buffers) (v : Verdict) → firstOf (blockRules (own kind block) block b) ≡ v
-    → ListRefuses (own kind block) block b K.Unknown (byOpened (withValue (own kind block) v) block b)
+-- a receiver is opened for the block, or the clip stays as it was
+as-opened : (r : Receiver) (clip : Clip) (block : List ℕ) (b : Buffers) (v : Verdict) → firstOf (blockRules r block b) ≡ v → ListRefuses r block b clip (byOpened clip (withValue r v) block b)
 unfolding byOpened
-as-unknown kind block b (refusedBy due) e =
-    let r : Receiver = own kind block in
-    record {
-      due = sym (first-append (blockRules r block b) (lastRules r block b) ∙ ap (λ (v : Verdict). orElse v (firstOf (lastRules r block b))) e);
-      stores = λ numbers h. refl;
-      unchanged = λ numbers h. (refl, refl);
-      at-last = λ numbers g h. absurd (told-apart (sym g ∙ e));
-    }
-as-unknown kind block b (accepted t) e =
-    let x = as-known (own kind block) block b in
+as-opened r clip block b (refusedBy due) e = record {
+  due = sym (first-append (blockRules r block b) (lastRules r block b) ∙ ap (λ (v : Verdict). orElse v (firstOf (lastRules r block b))) e);
+  stores = λ numbers h. refl;
+  unchanged = λ numbers h. (refl, refl);
+  at-last = λ numbers g h. absurd (told-apart (sym g ∙ e));
+}
+as-opened r clip block b (accepted t) e =
+    let x = as-known r block b in
     record {
       due = x .due;
       stores = x .stores;
@@ -295,12 +326,17 @@ as-unknown kind block b (accepted t) e =
       at-last = x .at-last;
     }
 
-pub listed-refuses : (kind : Kind) (clip : Clip) (block : List ℕ) (b : Buffers) → ListRefuses (receiverOf kind clip block) block b clip (listed kind clip block b)
-unfolding listed
-listed-refuses kind (K.Known r) block b = as-known r block b
-listed-refuses kind K.Unknown block b =
-    subst (λ (x : Told Receiver). ListRefuses (own kind block) block b K.Unknown (byOpened x block b)) (sym (opened-is kind block b))
-    (as-unknown kind block b (firstOf (blockRules (own kind block) block b)) refl)
+begun-refuses : (r : Receiver) (clip : Clip) (block : List ℕ) (b : Buffers) (x : Told Receiver) → x ≡ withValue r (firstOf (blockRules r block b)) → ListRefuses r block b clip (byOpened clip x block b)
+begun-refuses r clip block b x e =
+    subst (λ (y : Told Receiver). ListRefuses r block b clip (byOpened clip y block b)) (sym e) (as-opened r clip block b (firstOf (blockRules r block b)) refl)
+
+pub listed-refuses : (size : Size) (clip : Clip) (block : List ℕ) (b : Buffers) → ListRefuses (receiverOf size clip block) block b clip (listed size clip block b)
+unfolding listed begun foundBy
+listed-refuses size (K.Known r) block b = as-known r block b
+listed-refuses size (K.Asked clip) block b = begun-refuses (own size clip block) (K.Asked clip) block b _ (opened-is size clip block b)
+listed-refuses size K.Unknown block b =
+    begun-refuses (own size (clipOf block) block) K.Unknown block b _
+    (ap (λ (x : Told Header). pick (R.lentLengths size b) (openedBy size x) (refused 1 0)) (sym (own-clip size block)) ∙ opened-is size (clipOf block) block b)
 
 -- ---- a description that is sent
 abbrev judgementVerdict : S.Judgement → Verdict

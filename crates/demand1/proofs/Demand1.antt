@@ -8,8 +8,8 @@ use Rattle.refusals.specs.Told.{Numbers, Told, accepted, refusedBy, verdictOn, 
 use Rattle.refusals.proofs.Told.{told-apart}
 use Rattle.bits.specs.Bits.{Bit}
 use Rattle.bits.specs.Output.{outputLeft}
-use Rattle.h261_writer.specs.Output.{pictureBits, writeOf}
-use Rattle.h261_reader.specs.ReadOf.{readOf}
+use Rattle.coding.specs.Kind.{codingOf}
+use Rattle.coding.specs.Described.{readOf, writeOf}
 use Rattle.vault.specs.Block.{headerOf}
 use Rattle.standing.specs.Receive.{Outcome, freshReceiver}
 use Rattle.decoder.specs.Decoded.{decoded}
@@ -41,14 +41,14 @@ untouched out bits (refusedBy others) numbers h = refl
 
 pub promises-meet : PromisesMeet
 promises-meet p keeps = record {
-  reads = λ f bytes n before.
-      found-refuses (readRules f bytes n before) _ before _ (readOf f bytes n before) (reader-due f bytes n before) (keeps .read-says f bytes n before) (keeps .read-leaves f bytes n before);
+  reads = λ k bytes n before.
+      found-refuses (readRules k bytes n before) _ before _ (readOf k bytes n before) (reader-due k bytes n before) (keeps .read-says k bytes n before) (keeps .read-leaves k bytes n before);
   decodes = λ k bytes n reference store.
       found-refuses (decodeRules k bytes n reference store) _ store _ (decoded k bytes n reference (length store)) (decoder-due k bytes n reference store)
       (keeps .decode-says k bytes n reference store) (keeps .decode-leaves k bytes n reference store);
-  writes = λ f d out. record {
-    due = ap verdictOn (keeps .write-says f d out) ∙ writer-due f d (length out);
-    unchanged = λ numbers h. keeps .write-leaves f d out ∙ untouched out (pictureBits f d) (writeOf f d (length out)) numbers (sym (ap verdictOn (keeps .write-says f d out)) ∙ h);
+  writes = λ k d out. record {
+    due = ap verdictOn (keeps .write-says k d out) ∙ writer-due k d (length out);
+    unchanged = λ numbers h. keeps .write-leaves k d out ∙ untouched out (codingOf k .written d) (writeOf k d (length out)) numbers (sym (ap verdictOn (keeps .write-says k d out)) ∙ h);
   };
   checks = λ size block. ap verdictOn (keeps .check-is size block ∙ check-is size block) ∙ value-verdict (headerOf block) (firstOf (checkRules size block));
   judges = λ size standard clip block. ap verdictOn (keeps .judge-is size standard clip block ∙ judge-is size standard clip block) ∙ value-verdict (headerOf block) (firstOf (judgeRules size standard clip block));
@@ -58,6 +58,6 @@ promises-meet p keeps = record {
   opens-sender = λ clip kind. ap verdictOn (keeps .open-sender-is clip kind) ∙ opening-due (eqb clip 0) (S.freshSender clip kind);
   sends = λ s d b.
       subst (λ (x : S.Outcome). Refuses {W = Sender × S.Buffers} (sendRules s d b) (verdictOn (x .gave .answer)) (s, b) (x .gave .next, x .left)) (sym (keeps .send-does s d b)) (sent-refuses s d b);
-  lists = λ kind clip block b.
-      subst (λ (x : Came). BlockRefuses (receiverOf kind clip block) block b clip K.Known (x .answer) (x .next) (x .left)) (sym (keeps .list-is kind clip block b)) (listed-refuses kind clip block b);
+  lists = λ size clip block b.
+      subst (λ (x : Came). BlockRefuses (receiverOf size clip block) block b clip K.Known (x .answer) (x .next) (x .left)) (sym (keeps .list-is size clip block b)) (listed-refuses size clip block b);
 }

@@ -1,4 +1,4 @@
--- Document 01, "Refusal numbers": what each entry point is refused by, in the paper's order. Assumes nothing.
+-- Document 01, "Refusal numbers": what each entry point is refused by, in the paper's order; document 02, T-04, for a clip of H.263. Assumes nothing.
 use Prim.Native.Nat.{ℕ, _*_, _≤_}
 use mathlib.Core.Path.{_≡_}
 use mathlib.Core.Bool.{Bool, true, false}
@@ -8,18 +8,17 @@ use lib.ListN.{length}
 use Rattle.laws.specs.Choice.{pick, both, either, opposite, alike}
 use Rattle.refusals.specs.Told.{Numbers, Told, accepted, refusedBy, verdictOn}
 use Rattle.refusals.specs.Tables.{Tabled}
-use Rattle.bits.specs.Bits.{source}
+use Rattle.bits.specs.Bits.{Bit, source}
 use Rattle.fields.specs.Answer.{found}
 use Rattle.size.specs.declared.Size.{Size}
 use Rattle.size.specs.Size.{limit, storeLength}
 use Rattle.layout.specs.Flat.{Flat}
-use Rattle.h261_groups.specs.declared.Format.{Format}
-use Rattle.h261_groups.specs.Format.{sizeOf}
-use Rattle.h261_description.specs.Valid.{lengthsOf, valid}
-use Rattle.h261_layers.specs.Grammar.{picture}
-use Rattle.h261_writer.specs.Output.{pictureBits, lentLengths}
+use Rattle.layout.specs.Numbers.{within}
+use Rattle.layout.specs.Valid.{hasLengths}
 use Rattle.coding.specs.declared.Kind.{Kind}
-use Rattle.coding.specs.Kind.{formatOf, kindSize, kindStandard, codingOf}
+use Rattle.coding.specs.declared.Kind.the-variants.{H261, H263}
+use Rattle.coding.specs.Kind.{kindSize, kindStandard, shapeOf, codingOf}
+use Rattle.coding.specs.Described.{writeLengths}
 use Rattle.vault.specs.declared.Standard.{Standard}
 use Rattle.vault.specs.declared.Header.{Header}
 use Rattle.vault.specs.Block.{clipOf, partOf, lastOf, standardOf, checkSumOf, headerOf, fieldsFollow, sumOf, pictures, sameStandard}
@@ -31,27 +30,33 @@ use Rattle.standing.specs.Receive.{Buffers, countOf, markOf, lineOf}
 use Rattle.sender.specs.declared.Sender.{Sender}
 use Rattle.standing.specs.Receive as R
 use Rattle.sender.specs.Send as S
+use Rattle.h261_layers.specs.Grammar as G261
+use Rattle.h263_layers.specs.Grammar as G263
 use Rattle.demand1.specs.Order.{Verdict, when, firstOf}
 
--- ---- a picture's N bits: "1, 2, then the earliest place, then the smaller number". The grammar reads on from place to place and stops at the first refusal
-abbrev pub pictureRules : Format → List ℕ → ℕ → List Verdict
-pictureRules f bytes n =
+-- ---- a picture's N bits: "1, 2, then the earliest place, then the smaller number". The standard's grammar reads on from place to place and stops at the first refusal
+abbrev pub grammarVerdict : Kind → List Bit → Verdict
+grammarVerdict (H261 f) bits = verdictOn (found (G261.picture f bits 0))
+grammarVerdict (H263 size) bits = verdictOn (found (G263.picture size bits 0))
+
+abbrev pub pictureRules : Kind → List ℕ → ℕ → List Verdict
+pictureRules k bytes n =
     -- 2: "N above 8 times the slice, or above the format's limit"
-    when 2 (either (ltb (8 * length bytes) n) (ltb (limit (sizeOf f)) n)) ∷
-    -- 3 to 13
-    verdictOn (found (picture f (source bytes n) 0)) ∷ []
+    when 2 (either (ltb (8 * length bytes) n) (ltb (limit (kindSize k)) n)) ∷
+    -- 3 to 13, and in H.263 14
+    grammarVerdict k (source bytes n) ∷ []
 
 -- 1: "a lent buffer hasn't its named length"
-abbrev pub readRules : Format → List ℕ → ℕ → Flat → List Verdict
-readRules f bytes n before = when 1 (opposite (lengthsOf f before)) ∷ pictureRules f bytes n
+abbrev pub readRules : Kind → List ℕ → ℕ → Flat → List Verdict
+readRules k bytes n before = when 1 (opposite (hasLengths (shapeOf k) before)) ∷ pictureRules k bytes n
 
 abbrev pub decodeRules : Kind → List ℕ → ℕ → List ℕ → List ℕ → List Verdict
 decodeRules k bytes n reference store =
-    when 1 (opposite (both (eqb (length reference) (storeLength (kindSize k))) (eqb (length store) (storeLength (kindSize k))))) ∷ pictureRules (formatOf k) bytes n
+    when 1 (opposite (both (eqb (length reference) (storeLength (kindSize k))) (eqb (length store) (storeLength (kindSize k))))) ∷ pictureRules k bytes n
 
 -- ---- a description: 31, "invalid description, or one of another format than opened"; 32, "written picture above the limit"
-abbrev pub writeRules : Format → Flat → ℕ → List Verdict
-writeRules f d room = when 1 (opposite (lentLengths f d room)) ∷ when 31 (opposite (valid f d)) ∷ when 32 (ltb (limit (sizeOf f)) (length (pictureBits f d))) ∷ []
+abbrev pub writeRules : Kind → Flat → ℕ → List Verdict
+writeRules k d room = when 1 (opposite (writeLengths k d room)) ∷ when 31 (opposite (codingOf k .valid d)) ∷ when 32 (ltb (limit (kindSize k)) (length (codingOf k .written d))) ∷ []
 
 -- "Sender: 1, 34, 31, 33, 32." Document 02, T-08: "34 at the new limit"; 33: "picture 0 not a refresh"
 abbrev pub sendRules : Sender → Flat → S.Buffers → List Verdict
@@ -95,17 +100,20 @@ lastRules r block b =
     let collection : List ℕ = placedPayload block (partOf block) (b .collection) in
     let n : ℕ = countOf (headerOf block) in
     pick (both (takes (lineOf (r .progress) (headerOf block))) (lastOf block))
-    (pictureRules (formatOf (r .kind)) collection n ++ (markRule r (headerOf block) (codingOf (r .kind) .read collection n) ∷ []))
+    (pictureRules (r .kind) collection n ++ (markRule r (headerOf block) (codingOf (r .kind) .read collection n) ∷ []))
     []
 
--- ---- the table: what a picture's bits are refused by has a number from 2 to 13, a place up to N, which is 0 for 2, and a table of codewords exactly
--- with 8
-pub record InTable (n : ℕ) (numbers : Numbers) : Type 0 where
-  pub least : 2 ≤ numbers .number
-  pub most : numbers .number ≤ 13
+-- ---- the table: what a picture's bits are refused by has a number of its standard, a place up to N, which is 0 for 2, and a table of codewords exactly with 8
+-- 2 to 13; in H.263, which sends every macroblock and so never gives 9, also "14, one of the four optional modes"
+abbrev pub readingNumber : Kind → ℕ → Bool
+readingNumber (H261 f) number = within 2 13 number
+readingNumber (H263 size) number = both (within 2 14 number) (opposite (eqb number 9))
+
+pub record InTable (k : Kind) (n : ℕ) (numbers : Numbers) : Type 0 where
+  pub listed : readingNumber k (numbers .number) ≡ true
   pub within : numbers .place ≤ n
   pub counted : numbers .number ≡ 2 → numbers .place ≡ 0
   pub tabled : Tabled numbers
 
 abbrev pub PictureInTable : Type 0
-PictureInTable = (f : Format) (bytes : List ℕ) (n : ℕ) (numbers : Numbers) → firstOf (pictureRules f bytes n) ≡ refusedBy numbers → InTable n numbers
+PictureInTable = (k : Kind) (bytes : List ℕ) (n : ℕ) (numbers : Numbers) → firstOf (pictureRules k bytes n) ≡ refusedBy numbers → InTable k n numbers

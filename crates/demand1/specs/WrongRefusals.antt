@@ -8,7 +8,7 @@ use Rattle.refusals.specs.declared.Verdict.the-variants.{Accepted, Refused}
 use Rattle.refusals.specs.Number.{refusal}
 use Rattle.refusals.specs.Told.{Numbers, refusedBy, toldVerdict}
 use Rattle.layout.specs.Flat.{Flat}
-use Rattle.h261_groups.specs.declared.Format.{Format}
+use Rattle.coding.specs.declared.Kind.{Kind}
 use Rattle.standing.specs.declared.Receiver.{Receiver}
 use Rattle.standing.specs.Answered.{said}
 use Rattle.standing.specs.Receive.{Buffers}
@@ -18,8 +18,8 @@ use Rattle.demand1.specs.Demand1.{Programs, verdictSaid, Demand1, Keeps}
 
 -- ---- wrong: a reader one of whose refusals has another number than the one that is due, or another place or table
 abbrev pub MisnumberedWrong : Type 0
-MisnumberedWrong = (p : Programs) (f : Format) (bytes : List ℕ) (n : ℕ) (before : Flat) (due numbers : Numbers) → firstOf (readRules f bytes n before) ≡ refusedBy due
-    → toldVerdict (p .read f bytes n before .answer) ≡ refusedBy numbers → (numbers ≡ due → ⊥) → Demand1 p → ⊥
+MisnumberedWrong = (p : Programs) (k : Kind) (bytes : List ℕ) (n : ℕ) (before : Flat) (due numbers : Numbers) → firstOf (readRules k bytes n before) ≡ refusedBy due
+    → toldVerdict (p .read k bytes n before .answer) ≡ refusedBy numbers → (numbers ≡ due → ⊥) → Demand1 p → ⊥
 
 -- so one that keeps every promise, but whose reader's refusals are all for this reason
 abbrev pub renamed : Reason → Verdict → Verdict
@@ -28,7 +28,7 @@ renamed reason (Refused why) = Refused (refusal reason (why .place))
 
 abbrev pub namingOne : Reason → Programs → Programs
 namingOne reason p = record {
-  read = λ f bytes n before. record { answer = renamed reason (p .read f bytes n before .answer); left = p .read f bytes n before .left };
+  read = λ k bytes n before. record { answer = renamed reason (p .read k bytes n before .answer); left = p .read k bytes n before .left };
   decode = p .decode;
   write = p .write;
   check = p .check;

@@ -5,9 +5,8 @@ use mathlib.Core.List.{List}
 use lib.ListN.{length}
 use Rattle.refusals.specs.Told.{Told, accepted, refusedBy, verdictOn, foundOr}
 use Rattle.size.specs.Size.{storeLength}
-use Rattle.h261_reader.specs.Described.{described}
 use Rattle.coding.specs.declared.Kind.{Kind}
-use Rattle.coding.specs.Kind.{kindSize}
+use Rattle.coding.specs.Kind.{kindSize, describedBy}
 use Rattle.decoder.specs.Decoded.{decoded}
 use Rattle.demand2.specs.Demand2.{decode, Accepts}
 use Rattle.demand2.specs.Promised.{DecodeProgram, KeepsDecode, decodedAs, decoderOf, DecodePromised, WritePromised}
@@ -42,12 +41,12 @@ decode-promised p keeps before long = record {
 pub write-promised : WritePromised
 write-promised p keeps = record {
   back = record {
-    back = λ f d out n t l e. ap (λ (s : List ℕ). described f s n) (keeps .leaves f d out) ∙ write-back .back f d out n t l (sym (keeps .says f d out) ∙ e);
+    back = λ k d out n v l e. ap (λ (s : List ℕ). describedBy k s n) (keeps .leaves k d out) ∙ write-back .back k d out n v l (sym (keeps .says k d out) ∙ e);
   };
   refused = record {
-    unnamed = λ f d out l. keeps .says f d out ∙ write-refused .unnamed f d out l;
-    invalid = λ f d out l v. keeps .says f d out ∙ write-refused .invalid f d out l v;
-    above = λ f d out l v m. keeps .says f d out ∙ write-refused .above f d out l v m;
-    else = λ f d out numbers t l e q. write-refused .else f d out numbers t l e (sym (keeps .says f d out) ∙ q);
+    unnamed = λ k d out l. keeps .says k d out ∙ write-refused .unnamed k d out l;
+    invalid = λ k d out l v. keeps .says k d out ∙ write-refused .invalid k d out l v;
+    above = λ k d out l v m. keeps .says k d out ∙ write-refused .above k d out l v m;
+    else = λ k d out numbers v l e q. write-refused .else k d out numbers v l e (sym (keeps .says k d out) ∙ q);
   };
 }

@@ -5,38 +5,75 @@ use mathlib.Core.Bool.{Bool, true, false}
 use mathlib.Core.List.{List, [], _++_}
 use native.Mathlib.Omega.{arith}
 use borrow.Author.Tests.{le-ltb, ltb-false, eq-eqb, eqb-true}
-use lib.Dec.{T, ltb, eqb}
+use lib.Dec.{ltb, eqb}
 use lib.ListN.{length, drop}
 use Rattle.laws.specs.Choice.{pick, either}
-use Rattle.laws.proofs.Choice.{both-left, both-right, T-true, true-T}
+use Rattle.laws.proofs.Choice.{true-T, two-of}
 use Rattle.refusals.specs.Told.{Told, accepted, refused}
 use Rattle.refusals.proofs.Told.{accepted-once, told-apart}
 use Rattle.bits.specs.Bits.{Bit, bitsFrom}
-use Rattle.bits.specs.Read.{got}
+use Rattle.bits.specs.Output.{outputLeft}
+use Rattle.bits.specs.Read.{Read, got}
+use Rattle.bits.specs.Write.{Holds}
 use Rattle.bits.proofs.Source.{source-left}
-use Rattle.h261_groups.specs.declared.Format.{Format}
-use Rattle.h261_groups.specs.declared.Format.the-variants.{Qcif, Cif}
-use Rattle.h261_groups.specs.Format.{sizeOf}
+use Rattle.fields.specs.Answer.{mapRead, found}
+use Rattle.size.specs.declared.Size.{Size}
 use Rattle.size.specs.Size.{limit, outputLength, storeLength}
 use Rattle.layout.specs.Flat.{Flat}
-use Rattle.h261_description.specs.Value.{laidPicture}
-use Rattle.h261_description.specs.Valid.{valid, lengthsOf}
-use Rattle.h261_layers.specs.Grammar.{reading}
-use Rattle.fields.specs.Answer.{mapRead}
-use Rattle.h261_reader.specs.Described.{described}
-use Rattle.h261_reader.specs.ReadOf.{readOf}
-use Rattle.bits.specs.Output.{outputLeft}
-use Rattle.h261_writer.specs.Output.{pictureBits, lentLengths, writeOf, outputOf}
-use Rattle.bits.specs.Write.{Holds}
-use Rattle.h261_readback.specs.ReadBack.{ReadBack}
-use Rattle.h261_readback.proofs.ReadBack.{reads-back}
-use Rattle.h261_render.specs.Sample.{rendered}
-use Rattle.coding.specs.Kind.{kindOf, codingOf}
-use Rattle.decoder.specs.Decoded.{drawnStore, decoded}
+use Rattle.coding.specs.declared.Kind.{Kind}
+use Rattle.coding.specs.declared.Kind.the-variants.{H261, H263}
+use Rattle.coding.specs.Kind.{kindSize, codingOf, describedBy}
+use Rattle.coding.specs.Described.{writeLengths, readOf, writeOf, outputOf}
+use Rattle.decoder.specs.Decoded.{drawnBy, drawnStore, decoded}
 use Rattle.demand2.specs.WrittenBack.{WrittenBack, WritesValid}
 use Rattle.bits.specs.Write as W
 use Rattle.bits.proofs.Write as L
+use Rattle.h261_groups.specs.declared.Format.the-variants as F
+use Rattle.size.specs.declared.Size.the-variants as S
+use Rattle.h261_description.specs.Value as V261
+use Rattle.h261_description.specs.Valid as J261
+use Rattle.h261_reader.specs.Described as R261
+use Rattle.h261_readback.specs.ReadBack as B261
+use Rattle.h261_readback.proofs.ReadBack as P261
+use Rattle.h263_description.specs.Value as V263
+use Rattle.h263_description.specs.Valid as J263
+use Rattle.h263_reader.specs.Described as R263
+use Rattle.h263_readback.specs.ReadBack as B263
+use Rattle.h263_readback.proofs.ReadBack as P263
 
+-- ---- by kind
+-- what a coding reads is what its grammar finds
+pub read-is : (k : Kind) (bytes : List ℕ) (n : ℕ) → codingOf k .read bytes n ≡ found (describedBy k bytes n)
+unfolding codingOf
+read-is (H261 f) bytes n = refl
+read-is (H263 size) bytes n = refl
+
+-- a valid description has named lengths
+any-of : (a b : Bool) → b ≡ true → either a b ≡ true
+any-of true b e = refl
+any-of false b e = e
+
+pub valid-named : (k : Kind) (d : Flat) → codingOf k .valid d ≡ true → codingOf k .named d ≡ true
+unfolding codingOf J261.valid J263.valid
+valid-named (H261 F.Qcif) d v = rw (two-of (J261.lengthsOf F.Qcif d) _ v .0)
+valid-named (H261 F.Cif) d v = any-of (J261.lengthsOf F.Qcif d) _ (two-of (J261.lengthsOf F.Cif d) _ v .0)
+valid-named (H263 S.SubQcif) d v = rw (two-of (J263.lengthsOf S.SubQcif d) _ v .0)
+valid-named (H263 S.Qcif) d v = any-of (J263.lengthsOf S.SubQcif d) _ (rw (two-of (J263.lengthsOf S.Qcif d) _ v .0))
+valid-named (H263 S.Cif) d v =
+    any-of (J263.lengthsOf S.SubQcif d) _ (any-of (J263.lengthsOf S.Qcif d) _ (two-of (J263.lengthsOf S.Cif d) _ v .0))
+
+-- bytes that hold the bits of a valid description first are read back as it, in exactly N bits
+pub held-back : (k : Kind) (d : Flat) (bytes : List ℕ) → codingOf k .valid d ≡ true → length (codingOf k .written d) ≤ limit (kindSize k) → Holds bytes (codingOf k .written d)
+    → describedBy k bytes (length (codingOf k .written d)) ≡ got d [] (length (codingOf k .written d))
+unfolding codingOf R261.described R263.described
+held-back (H261 f) d bytes v l h =
+    let back : B261.ReadBack f d bytes = P261.reads-back f d bytes (true-T (J261.valid f d) v) l h in
+    ap (mapRead (V261.laidPicture f)) (back .read) ∙ ap (λ (x : Flat). got x [] (length (codingOf (H261 f) .written d))) (back .laidOut)
+held-back (H263 size) d bytes v l h =
+    let back : B263.ReadBack size d bytes = P263.reads-back size d bytes (true-T (J263.valid size d) v) l h in
+    ap (mapRead (V263.laidPicture size)) (back .read) ∙ ap (λ (x : Flat). got x [] (length (codingOf (H263 size) .written d))) (back .laidOut)
+
+-- ---- writing
 -- what the output holds after N bits were written: they stand first in it
 pub output-holds : (out : List ℕ) (w : List Bit) → length w ≤ 8 * length out → Holds (W.bytesOf (W.startedBytes (length w)) w ++ drop (W.startedBytes (length w)) out) w
 unfolding bitsFrom
@@ -52,11 +89,11 @@ output-holds out w room =
     (record { room = within; bits = rw none at (source-left (W.bytesWith out 0 w) (length w) within) ∙ stands })
 
 -- an answer of N bits: the description was valid, not above the limit, the output had its length, and N is what was written
-pub record Wrote (f : Format) (d : Flat) (room n : ℕ) : Type 0 where
-  pub is-valid : T (valid f d)
-  pub below : length (pictureBits f d) ≤ limit (sizeOf f)
-  pub named : room ≡ outputLength (sizeOf f)
-  pub count : n ≡ length (pictureBits f d)
+pub record Wrote (k : Kind) (d : Flat) (room n : ℕ) : Type 0 where
+  pub is-valid : codingOf k .valid d ≡ true
+  pub below : length (codingOf k .written d) ≤ limit (kindSize k)
+  pub named : room ≡ outputLength (kindSize k)
+  pub count : n ≡ length (codingOf k .written d)
 
 bits-only : (a b c : Bool) (m n : ℕ) (x y z : ℕ) → pick a (pick b (pick c (refused x 0) (accepted m)) (refused y 0)) (refused z 0) ≡ accepted n
     → (a ≡ true) × (b ≡ true) × (c ≡ false) × (n ≡ m)
@@ -65,57 +102,54 @@ bits-only true true true m n x y z e = absurd (told-apart (sym e))
 bits-only true false c m n x y z e = absurd (told-apart (sym e))
 bits-only false b c m n x y z e = absurd (told-apart (sym e))
 
-pub wrote : (f : Format) (d : Flat) (room n : ℕ) → writeOf f d room ≡ accepted n → Wrote f d room n
+pub wrote : (k : Kind) (d : Flat) (room n : ℕ) → writeOf k d room ≡ accepted n → Wrote k d room n
 unfolding writeOf
-wrote f d room n e =
-    let said = bits-only (lentLengths f d room) (valid f d) (ltb (limit (sizeOf f)) (length (pictureBits f d))) (length (pictureBits f d)) n _ _ _ e in
+wrote k d room n e =
+    let bits : List Bit = codingOf k .written d in
+    let said = bits-only (writeLengths k d room) (codingOf k .valid d) (ltb (limit (kindSize k)) (length bits)) (length bits) n _ _ _ e in
     record {
-      is-valid = true-T (valid f d) (said .1);
-      below = ltb-false (limit (sizeOf f)) (length (pictureBits f d)) (said .2);
-      named = eqb-true room (outputLength (sizeOf f)) (T-true _ (both-right (either (lengthsOf Qcif d) (lengthsOf Cif d)) (eqb room (outputLength (sizeOf f))) (true-T _ (said .0))));
+      is-valid = said .1;
+      below = ltb-false (limit (kindSize k)) (length bits) (said .2);
+      named = eqb-true room (outputLength (kindSize k)) (two-of (codingOf k .named d) (eqb room (outputLength (kindSize k))) (said .0) .1);
       count = said .3;
     }
 
 -- and the other way: every valid description that is not above the limit is written, into an output of its length
-pub one-of : (f : Format) (d : Flat) → T (lengthsOf f d) → either (lengthsOf Qcif d) (lengthsOf Cif d) ≡ true
-one-of Qcif d t = ap (λ (b : Bool). either b (lengthsOf Cif d)) (T-true (lengthsOf Qcif d) t)
-one-of Cif d t = ap (either (lengthsOf Qcif d)) (T-true (lengthsOf Cif d) t) ∙ any (lengthsOf Qcif d)
-  where
-    any : (b : Bool) → either b true ≡ true
-    any true = refl
-    any false = refl
-
 pub writes : WritesValid
-unfolding writeOf valid
-writes f d out t l e =
-    rw (one-of f d (both-left (lengthsOf f d) _ t), eq-eqb (length out) (outputLength (sizeOf f)) e, T-true (valid f d) t, le-ltb (limit (sizeOf f)) (length (pictureBits f d)) l) refl
+unfolding writeOf
+writes k d out v l e =
+    rw (valid-named k d v, eq-eqb (length out) (outputLength (kindSize k)) e, v, le-ltb (limit (kindSize k)) (length (codingOf k .written d)) l) refl
 
 -- what `write` left holds the bits first, whenever it answers N
-pub written-held : (f : Format) (d : Flat) (out : List ℕ) (n : ℕ) → writeOf f d (length out) ≡ accepted n → Holds (outputOf f d out) (pictureBits f d)
+pub written-held : (k : Kind) (d : Flat) (out : List ℕ) (n : ℕ) → writeOf k d (length out) ≡ accepted n → Holds (outputOf k d out) (codingOf k .written d)
 unfolding outputLeft
-written-held f d out n e =
-    let w = pictureBits f d in
-    let w-is = wrote f d (length out) n e in
-    subst (λ (x : Told ℕ). Holds (outputLeft out w x) w) (sym e) (output-holds out w (fits f (length w) (length out) (w-is .below) (w-is .named)))
+written-held k d out n e =
+    let w = codingOf k .written d in
+    let w-is = wrote k d (length out) n e in
+    subst (λ (x : Told ℕ). Holds (outputLeft out w x) w) (sym e) (output-holds out w (fits (kindSize k) (length w) (length out) (w-is .below) (w-is .named)))
   where
-    fits : (f : Format) (bits room : ℕ) → bits ≤ limit (sizeOf f) → room ≡ outputLength (sizeOf f) → bits ≤ 8 * room
-    fits Qcif bits room l e = omega arith
-    fits Cif bits room l e = omega arith
+    fits : (size : Size) (bits room : ℕ) → bits ≤ limit size → room ≡ outputLength size → bits ≤ 8 * room
+    fits S.SubQcif bits room l e = omega arith
+    fits S.Qcif bits room l e = omega arith
+    fits S.Cif bits room l e = omega arith
 
-drawn-again : (f : Format) (d : Flat) (bytes : List ℕ) (n : ℕ) → described f bytes n ≡ got d [] n → (reference : List ℕ) → length reference ≡ storeLength (sizeOf f)
-    → decoded (kindOf f) bytes n reference (storeLength (sizeOf f)) ≡ accepted (rendered f d reference)
-unfolding drawnStore decoded codingOf
-drawn-again Qcif d bytes n e reference h = rw (eq-eqb (length reference) (storeLength (sizeOf Qcif)) h, e) refl
-drawn-again Cif d bytes n e reference h = rw (eq-eqb (length reference) (storeLength (sizeOf Cif)) h, e) refl
+-- ---- decoding: into stores of their length, what is found is drawn
+pub decoded-is : (k : Kind) (bytes : List ℕ) (n : ℕ) (reference : List ℕ) → length reference ≡ storeLength (kindSize k)
+    → decoded k bytes n reference (storeLength (kindSize k)) ≡ drawnBy (codingOf k) reference (found (describedBy k bytes n))
+unfolding decoded drawnStore
+decoded-is k bytes n reference e =
+    rw (eq-eqb (length reference) (storeLength (kindSize k)) e, eq-eqb (storeLength (kindSize k)) (storeLength (kindSize k)) refl) (ap (drawnBy (codingOf k) reference) (read-is k bytes n))
 
+-- ---- the theorem
 pub written-back : WrittenBack
-unfolding described readOf pictureBits
-written-back f d out n e =
-    let w-is = wrote f d (length out) n e in
-    let back : ReadBack f d (outputOf f d out) = reads-back f d (outputOf f d out) (w-is .is-valid) (w-is .below) (written-held f d out n e) in
-    let again : mapRead (laidPicture f) (reading f (outputOf f d out) n) ≡ got d [] n = rw (w-is .count, back .read, back .laidOut) refl in
+unfolding readOf
+written-back k d out n e =
+    let w-is = wrote k d (length out) n e in
+    let bytes : List ℕ = outputOf k d out in
+    let again : describedBy k bytes n ≡ got d [] n =
+    subst (λ (m : ℕ). describedBy k bytes m ≡ got d [] m) (sym (w-is .count)) (held-back k d bytes (w-is .is-valid) (w-is .below) (written-held k d out n e)) in
     record {
       read = again;
-      reads = λ before l. rw (l, again) refl;
-      samples = drawn-again f d (outputOf f d out) n again;
+      reads = λ before l. rw l (read-is k bytes n ∙ ap found again);
+      samples = λ reference l. decoded-is k bytes n reference l ∙ ap (λ (x : Read Flat). drawnBy (codingOf k) reference (found x)) again;
     }

@@ -5,15 +5,14 @@ use mathlib.Core.List.{List}
 use lib.ListN.{length}
 use Rattle.refusals.specs.declared.Verdict.{Verdict}
 use Rattle.refusals.specs.Told.{Told, accepted, refusedBy, toldVerdict}
-use Rattle.h261_groups.specs.declared.Format.{Format}
 use Rattle.size.specs.Size.{storeLength}
 use Rattle.layout.specs.Flat.{Flat}
 use Rattle.coding.specs.declared.Kind.{Kind}
 use Rattle.coding.specs.Kind.{kindSize}
+use Rattle.coding.specs.Described.{WriteSays, WriteLeaves}
 use Rattle.decoder.specs.Decoded.{DecodeSays, DecodeLeaves}
 use Rattle.refusals.specs.declared.Written.{Written}
 use Rattle.refusals.specs.Writing.{toldWritten}
-use Rattle.h261_writer.specs.Output.{WriteSays, WriteLeaves}
 use Rattle.demand2.specs.Demand2.{Decoder, AcceptedExactly, EverySample, Writer, ReadsBack, RefusedExactly}
 
 -- ---- a program that decodes: what it answers, and what it leaves in the store that it was lent
@@ -53,16 +52,16 @@ pub record Writing : Type 0 where
   pub left : List ℕ
 
 abbrev pub WriteProgram : Type 0
-WriteProgram = Format → Flat → List ℕ → Writing
+WriteProgram = Kind → Flat → List ℕ → Writing
 
 -- it keeps the promise of `write`, on every input
 pub record KeepsWrite (p : WriteProgram) : Type 0 where
-  pub says : (f : Format) (d : Flat) (out : List ℕ) → WriteSays f d out (p f d out .answer)
-  pub leaves : (f : Format) (d : Flat) (out : List ℕ) → WriteLeaves f d out (p f d out .left)
+  pub says : (k : Kind) (d : Flat) (out : List ℕ) → WriteSays k d out (p k d out .answer)
+  pub leaves : (k : Kind) (d : Flat) (out : List ℕ) → WriteLeaves k d out (p k d out .left)
 
 -- the writer that it is
 abbrev pub writerOf : WriteProgram → Writer
-writerOf p f d out = record { answer = toldWritten (p f d out .answer); output = p f d out .left }
+writerOf p k d out = record { answer = toldWritten (p k d out .answer); output = p k d out .left }
 
 pub record WriterMeets (w : Writer) : Type 0 where
   pub back : ReadsBack w

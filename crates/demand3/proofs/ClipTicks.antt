@@ -15,7 +15,7 @@ use Rattle.layout.specs.Flat.{Flat}
 use Rattle.coding.specs.declared.Kind.{Kind}
 use Rattle.coding.specs.Coding.{Coding}
 use Rattle.coding.specs.Kind.{kindSize, codingOf, AllLawful}
-use Rattle.coding.proofs.H261.{coding-lawful}
+use Rattle.coding.proofs.AllLawful.{coding-lawful}
 use Rattle.ticks.specs.declared.Tick.{Tick}
 use Rattle.ticks.specs.declared.Tick.the-variants as T
 use Rattle.ticks.specs.Tick.{tickNumber, isExact, tickAs, tickAbove, cutTick, firstTick, laterTick}

@@ -19,7 +19,7 @@ use Rattle.coding.specs.declared.Kind.{Kind}
 use Rattle.coding.specs.Coding.{Coding}
 use Rattle.coding.specs.Kind.{kindSize, kindStandard, codingOf, AllLawful}
 use Rattle.coding.specs.Described.{bytesIn}
-use Rattle.coding.proofs.H261.{coding-lawful}
+use Rattle.coding.proofs.AllLawful.{coding-lawful}
 use Rattle.vault.specs.Block.{headerOf, payloadOf}
 use Rattle.vault.specs.Parts.{partCount, keptByte, payloadAt, headerAt, blockAt}
 use Rattle.vault.proofs.Judged.{made-header}

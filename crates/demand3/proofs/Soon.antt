@@ -16,7 +16,7 @@ use Rattle.coding.specs.declared.Kind.{Kind}
 use Rattle.layout.specs.Flat.{Flat}
 use Rattle.coding.specs.Coding.{Coding}
 use Rattle.coding.specs.Kind.{codingOf, AllLawful}
-use Rattle.coding.proofs.H261.{coding-lawful}
+use Rattle.coding.proofs.AllLawful.{coding-lawful}
 use Rattle.standing.specs.declared.Place.{Place}
 use Rattle.standing.specs.declared.Standing.{Standing}
 use Rattle.standing.specs.declared.Receiver.{Receiver}

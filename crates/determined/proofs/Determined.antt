@@ -41,7 +41,6 @@ use Rattle.h261_description.specs.Vector.{Before}
 use Rattle.h261_layers.specs.Answer.{asMba, asHeader, asVector, asMacroblock, componentOf, beforeOf, Sent}
 use Rattle.fields.specs.Answer.{leaving, asNumber}
 use Rattle.fields.specs.declared.NumberRead.{NumberRead}
-use Rattle.fields.specs.declared.PictureRead.{PictureRead}
 use Rattle.h261_layers.specs.declared.MbaRead.{MbaRead}
 use Rattle.h261_layers.specs.declared.Behind.{Behind}
 use Rattle.h261_layers.specs.declared.MacroblockRead.{MacroblockRead}
@@ -69,13 +68,13 @@ once A a x y = same-as
 
 -- ---- the entry points: what each promises of its answer, of the buffers that it leaves, or of both at once
 pub read-says-once : ReadSaysOnce
-read-says-once f bytes n before x y e d =
+read-says-once told count x y e d =
     let said = verdict-told-once (x .verdict) (y .verdict) (same-as (e .0) (d .0)) in
     let counted = same-as (e .1) (d .1) in
     λ i. record { verdict = said i; reads = counted i }
 
 pub read-leaves-once : ReadLeavesOnce
-read-leaves-once f bytes n before x y = same-as
+read-leaves-once before told x y = same-as
 
 pub decode-says-once : DecodeSaysOnce
 decode-says-once k bytes n reference store x y e d = verdict-told-once x y (same-as e d)
@@ -84,10 +83,10 @@ pub decode-leaves-once : DecodeLeavesOnce
 decode-leaves-once k bytes n reference store x y = same-as
 
 pub write-says-once : WriteSaysOnce
-write-says-once f d out x y a b = written-told-once x y (same-as a b)
+write-says-once told x y a b = written-told-once x y (same-as a b)
 
 pub write-leaves-once : WriteLeavesOnce
-write-leaves-once f d out x y = same-as
+write-leaves-once out bits told x y = same-as
 
 pub receive-once : ReceiveOnce
 receive-once r block b x y left after e d =

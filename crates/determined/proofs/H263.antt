@@ -1,12 +1,10 @@
--- Any two outcomes that a promise of H.263's own allows are equal. Assumes nothing.
+-- Any two outcomes that a promise of H.263's layers allows are equal. Assumes nothing.
 use Prim.Native.Nat.{ℕ}
 use mathlib.Core.Path.{_≡_, refl, ap}
 use mathlib.Core.List.{List}
-use lib.IntN.{ℤ, pos, -ℤ-+ℤ-cancel, natAbs}
+use lib.IntN.{pos, -ℤ-+ℤ-cancel, natAbs}
 use Rattle.refusals.specs.declared.Reason.the-variants.{Length}
 use Rattle.refusals.specs.Number.{refusal}
-use Rattle.refusals.proofs.Told.{verdict-told-once}
-use Rattle.refusals.proofs.Writing.{written-told-once}
 use Rattle.bits.specs.Places.{counted}
 use Rattle.bits.specs.Read.{ReadIn, got, refused, endless}
 use Rattle.bits.specs.declared.Stopped.{Stopped}
@@ -20,26 +18,9 @@ use Rattle.h263_layers.specs.declared.HeaderRead.{HeaderRead}
 use Rattle.h263_layers.specs.declared.HeaderRead.the-variants as H
 use Rattle.h263_layers.specs.declared.OpenedRead.{OpenedRead}
 use Rattle.h263_layers.specs.declared.OpenedRead.the-variants as O
-use Rattle.determined.specs.H263.{ReadSaysOnce, ReadLeavesOnce, WriteSaysOnce, WriteLeavesOnce, HeaderOnce, OpenedOnce, VectorOnce}
-use Rattle.determined.proofs.Determined.{same-as, through}
+use Rattle.determined.specs.H263.{HeaderOnce, OpenedOnce, VectorOnce}
+use Rattle.determined.proofs.Determined.{through}
 
--- ---- the entry points
-pub h263-read-says-once : ReadSaysOnce
-h263-read-says-once size bytes n before x y e d =
-    let said = verdict-told-once (x .verdict) (y .verdict) (same-as (e .0) (d .0)) in
-    let counted = same-as (e .1) (d .1) in
-    λ i. record { verdict = said i; reads = counted i }
-
-pub h263-read-leaves-once : ReadLeavesOnce
-h263-read-leaves-once size bytes n before x y = same-as
-
-pub h263-write-says-once : WriteSaysOnce
-h263-write-says-once size d out x y a b = written-told-once x y (same-as a b)
-
-pub h263-write-leaves-once : WriteLeavesOnce
-h263-write-leaves-once size d out x y = same-as
-
--- ---- the layers
 module _ (s : List ℕ) (n : ℕ) where
   -- no read is endless
   none : Stopped

@@ -7,7 +7,11 @@ use lib.ListN.{length}
 use denote.Ref.{RefT, ptr, now}
 use Rattle.laws.specs.Block.{Is}
 use Rattle.laws.specs.Rows.{Put}
+use Rattle.refusals.specs.declared.Written.{Written}
+use Rattle.refusals.specs.Told.{Told, toldVerdict, verdictOn, foundOr}
+use Rattle.refusals.specs.Writing.{toldWritten}
 use Rattle.bits.specs.Bits.{Bit}
+use Rattle.bits.specs.Output.{outputLeft}
 use Rattle.bits.specs.Places.{counted}
 use Rattle.bits.specs.Read.{ReadIn, Read}
 use Rattle.bits.specs.Answer.{asField}
@@ -21,7 +25,6 @@ use Rattle.h261_words.specs.declared.CoefficientRead.{CoefficientRead}
 use Rattle.h263_words.specs.Words.{Event as Event263}
 use Rattle.h263_words.specs.Answer.{asEvent}
 use Rattle.h263_words.specs.declared.EventRead.{EventRead}
-use Rattle.h261_groups.specs.declared.Format.{Format}
 use Rattle.size.specs.declared.Size.{Size}
 use Rattle.size.specs.Size.{storeLength}
 use Rattle.h261_layers.specs.Grammar.{Mba, Header}
@@ -38,8 +41,6 @@ use Rattle.h261_layers.specs.declared.MacroblockRead.{MacroblockRead}
 use Rattle.h261_layers.specs.declared.MacroblockRead.the-variants.{Got}
 use Rattle.fields.specs.declared.PlaceRead.{PlaceRead}
 use Rattle.fields.specs.declared.PlaceRead.the-variants.{At}
-use Rattle.h261_reader.specs.ReadOf.{ReadSays, ReadLeaves, ReadCounts}
-use Rattle.h261_writer.specs.Output.{WriteSays, WriteLeaves}
 use Rattle.samples.specs.Content.{Values}
 use Rattle.samples.specs.Wrote.{Wrote, Macroblock}
 use Rattle.coding.specs.declared.Kind.{Kind}
@@ -65,12 +66,13 @@ abbrev pub EquationOnce : Type 1
 EquationOnce = (A : Type 0) (a : A) → Once (λ (x : A). x ≡ a)
 
 -- ---- the entry points: what each promises of its answer, of the buffers that it leaves, or of both at once
--- the verdict and the number of reads together
+-- a picture read: `ReadSays` and `ReadCounts` together, the verdict and the number of reads, of `coding` and of either standard's reader, whatever is told
 abbrev pub ReadSaysOnce : Type 0
-ReadSaysOnce = (f : Format) (bytes : List ℕ) (n : ℕ) (before : Flat) → Once (λ (r : PictureRead). ReadSays f bytes n before (r .verdict) × ReadCounts f bytes n before (r .reads))
+ReadSaysOnce = (told : Told Flat) (count : ℕ) → Once (λ (r : PictureRead). (toldVerdict (r .verdict) ≡ verdictOn told) × (r .reads ≡ count))
 
+-- and `ReadLeaves`
 abbrev pub ReadLeavesOnce : Type 0
-ReadLeavesOnce = (f : Format) (bytes : List ℕ) (n : ℕ) (before : Flat) → Once (ReadLeaves f bytes n before)
+ReadLeavesOnce = (before : Flat) (told : Told Flat) → Once (λ (left : Flat). left ≡ foundOr before told)
 
 abbrev pub DecodeSaysOnce : Type 0
 DecodeSaysOnce = (k : Kind) (bytes : List ℕ) (n : ℕ) (reference store : List ℕ) → Once (DecodeSays k bytes n reference store)
@@ -78,11 +80,12 @@ DecodeSaysOnce = (k : Kind) (bytes : List ℕ) (n : ℕ) (reference store : List
 abbrev pub DecodeLeavesOnce : Type 0
 DecodeLeavesOnce = (k : Kind) (bytes : List ℕ) (n : ℕ) (reference store : List ℕ) → Once (DecodeLeaves k bytes n reference store)
 
+-- a description written: `WriteSays` and `WriteLeaves`, of `coding` and of either standard's writer
 abbrev pub WriteSaysOnce : Type 0
-WriteSaysOnce = (f : Format) (d : Flat) (out : List ℕ) → Once (WriteSays f d out)
+WriteSaysOnce = (told : Told ℕ) → Once (λ (answer : Written). toldWritten answer ≡ told)
 
 abbrev pub WriteLeavesOnce : Type 0
-WriteLeavesOnce = (f : Format) (d : Flat) (out : List ℕ) → Once (WriteLeaves f d out)
+WriteLeavesOnce = (out : List ℕ) (bits : List Bit) (told : Told ℕ) → Once (λ (left : List ℕ). left ≡ outputLeft out bits told)
 
 abbrev pub ReceiveOnce : Type 0
 ReceiveOnce = (r : Receiver) (block : List ℕ) (b : R.Buffers) (x y : Received) (left after : R.Buffers) → ReceiveDoes r block b x left → ReceiveDoes r block b y after

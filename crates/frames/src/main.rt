@@ -1,23 +1,22 @@
-// Writes the pictures of the blocks on standard input that finish in step as YUV4MPEG2: `frames SIZE` or `frames SIZE CLIP`, with SIZE qcif or cif and CLIP from 1 to 65535.
+// Writes the pictures of the blocks on standard input that finish in step as YUV4MPEG2: `frames SIZE` or `frames SIZE CLIP`, with SIZE sqcif, qcif or cif and CLIP from 1 to 65535.
 // With the last word `timed` there is a frame for each tick: a picture stands until the next one's tick; where the receiver left step in between, it stands for one, and the rest is grey.
 //
 // On standard error: the lister's line for a refused or a short block, each run of blocks that led to no picture, the numbers of the pictures that are missing, and at the end
 // how many pictures there were; with `timed` also how many frames are repeated and how many grey. Without a clip the first good block chooses it, and standard error says which; with one, another clip's blocks are refused by 23.
+// The clip's first good block says its standard.
 //
 //     ./pagesorrel frames qcif 7 < clip.blocks > clip.y4m
 use account::End;
 use account::blocks::Met;
 use account::idle::Idle;
 use arguments::ClipWord;
-use arguments::FormatWord;
-use coding::Kind;
+use arguments::SizeWord;
 use libc::STDERR_FILENO;
 use libc::STDOUT_FILENO;
 use listing::Clip;
 use pace::Between;
 use size::Size;
 use standing::Answer;
-use standing::Opened;
 use standing::Received;
 use standing::Receiver;
 use ticks::Tick;
@@ -72,9 +71,8 @@ fn header(size: Size, out: &mut [u8; 128]) -> usize
     text::put(b" F30000:1001 Ip A12:11 C420jpeg\n", high, out)
 }
 
-fn begin(kind: Kind) -> bool {
+fn begin(size: Size) -> bool {
     let mut text = [0u8; 128];
-    let size = coding::size_of(kind);
     let count = header(size, &mut text);
     io::write_all(STDOUT_FILENO, &text[..count])
 }
@@ -97,18 +95,11 @@ fn frames(samples: &[u8], count: u32) -> bool {
     true
 }
 
-// Plain grey in the kind's size.
-fn grey_frames(kind: Kind, count: u32) -> bool {
-    match kind {
-        Kind::H261Qcif => {
-            let grey = [128u8; 38016];
-            frames(&grey, count)
-        }
-        Kind::H261Cif => {
-            let grey = [128u8; 152064];
-            frames(&grey, count)
-        }
-    }
+// Plain grey.
+fn grey_frames(size: Size, count: u32) -> bool {
+    let samples = size::store_length(size);
+    let grey = [128u8; 152064];
+    frames(&grey[..samples], count)
 }
 
 // Counts stop near the greatest number of 64 bits.
@@ -127,11 +118,11 @@ fn fill_with<'a>(
     second: &'a [u8],
 ) -> Filled {
     let kind = receiver.kind;
+    let size = coding::size_of(kind);
     match between {
         Between::Repeated(count) => {
             let last = receiver.last;
             let holder = last.holder;
-            let size = coding::size_of(kind);
             let all = frames(standing::store_shown(size, holder, first, second), count);
             Filled {
                 timing: Timing {
@@ -143,7 +134,7 @@ fn fill_with<'a>(
             }
         }
         Between::Grey(count) => {
-            let all = grey_frames(kind, count);
+            let all = grey_frames(size, count);
             Filled {
                 timing: Timing {
                     timed: timing.timed,
@@ -166,11 +157,11 @@ fn fill_before<'a>(
     second: &'a [u8],
 ) -> Filled {
     match before {
-        Clip::Unknown => Filled { timing, all: true },
         Clip::Known(receiver) => {
             let between = pace::frames_between(receiver, picture, tick);
             fill_with(timing, receiver, between, first, second)
         }
+        _ => Filled { timing, all: true },
     }
 }
 
@@ -196,7 +187,6 @@ fn fill<'a>(
 // The picture that is finished.
 fn show<'a>(answer: Answer, clip: Clip, first: &'a [u8], second: &'a [u8]) -> bool {
     match clip {
-        Clip::Unknown => true,
         Clip::Known(receiver) => {
             let received = Received {
                 answer,
@@ -204,6 +194,7 @@ fn show<'a>(answer: Answer, clip: Clip, first: &'a [u8], second: &'a [u8]) -> bo
             };
             frame(standing::show(received, first, second))
         }
+        _ => true,
     }
 }
 
@@ -230,11 +221,11 @@ fn say_chosen(n: u64, clip: u16) {
 // Where no clip was asked for, the block that chose it.
 fn choose(n: u64, before: Clip, after: Clip) {
     match before {
-        Clip::Known(_) => {}
         Clip::Unknown => match after {
             Clip::Known(receiver) => say_chosen(n, receiver.clip),
-            Clip::Unknown => {}
+            _ => {}
         },
+        _ => {}
     }
 }
 
@@ -349,7 +340,7 @@ fn shown<'a>(
 
 fn whole(
     n: u64,
-    kind: Kind,
+    size: Size,
     clip: Clip,
     met: Met,
     idle: Idle,
@@ -359,7 +350,7 @@ fn whole(
     first: &mut [u8],
     second: &mut [u8],
 ) -> Turn {
-    let listed = listing::list(kind, clip, block, collection, first, second);
+    let listed = listing::list(size, clip, block, collection, first, second);
     let answer = listed.answer;
     let next = listed.next;
     choose(n, clip, next);
@@ -379,7 +370,7 @@ fn short(n: u64, clip: Clip, met: Met, idle: Idle, timing: Timing) -> Turn {
 
 fn one(
     n: u64,
-    kind: Kind,
+    size: Size,
     clip: Clip,
     met: Met,
     idle: Idle,
@@ -402,7 +393,7 @@ fn one(
     if filled.count == 512 {
         return whole(
             n,
-            kind,
+            size,
             clip,
             met,
             idle,
@@ -463,7 +454,7 @@ fn goes_on(going: Going) -> bool {
 
 // Nothing says that the input ends, so the loop counts its turns.
 fn all(
-    kind: Kind,
+    size: Size,
     opened: Clip,
     timed: bool,
     collection: &mut [u8],
@@ -478,10 +469,10 @@ fn all(
         repeated: 0,
         grey: 0,
     };
-    let mut going = written(begin(kind));
+    let mut going = written(begin(size));
     let mut n: u64 = 0;
     while n < 18446744073709551615 && goes_on(going) {
-        let turn = one(n, kind, clip, met, idle, timing, collection, first, second);
+        let turn = one(n, size, clip, met, idle, timing, collection, first, second);
         clip = turn.clip;
         met = turn.met;
         idle = turn.idle;
@@ -492,31 +483,20 @@ fn all(
     finish(going, met, idle, timing)
 }
 
-fn qcif(clip: Clip, timed: bool) -> End {
-    let mut collection = [0u8; 8500];
-    let mut first = [0u8; 38016];
-    let mut second = [0u8; 38016];
-    all(
-        Kind::H261Qcif,
-        clip,
-        timed,
-        &mut collection,
-        &mut first,
-        &mut second,
-    )
-}
-
-fn cif(clip: Clip, timed: bool) -> End {
+// The buffers have room for any size.
+fn run(size: Size, clip: Clip, timed: bool) -> End {
+    let bytes = size::collection_length(size);
+    let samples = size::store_length(size);
     let mut collection = [0u8; 33000];
     let mut first = [0u8; 152064];
     let mut second = [0u8; 152064];
     all(
-        Kind::H261Cif,
+        size,
         clip,
         timed,
-        &mut collection,
-        &mut first,
-        &mut second,
+        &mut collection[..bytes],
+        &mut first[..samples],
+        &mut second[..samples],
     )
 }
 
@@ -525,38 +505,33 @@ fn cif(clip: Clip, timed: bool) -> End {
 fn usage() -> End {
     io::write_all(
         STDERR_FILENO,
-        b"usage: frames qcif|cif [CLIP] [timed] < BLOCKS > PICTURES.y4m, with CLIP from 1 to 65535\n",
+        b"usage: frames sqcif|qcif|cif [CLIP] [timed] < BLOCKS > PICTURES.y4m, with CLIP from 1 to 65535\n",
     );
     End::Misnamed
 }
 
-fn run(kind: Kind, clip: Clip, timed: bool) -> End {
-    match kind {
-        Kind::H261Qcif => qcif(clip, timed),
-        Kind::H261Cif => cif(clip, timed),
-    }
-}
-
-fn of_clip(kind: Kind, word: &[u8], timed: bool) -> End {
+// No clip has number 0.
+fn of_clip(size: Size, word: &[u8], timed: bool) -> End {
     match arguments::clip_named(word) {
-        ClipWord::Names(clip) => match standing::open(clip, kind) {
-            Opened::Open(receiver) => run(kind, Clip::Known(receiver), timed),
-            Opened::Refused(_) => usage(),
-        },
+        ClipWord::Names(clip) => {
+            if clip == 0 {
+                return usage();
+            }
+            run(size, Clip::Asked(clip), timed)
+        }
         ClipWord::Other => usage(),
     }
 }
 
-fn of_size(count: usize, size: &[u8], clip: &[u8], timed: bool) -> End {
-    match arguments::format_named(size) {
-        FormatWord::Names(format) => {
-            let kind = coding::kind_of(format);
+fn of_size(count: usize, word: &[u8], clip: &[u8], timed: bool) -> End {
+    match arguments::size_named(word) {
+        SizeWord::Names(size) => {
             if count == 2 {
-                return run(kind, Clip::Unknown, timed);
+                return run(size, Clip::Unknown, timed);
             }
-            of_clip(kind, clip, timed)
+            of_clip(size, clip, timed)
         }
-        FormatWord::Other => usage(),
+        SizeWord::Other => usage(),
     }
 }
 

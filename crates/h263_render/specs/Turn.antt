@@ -6,7 +6,7 @@ use lib.Dec.{T}
 use lib.IntN.{ℤ, pos, _+ℤ_}
 use Rattle.size.specs.declared.Size.{Size}
 use Rattle.size.specs.Size.{storeLength}
-use Rattle.size.specs.Place.{macroblocksAcross, macroblocksDown, wide, index, own, On}
+use Rattle.size.specs.Place.{macroblocksAcross, macroblocksDown, wide, base, index, own, On}
 use Rattle.quantiser.specs.Level.{Coded}
 use Rattle.samples.specs.Ready.{Ready}
 use Rattle.layout.specs.Value.{Vector}
@@ -21,13 +21,14 @@ pub record Moves (p k : ℕ) (z : ℤ) : Type 0 where
   pub place : pos (halfPlace p k z) ≡ pos (2 * k) +ℤ inPlane p z
 
 -- ---- lengths: n of the reference, m of the store, k of the levels
--- a block of the grid and where its vector points; it lies at `to`, and the rows of its plane a stride apart
-pub record PredictionOf (size : Size) (p y x to stride : ℕ) (v : Vector) (n m : ℕ) : Type 0 where
+-- a block of the grid and where its vector points; it lies at `to`, its plane starts at `start`, and the rows of it are a stride apart
+pub record PredictionOf (size : Size) (p y x to start stride : ℕ) (v : Vector) (n m : ℕ) : Type 0 where
   pub reference : n ≡ storeLength size
   pub store : m ≡ storeLength size
   pub on : On size p y x
   pub aims : Aims size p y x v
   pub corner : to ≡ index size p (y * 8) (x * 8)
+  pub starts : start ≡ base size p
   pub apart : stride ≡ wide size p
 
 -- a block of the grid; where it isn't INTRA, its vector points into the picture

@@ -44,6 +44,7 @@ fn predict(
     reference: &[u8],
     store: &mut [u8],
     to: usize,
+    start: usize,
     stride: usize,
     plane: usize,
     y: usize,
@@ -51,12 +52,12 @@ fn predict(
     horizontal: u8,
     vertical: u8,
 )
-    requires { ⌜ PredictionOf size plane y x to stride (byteVector horizontal vertical) (length (now reference)) (length (now store)) ⌝ }
+    requires { ⌜ PredictionOf size plane y x to start stride (byteVector horizontal vertical) (length (now reference)) (length (now store)) ⌝ }
     ensures { λ _. ⌜ Put 8 8 to stride (source size (now (reference .entry)) (byteVector horizontal vertical) plane y x) (now (store .entry)) (now (store .exit)) ⌝ }
 {
     let down = half_place(plane, y * 8, vertical);
     let along = half_place(plane, x * 8, horizontal);
-    let from = samples::rows::place(size, plane, down / 2, along / 2);
+    let from = samples::rows::place_from(size, plane, start, stride, down / 2, along / 2);
     h263_halves::put(reference, from, store, to, stride, along % 2, down % 2);
 }
 
@@ -78,8 +79,9 @@ pub fn block(
     requires { ⌜ BlockOf size plane y x intra (byteVector horizontal vertical) at quantiser (length (now reference)) (length (now store)) (length (now levels)) ⌝ }
     ensures { λ _. ⌜ Wrote size plane y x (λ i j. sampleOf (predictionsFrom size (now (reference .entry)) intra (byteVector horizontal vertical) plane y x i j) (differenceOf (bytesFrom (now (levels .entry)) at) intra quantiser i j)) (now (store .entry)) (now (store .exit)) ⌝ }
 {
-    let to = samples::rows::place(size, plane, y * 8, x * 8);
+    let start = size::place::start(size, plane);
     let stride = size::place::stride(size, plane);
+    let to = samples::rows::place_from(size, plane, start, stride, y * 8, x * 8);
     if intra {
         samples::draw::draw(store, to, stride, true, quantiser, levels, at);
         return;
@@ -89,6 +91,7 @@ pub fn block(
         reference,
         store,
         to,
+        start,
         stride,
         plane,
         y,

@@ -35,13 +35,9 @@ const MCBPC_INTER: usize = 512;
 
 const CBPY: usize = 1024;
 
-const MVD_SMALL: usize = 1088;
+const MVD: usize = 1088;
 
-const MVD_LARGE: usize = 1344;
-
-const TCOEF_SMALL: usize = 1600;
-
-const TCOEF_LARGE: usize = 2112;
+const TCOEF: usize = 1600;
 
 const INTRA_WORDS: usize = 2240;
 
@@ -86,15 +82,23 @@ pub fn cbpy(tables: &WordTables, bytes: &[u8], count: usize, at: usize) -> Field
     settled::word(Table::Cbpy, tables[CBPY + number], count, at)
 }
 
-// The entry for bits of this number: by all of them where it is small (from `smalls` on), else by all but the last five (from `others` on).
-fn looked_up(tables: &WordTables, small: usize, smalls: usize, others: usize, number: usize) -> u16
-    requires { ⌜ (smalls + small ≤ 4418) × (others + number / 32 < 4418) ⌝ }
-    ensures { λ r. ⌜ r ≡ getD (now (tables .entry)) (pick (ltb number small) (smalls + number) (others + number / 32)) 0 ⌝ }
+// Which entry is for bits of this number: by all of them where it is small, and after those by all but the last five.
+fn entry_place(small: usize, number: usize) -> usize
+    requires { ⌜ small + number / 32 < 4418 ⌝ }
+    ensures { λ r. ⌜ r ≡ pick (ltb number small) number (small + number / 32) ⌝ }
 {
     if number < small {
-        return tables[smalls + number];
+        return number;
     }
-    tables[others + number / 32]
+    small + number / 32
+}
+
+// That entry, of those that begin at `start`.
+fn looked_up(tables: &WordTables, small: usize, start: usize, number: usize) -> u16
+    requires { ⌜ start + small + number / 32 < 4418 ⌝ }
+    ensures { λ r. ⌜ r ≡ getD (now (tables .entry)) (pick (ltb number small) (start + number) (start + small + number / 32)) 0 ⌝ }
+{
+    tables[start + entry_place(small, number)]
 }
 
 // A component of MVD at `at`: 32 more than the difference that Table 11 prints first, in half samples.
@@ -103,7 +107,7 @@ pub fn mvd(tables: &WordTables, bytes: &[u8], count: usize, at: usize) -> FieldR
     ensures { λ r. ⌜ asField (now (bytes .entry)) count r ≡ wordRead mvdTable (bitsLeft (now (bytes .entry)) count at) at ⌝ }
 {
     let number = (bits::window(bytes, at) / 2048) as usize;
-    let e = looked_up(tables, 256, MVD_SMALL, MVD_LARGE, number);
+    let e = looked_up(tables, 256, MVD, number);
     settled::word(Table::Mvd263, e, count, at)
 }
 
@@ -113,13 +117,7 @@ pub fn event(tables: &WordTables, bytes: &[u8], count: usize, at: usize) -> Even
     ensures { λ r. ⌜ asEvent (now (bytes .entry)) count r ≡ eventRead (bitsLeft (now (bytes .entry)) count at) at ⌝ }
 {
     let bits = bits::window(bytes, at);
-    let e = looked_up(
-        tables,
-        512,
-        TCOEF_SMALL,
-        TCOEF_LARGE,
-        (bits / 4096) as usize,
-    );
+    let e = looked_up(tables, 512, TCOEF, (bits / 4096) as usize) as u32;
     let size = (e % 32) as usize;
     let meaning = e / 32;
     if count - at < size {
@@ -128,15 +126,16 @@ pub fn event(tables: &WordTables, bytes: &[u8], count: usize, at: usize) -> Even
             place: at,
         });
     }
-    if meaning == 0 {
-        return EventRead::Refused(Refusal {
-            reason: Reason::NoCodeword(Table::Tcoef263),
-            place: at,
-        });
-    }
     let after = 24 - size;
     let taken = bits >> after;
-    if meaning == 1 {
+    // No codeword, or an escape: most are neither.
+    if meaning < 2 {
+        if meaning == 0 {
+            return EventRead::Refused(Refusal {
+                reason: Reason::NoCodeword(Table::Tcoef263),
+                place: at,
+            });
+        }
         let code = taken % 256;
         if code % 128 == 0 {
             return EventRead::Refused(Refusal {

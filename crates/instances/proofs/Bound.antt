@@ -9,11 +9,10 @@ use native.Mathlib.Omega.{arith}
 use borrow.Author.Tests.{eqb-true, eqb-false, ltb-true, ltb-false}
 use lib.Dec.{eqb, ltb, lit<, lit≤}
 use lib.ListN.{length, length-map, getElem?, replicate}
-use Rattle.h261_groups.specs.declared.Format.{Format}
 use Rattle.layout.specs.Flat.{Flat}
 use Rattle.coding.specs.declared.Kind.{Kind}
-use Rattle.coding.specs.Kind.{formatOf, kindSize, codingOf}
-use Rattle.coding.proofs.H261.{coding-lawful}
+use Rattle.coding.specs.Kind.{kindSize, codingOf}
+use Rattle.coding.proofs.AllLawful.{coding-lawful}
 use Rattle.vault.specs.Parts.{partCount}
 use Rattle.demand3.specs.Clip.{Picture, PartOf, opening, picturesIn, worldGiven}
 use Rattle.demand3.specs.Soon.{InOrder, here, next, onward, RefreshEvery}
@@ -25,10 +24,10 @@ use Rattle.instances.specs.Uniform.{still, grey}
 use Rattle.instances.specs.Example.{newcomer}
 use Rattle.instances.specs.Instances.{beforeLast}
 use Rattle.instances.specs.Bound.{nextRefresh, refreshMarks, markedPicture, sparseClip, Bound, BoundReached}
-use Rattle.instances.proofs.Uniform.{still-valid, one, grey-valid}
+use Rattle.instances.proofs.Codes.{one}
+use Rattle.instances.proofs.Uniform.{still-valid, still-plain, still-fits, grey-valid, grey-refresh, grey-fits, grey-parts}
 use Rattle.instances.proofs.Sending.{blank-sized, newcomer-named, described, Sendable, all-sent}
 use Rattle.instances.proofs.Arriving.{not-yet}
-use Rattle.instances.proofs.Instances.{grey-parts, grey-refresh, still-plain, grey-fits, still-fits}
 
 -- ---- of lists
 there : {A : Type 0} (l : List A) (i : ℕ) → i < length l → (a : A) × (getElem? l i ≡ some a)
@@ -85,30 +84,27 @@ one-last block h e (next k o) = next k (one-last block h e o)
 one-last block h e (onward x at n o) = onward x at n (one-last block h e o)
 
 module _ (kind : Kind) where
-  abbrev f : Format
-  f = formatOf kind
-
   abbrev sent : List (Picture Flat)
   sent = picturesIn codingOf (sparseClip kind)
 
   -- ---- what was sent
-  sendable : (t : Bool) → Sendable codingOf kind (markedPicture f t)
-  sendable true = record { can = described kind (grey f 1) (grey-valid one f); within = grey-fits kind one }
-  sendable false = record { can = described kind (still f) (still-valid f); within = still-fits kind }
+  sendable : (t : Bool) → Sendable codingOf kind (markedPicture kind t)
+  sendable true = record { can = described kind (grey kind 1) (grey-valid one kind); within = grey-fits kind one }
+  sendable false = record { can = described kind (still kind) (still-valid kind); within = still-fits kind }
 
-  descriptions : map (λ (x : Picture Flat). x .description) sent ≡ map (markedPicture f) refreshMarks
+  descriptions : map (λ (x : Picture Flat). x .description) sent ≡ map (markedPicture kind) refreshMarks
   descriptions =
-      all-sent codingOf (λ k d under. coding-lawful .each k .rendered-long d under) (markedPicture f) (opening codingOf (sparseClip kind)) (blank-sized (kindSize kind)) sendable true (grey-refresh kind one) (nextRefresh (nextRefresh []))
+      all-sent codingOf (λ k d under. coding-lawful .each k .rendered-long d under) (markedPicture kind) (opening codingOf (sparseClip kind)) (blank-sized (kindSize kind)) sendable true (grey-refresh kind one) (nextRefresh (nextRefresh []))
       (lit≤ tt)
 
   abbrev isRefresh : Picture Flat → Bool
   isRefresh x = codingOf kind .refresh (x .description)
 
-  mark-of : (t : Bool) → codingOf kind .refresh (markedPicture f t) ≡ t
+  mark-of : (t : Bool) → codingOf kind .refresh (markedPicture kind t) ≡ t
   mark-of true = grey-refresh kind one
   mark-of false = still-plain kind
 
-  marks-of : (l : List Bool) → map (λ (t : Bool). codingOf kind .refresh (markedPicture f t)) l ≡ l
+  marks-of : (l : List Bool) → map (λ (t : Bool). codingOf kind .refresh (markedPicture kind t)) l ≡ l
   marks-of [] = refl
   marks-of (t ∷ l) = λ i. mark-of t i ∷ marks-of l i
 
@@ -116,15 +112,15 @@ module _ (kind : Kind) where
   marks-are =
       sym (map-map (codingOf kind .refresh) (λ (x : Picture Flat). x .description) sent)
       ∙ ap (map (codingOf kind .refresh)) descriptions
-      ∙ map-map (codingOf kind .refresh) (markedPicture f) refreshMarks
+      ∙ map-map (codingOf kind .refresh) (markedPicture kind) refreshMarks
       ∙ marks-of refreshMarks
 
   pub count-sent : length sent ≡ 25
   count-sent = sym (length-map sent isRefresh) ∙ ap length marks-are
 
   -- ---- 0, 12 and 24
-  refresh-at : (p : ℕ) → getElem? refreshMarks p ≡ some true → (x : Picture Flat) × (getElem? sent p ≡ some x) × (x .description ≡ grey f 1)
-  refresh-at p e = map-from (λ (x : Picture Flat). x .description) sent p (grey f 1) (ap (λ (l : List Flat). getElem? l p) descriptions ∙ map-at (markedPicture f) refreshMarks p true e)
+  refresh-at : (p : ℕ) → getElem? refreshMarks p ≡ some true → (x : Picture Flat) × (getElem? sent p ≡ some x) × (x .description ≡ grey kind 1)
+  refresh-at p e = map-from (λ (x : Picture Flat). x .description) sent p (grey kind 1) (ap (λ (l : List Flat). getElem? l p) descriptions ∙ map-at (markedPicture kind) refreshMarks p true e)
 
   abbrev Found : ℕ → Type 0
   Found i = (p : ℕ) × (i ≤ p) × (p < i + 12) × (x : Picture Flat) × (getElem? sent p ≡ some x) × (isRefresh x ≡ true)
@@ -162,10 +158,10 @@ module _ (kind : Kind) where
   sound : Sound codingOf 1 kind sent
   sound = sound-clip coding-lawful (sparseClip kind)
 
-  parts-are : (x : Picture Flat) → x .description ≡ grey f 1 → partCount (length (codingOf kind .written (x .description))) ≡ suc (beforeLast kind)
+  parts-are : (x : Picture Flat) → x .description ≡ grey kind 1 → partCount (length (codingOf kind .written (x .description))) ≡ suc (beforeLast kind)
   parts-are x e = ap (λ (d : Flat). partCount (length (codingOf kind .written d))) e ∙ grey-parts kind one
 
-  module _ (x12 x24 : Picture Flat) (at12 : getElem? sent 12 ≡ some x12) (at24 : getElem? sent 24 ≡ some x24) (is12 : x12 .description ≡ grey f 1) (is24 : x24 .description ≡ grey f 1) where
+  module _ (x12 x24 : Picture Flat) (at12 : getElem? sent 12 ≡ some x12) (at24 : getElem? sent 24 ≡ some x24) (is12 : x12 .description ≡ grey kind 1) (is24 : x24 .description ≡ grey kind 1) where
     count12 : length (x12 .blocks) ≡ suc (beforeLast kind)
     count12 = sound .whole 12 x12 at12 .count ∙ parts-are x12 is12
 

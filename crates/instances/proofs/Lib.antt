@@ -1,3 +1,7 @@
+pub mod Repeated
+pub mod Codes
+pub mod H261
+pub mod H263
 pub mod Uniform
 pub mod Sending
 pub mod Arriving

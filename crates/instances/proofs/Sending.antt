@@ -6,30 +6,28 @@ use Prim.Native.Nat.{ℕ, _+_, _≤_, _<_}
 use native.Mathlib.Nat.{mul-one}
 use native.Mathlib.Omega.{arith}
 use borrow.Author.Tests.{eq-eqb, ne-eqb}
-use lib.Dec.{T, eqb}
+use lib.Dec.{eqb}
 use lib.ListN.{length}
 use Rattle.laws.specs.Choice.{both, either, opposite}
-use Rattle.laws.proofs.Choice.{T-true, both-left}
 use Rattle.refusals.specs.Told.{refused}
 use Rattle.size.specs.declared.Size.{Size}
 use Rattle.size.specs.Size.{limit, storeLength, collectionLength, blocksLength}
 use Rattle.layout.specs.Flat.{Flat}
-use Rattle.h261_description.specs.Valid.{lengthsOf, valid}
 use Rattle.coding.specs.declared.Kind.{Kind}
 use Rattle.coding.specs.Coding.{Coding}
-use Rattle.coding.specs.Kind.{formatOf, kindSize, codingOf}
+use Rattle.coding.specs.Kind.{kindSize, codingOf}
 use Rattle.vault.specs.Block.{pictures as mostPictures}
 use Rattle.standing.specs.Stores.{reference, storesWith}
 use Rattle.sender.specs.Send.{Buffers, Judgement, sends, refuses, Outcome, judge, nextSender, countSent, shownBy, cameTo, step}
 use Rattle.sender.specs.Sending.{Passed}
 use Rattle.sender.specs.Run.{Call, World, cut, callOutcome, worldAfter}
 use Rattle.sender.proofs.Laws.{below, above}
-use Rattle.demand2.proofs.WrittenBack.{one-of}
+use Rattle.demand2.proofs.WrittenBack.{valid-named}
 use Rattle.demand3.specs.Clip.{Picture, sentAs, pictures}
 use Rattle.demand3.proofs.Finished.{bothSized, kept-sized}
 use Rattle.demand3.proofs.Step.{lengths-make}
 use Rattle.instances.specs.Example.{blank, blankStores, newcomer, call, calls}
-use Rattle.instances.proofs.Uniform.{repeated-length}
+use Rattle.instances.proofs.Repeated.{repeated-length}
 use Rattle.standing.specs.Receive as R
 
 -- ---- buffers
@@ -48,9 +46,8 @@ pub record Described {D : Type 0} (coding : Kind → Coding D) (kind : Kind) (d 
   pub named : coding kind .named d ≡ true
   pub valid : coding kind .valid d ≡ true
 
-pub described : (kind : Kind) (d : Flat) → T (valid (formatOf kind) d) → Described codingOf kind d
-unfolding valid codingOf
-described kind d v = record { named = one-of (formatOf kind) d (both-left (lengthsOf (formatOf kind) d) _ v); valid = T-true (valid (formatOf kind) d) v }
+pub described : (kind : Kind) (d : Flat) → codingOf kind .valid d ≡ true → Described codingOf kind d
+described kind d v = record { named = valid-named kind d v; valid = v }
 
 -- ---- one call
 module _ {D : Type 0} (coding : Kind → Coding D) (w : World) (d : D) where

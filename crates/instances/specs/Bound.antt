@@ -1,13 +1,12 @@
--- Document 02, T-14: a clip with a refresh in every run of 12 pictures, and a delivery that is back in step no sooner than the bound says, in each format. Assumes nothing.
+-- Document 02, T-14: a clip with a refresh in every run of 12 pictures, and a delivery that is back in step no sooner than the bound says, of every kind. Assumes nothing.
 use mathlib.Core.Path.{_≡_}
 use mathlib.Core.Bool.{Bool, true, false}
 use mathlib.Core.List.{List, [], _∷_, _++_, map}
 use Prim.Native.Nat.{ℕ}
 use lib.ListN.{replicate}
-use Rattle.h261_groups.specs.declared.Format.{Format}
 use Rattle.layout.specs.Flat.{Flat}
 use Rattle.coding.specs.declared.Kind.{Kind}
-use Rattle.coding.specs.Kind.{formatOf, codingOf}
+use Rattle.coding.specs.Kind.{codingOf}
 use Rattle.standing.specs.Receive.{step}
 use Rattle.standing.specs.Run.{World}
 use Rattle.standing.specs.Shown.{shownBy}
@@ -24,12 +23,12 @@ nextRefresh later = replicate 11 false ++ (true ∷ later)
 abbrev pub refreshMarks : List Bool
 refreshMarks = true ∷ nextRefresh (nextRefresh [])
 
-abbrev pub markedPicture : Format → Bool → Flat
-markedPicture f true = grey f 1
-markedPicture f false = still f
+abbrev pub markedPicture : Kind → Bool → Flat
+markedPicture kind true = grey kind 1
+markedPicture kind false = still kind
 
 abbrev pub sparseClip : Kind → Clip Flat
-sparseClip kind = clip kind (map (markedPicture (formatOf kind)) refreshMarks)
+sparseClip kind = clip kind (map (markedPicture kind) refreshMarks)
 
 -- not in step after any of these blocks
 abbrev pub NotInStep : Receive → World → List (List ℕ) → Type 0

@@ -5,7 +5,7 @@ use mathlib.Core.List.{List, [], _∷_}
 use Rattle.size.specs.declared.Size.{Size}
 use Rattle.size.specs.Size.{storeLength, collectionLength, blocksLength}
 use Rattle.coding.specs.declared.Kind.{Kind}
-use Rattle.coding.specs.Kind.{formatOf, kindSize}
+use Rattle.coding.specs.Kind.{kindSize}
 use Rattle.layout.specs.Flat.{Flat}
 use Rattle.standing.specs.Stores.{Stores, stores}
 use Rattle.sender.specs.Send.{freshSender}
@@ -39,6 +39,4 @@ module _ {D : Type 0} where
 
 -- a refresh; one above the limit; two pictures in which nothing is sent; another refresh; and nothing sent again
 abbrev pub example : Kind → Clip Flat
-example kind =
-    let f = formatOf kind in
-    clip kind (grey f 1 ∷ heavy f ∷ still f ∷ still f ∷ grey f 2 ∷ still f ∷ [])
+example kind = clip kind (grey kind 1 ∷ heavy kind ∷ still kind ∷ still kind ∷ grey kind 2 ∷ still kind ∷ [])

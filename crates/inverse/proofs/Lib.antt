@@ -1,4 +1,4 @@
-mod Halves
+mod Pairs
 mod Parts
 mod Bounds
 mod Split

@@ -1,6 +1,6 @@
--- What the quick way of the inverse transform computes on its way: sums along a line of eight, by their even and odd halves. Assumes nothing.
+-- What the quick way of the inverse transform computes on its way: sums along a line of eight, by pairs of products. Assumes nothing.
 use mathlib.Core.List.{List, []}
-use Prim.Native.Nat.{ℕ, zero, suc}
+use Prim.Native.Nat.{ℕ, zero, suc, _<_}
 use lib.IntN.{ℤ, pos, negsuc, _+ℤ_, _*ℤ_}
 use lib.ListN.{getD}
 use Rattle.laws.specs.Integer.{Low}
@@ -16,39 +16,22 @@ use Rattle.inverse.specs.Inverse.{A, output}
 unfoldable pub along : List ℤ → ℕ → ℤ
 along row x = sumZ 8 (λ u. entry row u *ℤ A u x)
 
--- the part of a line's sum that its even places give, and its odd ones
-abbrev pub evenPart : ℤ → ℤ → ℤ → Lin
-evenPart k2 k4 k6 = plus (plus (plus (term 0 (pos 2048)) (term 2 k2)) (term 4 k4)) (term 6 k6)
+-- two numbers of a line by their factors
+abbrev pub pairOf : ℕ → ℤ → ℕ → ℤ → Lin
+pairOf i k j l = plus (term i k) (term j l)
 
-abbrev pub oddPart : ℤ → ℤ → ℤ → ℤ → Lin
-oddPart k1 k3 k5 k7 = plus (plus (plus (term 1 k1) (term 3 k3)) (term 5 k5)) (term 7 k7)
+-- two places of a line, and factors no larger than the table's
+pub record Factors (i : ℕ) (k : ℤ) (j : ℕ) (l : ℤ) : Type 0 where
+  pub first : i < 8
+  pub first-low : Low 2841 k
+  pub second : j < 8
+  pub second-low : Low 2841 l
 
--- a number of a line and its factor, each small
-pub record Product (number factor : ℤ) : Type 0 where
-  pub number-low : Low 16384 number
-  pub factor-low : Low 2841 factor
-
-pub record Four (a k b l c m d n : ℤ) : Type 0 where
-  pub first : Product a k
-  pub second : Product b l
-  pub third : Product c m
-  pub fourth : Product d n
-
--- the factors of the even places but the first, of the odd ones, and of both
-pub record EvenFactors (k2 k4 k6 : ℤ) : Type 0 where
-  pub two : Low 2841 k2
-  pub four : Low 2841 k4
-  pub six : Low 2841 k6
-
-pub record OddFactors (k1 k3 k5 k7 : ℤ) : Type 0 where
-  pub one : Low 2841 k1
-  pub three : Low 2841 k3
-  pub five : Low 2841 k5
-  pub seven : Low 2841 k7
-
-pub record Factors (k2 k4 k6 k1 k3 k5 k7 : ℤ) : Type 0 where
-  pub evens : EvenFactors k2 k4 k6
-  pub odds : OddFactors k1 k3 k5 k7
+-- what the even places give of a line's sum, by two pairs, and two pairs of the odd ones: each small
+pub record Half (even a b : ℤ) : Type 0 where
+  pub evens : Low 186187776 even
+  pub one : Low 93093888 a
+  pub other : Low 93093888 b
 
 -- what the rows give
 abbrev pub rowsAt : List (List ℤ) → ℕ → ℕ → ℤ

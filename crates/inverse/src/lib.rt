@@ -1,8 +1,9 @@
 // The inverse transform, exact: the double sum is two passes of sums along lines of eight, rounded once at the end.
 //
-// A pass goes by halves, the even places and the odd ones, which the compiler makes once for two results each. Both passes stay within
-// 32 bits: what the rows give is split into t = 8192 high + low, and (S + 2^24) / 2^25 is then (H + L / 8192) / 4096, rounded down each time, where H
-// and L are the sums of the two parts and the rounding term 2^24 = 8192 · 2048 stands in the first number of the line.
+// A pass goes by pairs of products, each of which the compiler makes in one step and once for two results or more: so every pair stands in two sums, with
+// one sign and then the other, and the compiler doesn't take the sums apart. Both passes stay within 32 bits: what the rows give is split into
+// t = 8192 high + low, and (S + 2^24) / 2^25 is then (H + L / 8192) / 4096, rounded down each time, where H and L are the sums of the two parts and the
+// rounding term 2^24 = 8192 · 2048 stands in the first number of the line.
 use quantiser::cut::cut16;
 use quantiser::cut::short;
 ghost use mathlib.Core.Path.{_≡_};
@@ -11,55 +12,49 @@ ghost use lib.IntN.{pos, negsuc, _+ℤ_, _-ℤ_, _*ℤ_};
 ghost use Rattle.laws.specs.Integer.{Low};
 ghost use Rattle.laws.specs.Floor.{floorDivided};
 ghost use Rattle.laws.specs.Block.{Is, cell};
-ghost use Rattle.laws.specs.Linear.{eval, plus, less};
+ghost use Rattle.laws.specs.Linear.{eval};
 ghost use Rattle.inverse.specs.Inverse.{inverseAt};
 ghost use Rattle.inverse.specs.Alone.{flatAt};
 ghost use Rattle.quantiser.specs.Cut.{cut};
 ghost use Rattle.quantiser.specs.Lines.{Small, SmallRow, Line, entry};
-ghost use Rattle.inverse.specs.Passes.{Product, Four, EvenFactors, OddFactors, Factors, along, evenPart, oddPart, downAt, rowsAt, columnsAt, finished};
+ghost use Rattle.inverse.specs.Passes.{Factors, Half, along, pairOf, downAt, rowsAt, columnsAt, finished};
 
-// Eight products of 16384 by 2841 come to 372375552.
-fn more(sum: i32, number: i16, factor: i32) -> i32
-    requires { ⌜ (Low 372375552 sum) × (Product number factor) ⌝ }
-    ensures { λ r. ⌜ r ≡ sum +ℤ number *ℤ factor ⌝ }
+// Two numbers of a line by their factors.
+fn pair(f: [i16; 8], i: usize, k: i32, j: usize, l: i32) -> i32
+    requires { ⌜ (SmallRow 16384 f) × (Factors i k j l) ⌝ }
+    ensures { λ r. ⌜ r ≡ eval (entry f) (pairOf i k j l) ⌝ }
 {
-    sum + (number as i32) * factor
+    (f[i] as i32) * k + (f[j] as i32) * l
 }
 
-// Half of a line's sum.
-fn four(a: i16, k: i32, b: i16, l: i32, c: i16, m: i32, d: i16, n: i32) -> i32
-    requires { ⌜ Four a k b l c m d n ⌝ }
-    ensures { λ r. ⌜ r ≡ a *ℤ k +ℤ b *ℤ l +ℤ c *ℤ m +ℤ d *ℤ n ⌝ }
+// Two pairs come to 4 products of 16384 by 2841, 186187776.
+fn sum(a: i32, b: i32) -> i32
+    requires { ⌜ (Low 93093888 a) × (Low 93093888 b) ⌝ }
+    ensures { λ r. ⌜ r ≡ a +ℤ b ⌝ }
 {
-    more(more(more(more(0, a, k), b, l), c, m), d, n)
+    a + b
 }
 
-fn even(f: [i16; 8], k2: i32, k4: i32, k6: i32) -> i32
-    requires { ⌜ (SmallRow 16384 f) × (EvenFactors k2 k4 k6) ⌝ }
-    ensures { λ r. ⌜ r ≡ eval (entry f) (evenPart k2 k4 k6) ⌝ }
+fn difference(a: i32, b: i32) -> i32
+    requires { ⌜ (Low 93093888 a) × (Low 93093888 b) ⌝ }
+    ensures { λ r. ⌜ r ≡ a -ℤ b ⌝ }
 {
-    four(f[0], 2048, f[2], k2, f[4], k4, f[6], k6)
+    a - b
 }
 
-fn odd(f: [i16; 8], k1: i32, k3: i32, k5: i32, k7: i32) -> i32
-    requires { ⌜ (SmallRow 16384 f) × (OddFactors k1 k3 k5 k7) ⌝ }
-    ensures { λ r. ⌜ r ≡ eval (entry f) (oddPart k1 k3 k5 k7) ⌝ }
+// A line's sum in its first half, by the even places and two pairs of odd ones, of which the second is taken off; and the one opposite.
+fn near(even: i32, a: i32, b: i32) -> i32
+    requires { ⌜ Half even a b ⌝ }
+    ensures { λ r. ⌜ r ≡ even +ℤ a -ℤ b ⌝ }
 {
-    four(f[1], k1, f[3], k3, f[5], k5, f[7], k7)
+    even + a - b
 }
 
-fn both_plus(f: [i16; 8], k2: i32, k4: i32, k6: i32, k1: i32, k3: i32, k5: i32, k7: i32) -> i32
-    requires { ⌜ (SmallRow 16384 f) × (Factors k2 k4 k6 k1 k3 k5 k7) ⌝ }
-    ensures { λ r. ⌜ r ≡ eval (entry f) (plus (evenPart k2 k4 k6) (oddPart k1 k3 k5 k7)) ⌝ }
+fn far(even: i32, a: i32, b: i32) -> i32
+    requires { ⌜ Half even a b ⌝ }
+    ensures { λ r. ⌜ r ≡ even -ℤ a +ℤ b ⌝ }
 {
-    even(f, k2, k4, k6) + odd(f, k1, k3, k5, k7)
-}
-
-fn both_less(f: [i16; 8], k2: i32, k4: i32, k6: i32, k1: i32, k3: i32, k5: i32, k7: i32) -> i32
-    requires { ⌜ (SmallRow 16384 f) × (Factors k2 k4 k6 k1 k3 k5 k7) ⌝ }
-    ensures { λ r. ⌜ r ≡ eval (entry f) (less (evenPart k2 k4 k6) (oddPart k1 k3 k5 k7)) ⌝ }
-{
-    even(f, k2, k4, k6) - odd(f, k1, k3, k5, k7)
+    even - a + b
 }
 
 // A line's eight sums.
@@ -67,15 +62,31 @@ fn pass(f: [i16; 8]) -> [i32; 8]
     requires { ⌜ SmallRow 16384 f ⌝ }
     ensures { λ r. ⌜ Line (along f) r ⌝ }
 {
+    let s = pair(f, 0, 2048, 4, 2048);
+    let d = pair(f, 0, 2048, 4, -2048);
+    let p = pair(f, 2, 2676, 6, 1108);
+    let q = pair(f, 2, 1108, 6, -2676);
+    let e0 = sum(s, p);
+    let e1 = sum(d, q);
+    let e2 = difference(d, q);
+    let e3 = difference(s, p);
+    let a0 = pair(f, 1, 2841, 3, 2408);
+    let b0 = pair(f, 5, -1609, 7, -565);
+    let a1 = pair(f, 1, 2408, 3, -565);
+    let b1 = pair(f, 5, 2841, 7, 1609);
+    let a2 = pair(f, 1, 1609, 3, -2841);
+    let b2 = pair(f, 5, -565, 7, -2408);
+    let a3 = pair(f, 1, 565, 3, -1609);
+    let b3 = pair(f, 5, -2408, 7, 2841);
     [
-        both_plus(f, 2676, 2048, 1108, 2841, 2408, 1609, 565),
-        both_plus(f, 1108, -2048, -2676, 2408, -565, -2841, -1609),
-        both_plus(f, -1108, -2048, 2676, 1609, -2841, 565, 2408),
-        both_plus(f, -2676, 2048, -1108, 565, -1609, 2408, -2841),
-        both_less(f, -2676, 2048, -1108, 565, -1609, 2408, -2841),
-        both_less(f, -1108, -2048, 2676, 1609, -2841, 565, 2408),
-        both_less(f, 1108, -2048, -2676, 2408, -565, -2841, -1609),
-        both_less(f, 2676, 2048, 1108, 2841, 2408, 1609, 565),
+        near(e0, a0, b0),
+        near(e1, a1, b1),
+        near(e2, a2, b2),
+        near(e3, a3, b3),
+        far(e3, a3, b3),
+        far(e2, a2, b2),
+        far(e1, a1, b1),
+        far(e0, a0, b0),
     ]
 }
 
@@ -220,11 +231,12 @@ fn cut_output(z: i32) -> i32
     cut16(-256, 255, short(z)) as i32
 }
 
+// Rounded and cut: 16 bits, of which seven more are to go, hold -256..255.
 fn finish(h: i32, l: i32) -> i32
     requires { ⌜ (Low 372375552 h) × (Low 372375552 l) ⌝ }
     ensures { λ r. ⌜ r ≡ finished h l ⌝ }
 {
-    cut_output((h + (l >> 13)) >> 12)
+    (short((h + (l >> 13)) >> 5) >> 7) as i32
 }
 
 fn columns(t: [[i32; 8]; 8]) -> [[i32; 8]; 8]

@@ -1,18 +1,17 @@
-// Lists the blocks on standard input: `lister`, `lister SIZE` or `lister SIZE CLIP`, with SIZE qcif or cif and CLIP from 1 to 65535.
+// Lists the blocks on standard input: `lister`, `lister SIZE` or `lister SIZE CLIP`, with SIZE sqcif, qcif or cif and CLIP from 1 to 65535.
 //
 // A line for each block, and how the clip's receiver stands at the end; docs/REFUSALS.md says what each line means. Without a size the blocks are QCIF's. Without a clip the
-// first good block chooses it, and standard error says which; with one, another clip's blocks are refused by 23.
+// first good block chooses it, and standard error says which; with one, another clip's blocks are refused by 23. The clip's first good block says its standard.
 //
 //     ./pagesorrel lister qcif 7 < clip.blocks
 use account::End;
 use account::blocks::Met;
 use arguments::ClipWord;
-use arguments::FormatWord;
-use coding::Kind;
+use arguments::SizeWord;
 use libc::STDERR_FILENO;
 use libc::STDOUT_FILENO;
 use listing::Clip;
-use standing::Opened;
+use size::Size;
 
 // Whether there is more to do, and if not, why.
 enum Going {
@@ -40,11 +39,11 @@ fn say_chosen(n: u64, clip: u16) {
 // Where no clip was asked for, the block that chose it.
 fn choose(n: u64, before: Clip, after: Clip) {
     match before {
-        Clip::Known(_) => {}
         Clip::Unknown => match after {
             Clip::Known(receiver) => say_chosen(n, receiver.clip),
-            Clip::Unknown => {}
+            _ => {}
         },
+        _ => {}
     }
 }
 
@@ -67,7 +66,7 @@ fn written(all: bool, clip: Clip, met: Met) -> Turn {
 
 fn whole(
     n: u64,
-    kind: Kind,
+    size: Size,
     clip: Clip,
     met: Met,
     block: &[u8; 512],
@@ -75,7 +74,7 @@ fn whole(
     first: &mut [u8],
     second: &mut [u8],
 ) -> Turn {
-    let listed = listing::list(kind, clip, block, collection, first, second);
+    let listed = listing::list(size, clip, block, collection, first, second);
     let answer = listed.answer;
     let next = listed.next;
     choose(n, clip, next);
@@ -104,7 +103,7 @@ fn short(n: u64, clip: Clip, met: Met) -> Turn {
 
 fn one(
     n: u64,
-    kind: Kind,
+    size: Size,
     clip: Clip,
     met: Met,
     collection: &mut [u8],
@@ -121,7 +120,7 @@ fn one(
         };
     }
     if filled.count == 512 {
-        return whole(n, kind, clip, met, &block, collection, first, second);
+        return whole(n, size, clip, met, &block, collection, first, second);
     }
     if 0 < filled.count {
         return short(n, clip, met);
@@ -171,7 +170,7 @@ fn goes_on(going: Going) -> bool {
 
 // Nothing says that the input ends, so the loop counts its turns.
 fn all(
-    kind: Kind,
+    size: Size,
     opened: Clip,
     collection: &mut [u8],
     first: &mut [u8],
@@ -182,7 +181,7 @@ fn all(
     let mut going = Going::On;
     let mut n: u64 = 0;
     while n < 18446744073709551615 && goes_on(going) {
-        let turn = one(n, kind, clip, met, collection, first, second);
+        let turn = one(n, size, clip, met, collection, first, second);
         clip = turn.clip;
         met = turn.met;
         going = turn.going;
@@ -191,29 +190,19 @@ fn all(
     finish(going, clip, met)
 }
 
-fn qcif(clip: Clip) -> End {
-    let mut collection = [0u8; 8500];
-    let mut first = [0u8; 38016];
-    let mut second = [0u8; 38016];
-    all(
-        Kind::H261Qcif,
-        clip,
-        &mut collection,
-        &mut first,
-        &mut second,
-    )
-}
-
-fn cif(clip: Clip) -> End {
+// The buffers have room for any size.
+fn run(size: Size, clip: Clip) -> End {
+    let bytes = size::collection_length(size);
+    let samples = size::store_length(size);
     let mut collection = [0u8; 33000];
     let mut first = [0u8; 152064];
     let mut second = [0u8; 152064];
     all(
-        Kind::H261Cif,
+        size,
         clip,
-        &mut collection,
-        &mut first,
-        &mut second,
+        &mut collection[..bytes],
+        &mut first[..samples],
+        &mut second[..samples],
     )
 }
 
@@ -222,45 +211,40 @@ fn cif(clip: Clip) -> End {
 fn usage() -> End {
     io::write_all(
         STDERR_FILENO,
-        b"usage: lister [qcif|cif [CLIP]] < BLOCKS, with CLIP from 1 to 65535\n",
+        b"usage: lister [sqcif|qcif|cif [CLIP]] < BLOCKS, with CLIP from 1 to 65535\n",
     );
     End::Misnamed
 }
 
-fn run(kind: Kind, clip: Clip) -> End {
-    match kind {
-        Kind::H261Qcif => qcif(clip),
-        Kind::H261Cif => cif(clip),
-    }
-}
-
-fn of_clip(kind: Kind, word: &[u8]) -> End {
+// No clip has number 0.
+fn of_clip(size: Size, word: &[u8]) -> End {
     match arguments::clip_named(word) {
-        ClipWord::Names(clip) => match standing::open(clip, kind) {
-            Opened::Open(receiver) => run(kind, Clip::Known(receiver)),
-            Opened::Refused(_) => usage(),
-        },
+        ClipWord::Names(clip) => {
+            if clip == 0 {
+                return usage();
+            }
+            run(size, Clip::Asked(clip))
+        }
         ClipWord::Other => usage(),
     }
 }
 
-fn of_size(count: usize, size: &[u8], clip: &[u8]) -> End {
-    match arguments::format_named(size) {
-        FormatWord::Names(format) => {
-            let kind = coding::kind_of(format);
+fn of_size(count: usize, word: &[u8], clip: &[u8]) -> End {
+    match arguments::size_named(word) {
+        SizeWord::Names(size) => {
             if count == 2 {
-                return run(kind, Clip::Unknown);
+                return run(size, Clip::Unknown);
             }
-            of_clip(kind, clip)
+            of_clip(size, clip)
         }
-        FormatWord::Other => usage(),
+        SizeWord::Other => usage(),
     }
 }
 
 // How many words there are, the program's own name among them, and the two after it.
 fn of_words(count: usize, size: &[u8], clip: &[u8]) -> End {
     if count <= 1 {
-        return run(Kind::H261Qcif, Clip::Unknown);
+        return run(Size::Qcif, Clip::Unknown);
     }
     if count <= 3 {
         return of_size(count, size, clip);

@@ -1,28 +1,32 @@
 // The vault lister's work but reading and writing: the clip that is listed, what each block comes to, and its line.
-use coding::Kind;
+use coding::KindFound;
 use refusals::Reason;
 use refusals::Refusal;
+use size::Size;
 use standing::Answer;
 use standing::Opened;
 use standing::Receiver;
 use standing::Standing;
 use ticks::Tick;
 use vault::Checked;
+use vault::Header;
 ghost use mathlib.Core.Path.{_≡_};
 ghost use Prim.Native.Nat.{_+_, _≤_};
 ghost use lib.ListN.{length};
 ghost use Rattle.io.specs.Counts.{Counts};
-ghost use Rattle.coding.specs.Kind.{codingOf};
+ghost use Rattle.coding.specs.Kind.{kindIn, codingOf};
+ghost use Rattle.vault.specs.Block.{toldChecked};
 ghost use Rattle.standing.specs.Answered.{toldOpened, said};
 ghost use Rattle.standing.specs.Receive.{buffers, step};
 ghost use Rattle.text.specs.Text.{over};
 ghost use Rattle.text.specs.Puts.{Puts};
 ghost use Rattle.listing.specs.Lines.{placeText, tickText, pictureText, textOf, lineText, shortText, standingText};
-ghost use Rattle.listing.specs.Listed.{foundBy, unknownBy, came, stepped, listed as listedOf, endText};
+ghost use Rattle.listing.specs.Listed.{openedKind, openedBy, foundBy, stays, came, stepped, begun, listed as listedOf, endOf, endText};
 
-// The clip that is listed, once it is found.
+// The clip that is listed: any, or one that was asked for by its number, until its first good block; then its receiver.
 pub enum Clip {
     Unknown,
+    Asked(u16),
     Known(Receiver),
 }
 
@@ -33,25 +37,44 @@ pub struct Listed {
 
 // ---- what a block comes to
 
-// A receiver for the block's clip, or 1, 21 or 22, or 5 where the block's standard isn't the kind's.
-pub fn find(kind: Kind, block: &[u8]) -> Opened
-    ensures { λ r. ⌜ toldOpened r ≡ foundBy kind (now (block .entry)) ⌝ }
+// A receiver for the clip of a good block, in the block's own standard; 5 where that hasn't the size.
+fn open_by(size: Size, header: Header) -> Opened
+    ensures { λ r. ⌜ toldOpened r ≡ openedKind (header .clip) (kindIn (header .standard) size) ⌝ }
 {
-    let size = coding::size_of(kind);
-    match vault::check(size, block) {
-        Checked::Good(header) => {
-            let said = header.standard;
-            let standard = coding::standard_of(kind);
-            if vault::same_standard(said, standard) {
-                standing::open(header.clip, kind)
-            } else {
-                Opened::Refused(Refusal {
-                    reason: Reason::OtherFormat,
-                    place: 0,
-                })
-            }
-        }
+    let standard = header.standard;
+    match coding::kind_in(standard, size) {
+        KindFound::Kind(kind) => standing::open(header.clip, kind),
+        KindFound::Absent => Opened::Refused(Refusal {
+            reason: Reason::OtherFormat,
+            place: 0,
+        }),
+    }
+}
+
+// The same of a block that was checked.
+fn open_checked(size: Size, checked: Checked) -> Opened
+    ensures { λ r. ⌜ toldOpened r ≡ openedBy size (toldChecked checked) ⌝ }
+{
+    match checked {
+        Checked::Good(header) => open_by(size, header),
         Checked::Refused(why) => Opened::Refused(why),
+    }
+}
+
+// The receiver that a block comes to: the clip's, or one for the block's clip; or 1, 21, 22, then 23 where another clip was asked for, then 5.
+pub fn find(size: Size, clip: Clip, block: &[u8]) -> Opened
+    ensures { λ r. ⌜ toldOpened r ≡ foundBy size clip (now (block .entry)) ⌝ }
+{
+    match clip {
+        Clip::Known(receiver) => Opened::Open(receiver),
+        Clip::Unknown => {
+            let checked = vault::check(size, block);
+            open_checked(size, checked)
+        }
+        Clip::Asked(asked) => {
+            let checked = vault::of_clip(size, asked, block);
+            open_checked(size, checked)
+        }
     }
 }
 
@@ -73,43 +96,58 @@ fn go_on(
     }
 }
 
-// No clip is known by a refusal.
-fn refused(why: Refusal) -> Listed
-    ensures { λ r. ⌜ r ≡ unknownBy why ⌝ }
+// No receiver is opened by a refusal.
+fn refused(clip: Clip, why: Refusal) -> Listed
+    ensures { λ r. ⌜ r ≡ stays clip why ⌝ }
 {
     Listed {
         answer: Answer::Refused(why),
-        next: Clip::Unknown,
+        next: clip,
     }
 }
 
-// A block comes: the answer, and the clip afterwards. The first good block opens its clip's receiver, unless a lent buffer hasn't its named length.
-pub fn list(
-    kind: Kind,
+// A block comes before the clip has a receiver: a good one opens it, unless a lent buffer hasn't its named length.
+fn begin(
+    size: Size,
     clip: Clip,
     block: &[u8],
     collection: &mut [u8],
     first: &mut [u8],
     second: &mut [u8],
 ) -> Listed
-    ensures { λ r. ⌜ came r (buffers (now (collection .exit)) (now (first .exit)) (now (second .exit))) ≡ listedOf kind clip (now (block .entry)) (buffers (now (collection .entry)) (now (first .entry)) (now (second .entry))) ⌝ }
+    ensures { λ r. ⌜ came r (buffers (now (collection .exit)) (now (first .exit)) (now (second .exit))) ≡ begun size clip (now (block .entry)) (buffers (now (collection .entry)) (now (first .entry)) (now (second .entry))) ⌝ }
+{
+    if standing::named(size, collection.len(), first.len(), second.len()) {
+        match find(size, clip, block) {
+            Opened::Open(receiver) => go_on(receiver, block, collection, first, second),
+            Opened::Refused(why) => refused(clip, why),
+        }
+    } else {
+        refused(
+            clip,
+            Refusal {
+                reason: Reason::Length,
+                place: 0,
+            },
+        )
+    }
+}
+
+// A block comes: the answer, and the clip afterwards.
+pub fn list(
+    size: Size,
+    clip: Clip,
+    block: &[u8],
+    collection: &mut [u8],
+    first: &mut [u8],
+    second: &mut [u8],
+) -> Listed
+    ensures { λ r. ⌜ came r (buffers (now (collection .exit)) (now (first .exit)) (now (second .exit))) ≡ listedOf size clip (now (block .entry)) (buffers (now (collection .entry)) (now (first .entry)) (now (second .entry))) ⌝ }
 {
     match clip {
         Clip::Known(receiver) => go_on(receiver, block, collection, first, second),
-        Clip::Unknown => {
-            let size = coding::size_of(kind);
-            if standing::named(size, collection.len(), first.len(), second.len()) {
-                match find(kind, block) {
-                    Opened::Open(receiver) => go_on(receiver, block, collection, first, second),
-                    Opened::Refused(why) => refused(why),
-                }
-            } else {
-                refused(Refusal {
-                    reason: Reason::Length,
-                    place: 0,
-                })
-            }
-        }
+        Clip::Unknown => begin(size, clip, block, collection, first, second),
+        Clip::Asked(_) => begin(size, clip, block, collection, first, second),
     }
 }
 
@@ -204,7 +242,19 @@ pub fn put_standing(standing: Standing, at: usize, out: &mut [u8]) -> usize
     }
 }
 
-// The last line.
+// "end clip 7 lost".
+fn put_end(clip: u16, standing: Standing, at: usize, out: &mut [u8]) -> usize
+    requires { ⌜ at + 62 ≤ length (now out) ⌝ }
+    ensures { λ r. ⌜ r ≤ at + 62 ⌝ }
+    ensures { λ r. ⌜ Puts (endOf clip standing) at (now (out .entry)) (now (out .exit)) r ⌝ }
+{
+    let named = text::put(b"end clip ", at, out);
+    let clipped = text::put_number(clip as u64, named, out);
+    let stood = put_standing(standing, clipped, out);
+    text::put(b"\n", stood, out)
+}
+
+// The last line. A clip of which no good block came is lost.
 pub fn end(clip: Clip, out: &mut [u8; 128]) -> usize
     ensures { λ r. ⌜ Counts r (now (out .exit)) ⌝ }
     ensures { λ r. ⌜ r ≡ length (endText clip) ⌝ }
@@ -212,13 +262,11 @@ pub fn end(clip: Clip, out: &mut [u8; 128]) -> usize
 {
     match clip {
         Clip::Unknown => text::put(b"end none\n", 0, out),
+        Clip::Asked(asked) => put_end(asked, Standing::Lost, 0, out),
         Clip::Known(receiver) => {
             let progress = receiver.progress;
             let standing = progress.standing;
-            let named = text::put(b"end clip ", 0, out);
-            let clipped = text::put_number(receiver.clip as u64, named, out);
-            let stood = put_standing(standing, clipped, out);
-            text::put(b"\n", stood, out)
+            put_end(receiver.clip, standing, 0, out)
         }
     }
 }

@@ -1,39 +1,57 @@
 -- Levels to coefficients: their sizes, and the way in which the code computes them. Assumes nothing.
 use mathlib.Core.Path.{_≡_, refl, sym, ap, subst, _∙_}
 use mathlib.Core.Bool.{Bool, true, false}
+use mathlib.Core.Logic.{⊎-elim}
 use mathlib.Core.List.{List}
 use Prim.Native.Nat.{ℕ, zero, suc, _+_, _*_, _-_, _%_, _≤_, _<_, zero-le, suc-le-suc}
 use native.Mathlib.Nat.{le-refl, le-trans, le-of-lt, mul-one, mul-add, mul-assoc, mul-comm, mul-le-mul-left}
 use native.Mathlib.Omega.{arith}
 use borrow.Author.Tests.{ltb-true, ltb-false, lt-ltb, le-ltb}
 use lib.Dec.{eqb, ltb, lit≤}
-use lib.IntN.{ℤ, pos, negsuc, negℤ, _+ℤ_, _-ℤ_, _*ℤ_, +ℤ-idl, +ℤ-idr, negℤ-+ℤ}
-use lib.Signed.{ltZ}
+use lib.IntN.{ℤ, pos, negsuc, negℤ, one, _+ℤ_, _-ℤ_, _*ℤ_, negℤ-+ℤ, *ℤ-zero, *ℤ-one, *ℤ-negsuc}
 use Rattle.laws.specs.Choice.{pick, both}
 use Rattle.laws.specs.Integer.{Low}
-use Rattle.laws.proofs.Integer.{low-up, low-add, low-mul, low-neg, sub-above}
+use Rattle.laws.proofs.Integer.{low-up, low-add, low-mul, low-neg, sub-below, sub-above}
+use Rattle.laws.proofs.Rows.{lt-or-ge}
 use Rattle.laws.specs.Block.{cell, Is}
 use Rattle.laws.proofs.Block.{is-each}
 use Rattle.quantiser.specs.Cut.{cut, atLeast, atMost}
 use Rattle.quantiser.proofs.CutLaws.{cut-low, pick-true, pick-false}
 use Rattle.quantiser.specs.Level.{coefficient, valueAt, cutCoefficient, magnitude, positionAt, direct, levelOf, signed, coefficientAt}
 
--- It is the difference of the number where the level is above 0 and the number where it is below.
-pub signed-parts : (number level : ℤ) → pick (ltZ (pos 0) level) number (pos 0) -ℤ pick (ltZ level (pos 0)) number (pos 0) ≡ signed number level
-unfolding signed
-signed-parts number (pos zero) = refl
-signed-parts number (pos (suc n)) =
-    (λ i. pick (lt-ltb 0 (suc n) (suc-le-suc zero-le) i) number (pos 0) -ℤ pick (le-ltb (suc n) 0 zero-le i) number (pos 0)) ∙ +ℤ-idr number
-signed-parts number (negsuc n) = +ℤ-idl (negℤ number)
+-- It is the number by the level cut to -1..1.
+pub signed-product : (number level : ℤ) → number *ℤ cut (negsuc 0) (pos 1) level ≡ signed number level
+unfolding one signed cut atLeast atMost
+signed-product number (pos zero) = *ℤ-zero number
+signed-product number (pos (suc zero)) = *ℤ-one number
+signed-product number (pos (suc (suc n))) =
+    ap (λ (b : Bool). number *ℤ pick b (pos 1) (pos (suc (suc n)))) (lt-ltb 1 (suc (suc n)) (suc-le-suc (suc-le-suc zero-le))) ∙ *ℤ-one number
+signed-product number (negsuc zero) = *ℤ-negsuc number 0 ∙ ap negℤ (*ℤ-one number)
+signed-product number (negsuc (suc n)) =
+    ap (λ (b : Bool). number *ℤ atMost (pos 1) (pick b (negsuc 0) (negsuc (suc n)))) (lt-ltb 0 (suc n) (suc-le-suc zero-le))
+    ∙ *ℤ-negsuc number 0 ∙ ap negℤ (*ℤ-one number)
 
 -- A byte as a level, by its highest bit.
-pub level-positive : (byte : ℕ) → byte < 128 → pos byte ≡ levelOf byte
+level-positive : (byte : ℕ) → byte < 128 → pos byte ≡ levelOf byte
 unfolding levelOf
 level-positive byte l = pick-true (pos byte) _ (lt-ltb byte 128 l)
 
-pub level-negative : (byte : ℕ) → 128 ≤ byte → byte < 256 → pos byte -ℤ pos 256 ≡ levelOf byte
+-- Without its test: half a turn on, and half a turn back.
+pub level-turned : (byte : ℕ) → byte < 256 → pos ((byte + 128) % 256) -ℤ pos 128 ≡ levelOf byte
 unfolding levelOf
-level-negative byte p l = sub-above byte 256 l ∙ pick-false (pos byte) _ (le-ltb byte 128 p)
+level-turned byte l = ⊎-elim low high (lt-or-ge byte 128)
+  where
+    low : byte < 128 → pos ((byte + 128) % 256) -ℤ pos 128 ≡ levelOf byte
+    low p =
+        let b : 128 ≤ (byte + 128) % 256 = omega arith in
+        let e : (byte + 128) % 256 - 128 ≡ byte = omega arith in
+        sub-below ((byte + 128) % 256) 128 b ∙ ap pos e ∙ level-positive byte p
+
+    high : 128 ≤ byte → pos ((byte + 128) % 256) -ℤ pos 128 ≡ levelOf byte
+    high p =
+        let a : (byte + 128) % 256 < 128 = omega arith in
+        let e : 128 - (byte + 128) % 256 ≡ 256 - byte = omega arith in
+        sub-above ((byte + 128) % 256) 128 a ∙ ap (λ (n : ℕ). negℤ (pos n)) e ∙ pick-false (pos byte) _ (le-ltb byte 128 p)
 
 -- The magnitude at size 0: Q, or Q - 1 where Q is even.
 pub magnitude-none : (quantiser : ℕ) → pick (eqb (quantiser % 2) 0) (quantiser - 1) quantiser ≡ magnitude quantiser 0

@@ -11,15 +11,11 @@ ghost use Rattle.laws.specs.Block.{Is};
 ghost use Rattle.quantiser.specs.Lines.{SmallRow, Line, EightPlaces, entry};
 ghost use Rattle.quantiser.specs.Level.{bytesFrom, Coded, levelOf, magnitude, signed, coefficient, direct, valueAt, positionAt, coefficientAt};
 
-// A level is a byte in two's complement.
+// A level is a byte in two's complement. Without a branch: the compiler then sees a sign extended, and does eight at once.
 fn level(byte: u8) -> i16
     ensures { λ r. ⌜ r ≡ levelOf byte ⌝ }
 {
-    if byte < 128 {
-        byte as i16
-    } else {
-        (byte as i16) - 256
-    }
+    (((byte as u16) + 128) % 256) as i16 - 128
 }
 
 // Q, or Q - 1 where Q is even.
@@ -39,9 +35,7 @@ fn signed(number: i16, level: i16) -> i16
     requires { ⌜ Low 32767 number ⌝ }
     ensures { λ r. ⌜ r ≡ signed number level ⌝ }
 {
-    let plus: i16 = if 0 < level { number } else { 0 };
-    let minus: i16 = if level < 0 { number } else { 0 };
-    plus - minus
+    number * cut16(-1, 1, level)
 }
 
 // What a level's byte stands for, without a branch: s Q (2 |L| + 1) is 2 Q L + s Q.
@@ -123,10 +117,12 @@ pub fn dequantise(levels: &[u8], at: usize, intra: bool, quantiser: u8) -> [[i32
     requires { ⌜ Coded 64 at quantiser (length (now levels)) ⌝ }
     ensures { λ r. ⌜ Is (pos 0) (coefficientAt (bytesFrom (now (levels .entry)) at) intra quantiser) r ⌝ }
 {
+    // Before the branch, so that it is none: the numbers would wait for it in memory.
+    let start = direct(levels[at]);
     let numbers = coefficients(levels, at, quantiser);
     let mut block = placed(&numbers);
     if intra {
-        block[0][0] = direct(levels[at]);
+        block[0][0] = start;
     }
     block
 }

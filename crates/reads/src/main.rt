@@ -1,21 +1,22 @@
-// Says how much reading the pictures of the blocks on standard input cause: `reads SIZE` or `reads SIZE CLIP`, with SIZE qcif or cif and CLIP from 1 to 65535.
+// Says how much reading the pictures of the blocks on standard input cause: `reads SIZE` or `reads SIZE CLIP`, with SIZE sqcif, qcif or cif and CLIP from 1 to 65535.
 //
 // A line for each picture that was read, with the number of the block that ended it, the picture or its refusal, its bits and how many fields and codewords were read of
 // them; a short last block's line, and how the clip's receiver stands at the end, as the lister has them. A picture of N bits causes at most N + 1 reads. Without a clip the
-// first good block chooses it, and standard error says which; with one, another clip's blocks are refused by 23. The status is the lister's.
+// first good block chooses it, and standard error says which; with one, another clip's blocks are refused by 23. The clip's first good block says its
+// standard. The status is the lister's.
 //
 //     ./pagesorrel reads qcif 7 < clip.blocks
 use account::End;
 use account::blocks::Met;
 use arguments::ClipWord;
-use arguments::FormatWord;
+use arguments::SizeWord;
 use coding::Kind;
 use counting::Ending;
 use libc::STDERR_FILENO;
 use libc::STDOUT_FILENO;
 use listing::Clip;
+use size::Size;
 use standing::Answer;
-use standing::Opened;
 
 // Whether there is more to do, and if not, why.
 enum Going {
@@ -43,24 +44,32 @@ fn say_chosen(n: u64, clip: u16) {
 // Where no clip was asked for, the block that chose it.
 fn choose(n: u64, before: Clip, after: Clip) {
     match before {
-        Clip::Known(_) => {}
         Clip::Unknown => match after {
             Clip::Known(receiver) => say_chosen(n, receiver.clip),
-            Clip::Unknown => {}
+            _ => {}
         },
+        _ => {}
     }
 }
 
-// Where the block ended a picture, its line; whether it was written.
-fn say(n: u64, kind: Kind, answer: Answer, ending: Ending, collection: &[u8]) -> bool {
+fn say_reads(n: u64, kind: Kind, answer: Answer, bits: usize, collection: &[u8]) -> bool {
+    let reads = counting::reads(kind, collection, bits);
+    let mut text = [0u8; 256];
+    let count = counting::line(n, answer, bits, reads, &mut text);
+    io::write_all(STDOUT_FILENO, &text[..count])
+}
+
+// Where the block ended a picture, its line; whether it was written. A clip that ended one is known.
+fn say(n: u64, clip: Clip, answer: Answer, ending: Ending, collection: &[u8]) -> bool {
     match ending {
         Ending::Nothing => true,
-        Ending::Picture(bits) => {
-            let reads = counting::reads(kind, collection, bits);
-            let mut text = [0u8; 256];
-            let count = counting::line(n, answer, bits, reads, &mut text);
-            io::write_all(STDOUT_FILENO, &text[..count])
-        }
+        Ending::Picture(bits) => match clip {
+            Clip::Known(receiver) => {
+                let kind = receiver.kind;
+                say_reads(n, kind, answer, bits, collection)
+            }
+            _ => true,
+        },
     }
 }
 
@@ -83,7 +92,7 @@ fn written(all: bool, clip: Clip, met: Met) -> Turn {
 
 fn whole(
     n: u64,
-    kind: Kind,
+    size: Size,
     clip: Clip,
     met: Met,
     block: &[u8; 512],
@@ -91,12 +100,12 @@ fn whole(
     first: &mut [u8],
     second: &mut [u8],
 ) -> Turn {
-    let ending = counting::ended(kind, clip, block, collection, first, second);
-    let listed = listing::list(kind, clip, block, collection, first, second);
+    let ending = counting::ended(size, clip, block, collection, first, second);
+    let listed = listing::list(size, clip, block, collection, first, second);
     let answer = listed.answer;
     let next = listed.next;
     choose(n, clip, next);
-    let all = say(n, kind, answer, ending, collection);
+    let all = say(n, next, answer, ending, collection);
     written(all, next, account::blocks::after(met, answer))
 }
 
@@ -119,7 +128,7 @@ fn short(n: u64, clip: Clip, met: Met) -> Turn {
 
 fn one(
     n: u64,
-    kind: Kind,
+    size: Size,
     clip: Clip,
     met: Met,
     collection: &mut [u8],
@@ -136,7 +145,7 @@ fn one(
         };
     }
     if filled.count == 512 {
-        return whole(n, kind, clip, met, &block, collection, first, second);
+        return whole(n, size, clip, met, &block, collection, first, second);
     }
     if 0 < filled.count {
         return short(n, clip, met);
@@ -186,7 +195,7 @@ fn goes_on(going: Going) -> bool {
 
 // Nothing says that the input ends, so the loop counts its turns.
 fn all(
-    kind: Kind,
+    size: Size,
     opened: Clip,
     collection: &mut [u8],
     first: &mut [u8],
@@ -197,7 +206,7 @@ fn all(
     let mut going = Going::On;
     let mut n: u64 = 0;
     while n < 18446744073709551615 && goes_on(going) {
-        let turn = one(n, kind, clip, met, collection, first, second);
+        let turn = one(n, size, clip, met, collection, first, second);
         clip = turn.clip;
         met = turn.met;
         going = turn.going;
@@ -206,29 +215,19 @@ fn all(
     finish(going, clip, met)
 }
 
-fn qcif(clip: Clip) -> End {
-    let mut collection = [0u8; 8500];
-    let mut first = [0u8; 38016];
-    let mut second = [0u8; 38016];
-    all(
-        Kind::H261Qcif,
-        clip,
-        &mut collection,
-        &mut first,
-        &mut second,
-    )
-}
-
-fn cif(clip: Clip) -> End {
+// The buffers have room for any size.
+fn run(size: Size, clip: Clip) -> End {
+    let bytes = size::collection_length(size);
+    let samples = size::store_length(size);
     let mut collection = [0u8; 33000];
     let mut first = [0u8; 152064];
     let mut second = [0u8; 152064];
     all(
-        Kind::H261Cif,
+        size,
         clip,
-        &mut collection,
-        &mut first,
-        &mut second,
+        &mut collection[..bytes],
+        &mut first[..samples],
+        &mut second[..samples],
     )
 }
 
@@ -237,38 +236,33 @@ fn cif(clip: Clip) -> End {
 fn usage() -> End {
     io::write_all(
         STDERR_FILENO,
-        b"usage: reads qcif|cif [CLIP] < BLOCKS, with CLIP from 1 to 65535\n",
+        b"usage: reads sqcif|qcif|cif [CLIP] < BLOCKS, with CLIP from 1 to 65535\n",
     );
     End::Misnamed
 }
 
-fn run(kind: Kind, clip: Clip) -> End {
-    match kind {
-        Kind::H261Qcif => qcif(clip),
-        Kind::H261Cif => cif(clip),
-    }
-}
-
-fn of_clip(kind: Kind, word: &[u8]) -> End {
+// No clip has number 0.
+fn of_clip(size: Size, word: &[u8]) -> End {
     match arguments::clip_named(word) {
-        ClipWord::Names(clip) => match standing::open(clip, kind) {
-            Opened::Open(receiver) => run(kind, Clip::Known(receiver)),
-            Opened::Refused(_) => usage(),
-        },
+        ClipWord::Names(clip) => {
+            if clip == 0 {
+                return usage();
+            }
+            run(size, Clip::Asked(clip))
+        }
         ClipWord::Other => usage(),
     }
 }
 
-fn of_size(count: usize, size: &[u8], clip: &[u8]) -> End {
-    match arguments::format_named(size) {
-        FormatWord::Names(format) => {
-            let kind = coding::kind_of(format);
+fn of_size(count: usize, word: &[u8], clip: &[u8]) -> End {
+    match arguments::size_named(word) {
+        SizeWord::Names(size) => {
             if count == 2 {
-                return run(kind, Clip::Unknown);
+                return run(size, Clip::Unknown);
             }
-            of_clip(kind, clip)
+            of_clip(size, clip)
         }
-        FormatWord::Other => usage(),
+        SizeWord::Other => usage(),
     }
 }
 

@@ -1,4 +1,4 @@
-// Makes a new clip of a damaged list of blocks: `salvage SIZE OLD NEW BLOCKS`, with SIZE qcif or cif, OLD and NEW from 1 to 65535 and BLOCKS a file.
+// Makes a new clip of a damaged list of blocks: `salvage KIND OLD NEW BLOCKS`, with KIND as `pack` has it, OLD and NEW from 1 to 65535 and BLOCKS a file.
 //
 // On standard output the blocks of the pictures that a fresh receiver of clip OLD finishes, numbered from 0 on, as clip NEW. On standard error the log, in the order of the
 // blocks: a line for each picture that is kept, each run of numbers that is skipped and each block that is dropped; or `refused 1`, where the file ends inside a block,
@@ -8,7 +8,7 @@
 //     ./pagesorrel salvage qcif 7 9 lossy.blocks > new.blocks 2> new.log
 use account::End;
 use arguments::ClipWord;
-use arguments::FormatWord;
+use arguments::KindWord;
 use coding::Kind;
 use libc::SEEK_CUR;
 use libc::SEEK_END;
@@ -582,28 +582,11 @@ fn begin(
     }
 }
 
-fn qcif(file: i32, ahead: i32, clip: u16, opened: Receiver) -> End {
-    let mut collection = [0u8; 8500];
-    let mut first = [0u8; 38016];
-    let mut second = [0u8; 38016];
-    let mut collection_ahead = [0u8; 8500];
-    let mut first_ahead = [0u8; 38016];
-    let mut second_ahead = [0u8; 38016];
-    begin(
-        file,
-        ahead,
-        clip,
-        opened,
-        &mut collection,
-        &mut first,
-        &mut second,
-        &mut collection_ahead,
-        &mut first_ahead,
-        &mut second_ahead,
-    )
-}
-
-fn cif(file: i32, ahead: i32, clip: u16, opened: Receiver) -> End {
+// The buffers have room for any size.
+fn run(kind: Kind, file: i32, ahead: i32, clip: u16, opened: Receiver) -> End {
+    let size = coding::size_of(kind);
+    let bytes = size::collection_length(size);
+    let samples = size::store_length(size);
     let mut collection = [0u8; 33000];
     let mut first = [0u8; 152064];
     let mut second = [0u8; 152064];
@@ -615,20 +598,13 @@ fn cif(file: i32, ahead: i32, clip: u16, opened: Receiver) -> End {
         ahead,
         clip,
         opened,
-        &mut collection,
-        &mut first,
-        &mut second,
-        &mut collection_ahead,
-        &mut first_ahead,
-        &mut second_ahead,
+        &mut collection[..bytes],
+        &mut first[..samples],
+        &mut second[..samples],
+        &mut collection_ahead[..bytes],
+        &mut first_ahead[..samples],
+        &mut second_ahead[..samples],
     )
-}
-
-fn run(kind: Kind, file: i32, ahead: i32, clip: u16, opened: Receiver) -> End {
-    match kind {
-        Kind::H261Qcif => qcif(file, ahead, clip, opened),
-        Kind::H261Cif => cif(file, ahead, clip, opened),
-    }
 }
 
 // ---- the list's length
@@ -697,7 +673,7 @@ fn over(kind: Kind, old: u16, new: u16, file: i32, ahead: i32) -> End {
 fn usage() -> End {
     io::write_all(
         STDERR_FILENO,
-        b"usage: salvage qcif|cif OLD NEW BLOCKS > NEWBLOCKS 2> LOG, with OLD and NEW from 1 to 65535\n",
+        b"usage: salvage qcif|cif|h263-sqcif|h263-qcif|h263-cif OLD NEW BLOCKS > NEWBLOCKS 2> LOG, with OLD and NEW from 1 to 65535\n",
     );
     End::Misnamed
 }
@@ -734,28 +710,28 @@ fn of_old(kind: Kind, old: &[u8], new: &[u8], path: &[u8]) -> End {
 }
 
 // How many words there are, the program's own name among them, and the four after it.
-fn of_words(count: usize, size: &[u8], old: &[u8], new: &[u8], path: &[u8]) -> End {
+fn of_words(count: usize, kind: &[u8], old: &[u8], new: &[u8], path: &[u8]) -> End {
     if count != 5 || path.len() == 0 {
         return usage();
     }
-    match arguments::format_named(size) {
-        FormatWord::Names(format) => of_old(coding::kind_of(format), old, new, path),
-        FormatWord::Other => usage(),
+    match arguments::kind_named(kind) {
+        KindWord::Names(named) => of_old(named, old, new, path),
+        KindWord::Other => usage(),
     }
 }
 
 fn main() {
-    let mut size = [0u8; 16];
+    let mut kind = [0u8; 16];
     let mut old = [0u8; 16];
     let mut new = [0u8; 16];
     let mut path = io::buffer();
-    let sizes = os::arg(1, &mut size);
+    let kinds = os::arg(1, &mut kind);
     let olds = os::arg(2, &mut old);
     let news = os::arg(3, &mut new);
     let paths = os::arg(4, &mut path);
     account::tell(of_words(
         os::arg_count(),
-        &size[..sizes],
+        &kind[..kinds],
         &old[..olds],
         &new[..news],
         &path[..paths],

@@ -13,7 +13,7 @@ use Rattle.layout.specs.Flat.{Flat}
 use Rattle.coding.specs.declared.Kind.{Kind}
 use Rattle.coding.specs.Coding.{Coding}
 use Rattle.coding.specs.Kind.{kindSize, codingOf}
-use Rattle.coding.proofs.H261.{coding-lawful}
+use Rattle.coding.proofs.AllLawful.{coding-lawful}
 use Rattle.sender.specs.Run.{cut}
 use Rattle.standing.specs.Answered.{Said}
 use Rattle.standing.specs.Answered as A

@@ -17,16 +17,13 @@ use Rattle.bits.specs.Read.{refused as unread}
 use Rattle.layout.specs.Flat.{Flat}
 use Rattle.size.specs.declared.Size.{Size}
 use Rattle.size.specs.Size.{limit, storeLength, collectionLength}
-use Rattle.h261_groups.specs.declared.Format.{Format}
 use Rattle.h261_groups.specs.Format.{sizeOf}
-use Rattle.h261_description.specs.Value.{laidPicture}
-use Rattle.h261_layers.specs.Grammar.{picture, reading}
-use Rattle.h261_reader.specs.Described.{described}
 use Rattle.fields.specs.Answer.{mapRead, found}
 use Rattle.coding.specs.declared.Kind.{Kind}
 use Rattle.coding.specs.Coding.{Coding}
-use Rattle.coding.specs.Kind.{kindSize, formatOf, codingOf, AllLawful}
-use Rattle.coding.proofs.H261.{coding-lawful}
+use Rattle.coding.specs.declared.Kind.the-variants.{H261, H263}
+use Rattle.coding.specs.Kind.{kindSize, codingOf, AllLawful}
+use Rattle.coding.proofs.AllLawful.{coding-lawful}
 use Rattle.standing.specs.Answered.{Said}
 use Rattle.standing.specs.Receive.{Buffers, freshReceiver, lentLengths}
 use Rattle.standing.specs.Run.{answers}
@@ -40,6 +37,12 @@ use Rattle.salvaged.specs.Told.{numbersFrom}
 use Rattle.salvaged.specs.Replayed.{AllReadBits, InTurn, all-finished, next-part, last-part, openedWorld, storesShown, ClipFinishes, ClipFinishedAlways, CodingsReadBits, ClipFinishedMet}
 use Rattle.salvaged.proofs.Walk.{clip-whole, noTally}
 use Rattle.salvaged.proofs.Follow.{Finishes, waits, follow}
+use Rattle.h261_description.specs.Value as V261
+use Rattle.h261_layers.specs.Grammar as G261
+use Rattle.h261_reader.specs.Described as R261
+use Rattle.h263_description.specs.Value as V263
+use Rattle.h263_layers.specs.Grammar as G263
+use Rattle.h263_reader.specs.Described as R263
 
 -- ---- answers in turn
 -- they skip no number
@@ -97,14 +100,15 @@ pub clip-finished : ClipFinishedAlways
 clip-finished D coding lawful reads kind old new blocks has-new lent named = clip-finishes lawful reads kind old new blocks has-new lent named
 
 -- ---- and of ours
-read-alike : (f : Format) (a b : List ℕ) (n : ℕ) → length a ≡ length b → source a n ≡ source b n → found (described f a n) ≡ found (described f b n)
-unfolding described reading
-read-alike f a b n l s = λ i.
-    found (mapRead (laidPicture f) (pick (either (ltb (8 * l i) n) (ltb (limit (sizeOf f)) n)) (unread (stopIn plain (refusal Count 0) 0)) (picture f (s i) 0)))
+read-alike : (k : Kind) (a b : List ℕ) (n : ℕ) → length a ≡ length b → source a n ≡ source b n → codingOf k .read a n ≡ codingOf k .read b n
+unfolding codingOf R261.described G261.reading R263.described G263.reading
+read-alike (H261 f) a b n l s = λ i.
+    found (mapRead (V261.laidPicture f) (pick (either (ltb (8 * l i) n) (ltb (limit (sizeOf f)) n)) (unread (stopIn plain (refusal Count 0) 0)) (G261.picture f (s i) 0)))
+read-alike (H263 size) a b n l s = λ i.
+    found (mapRead (V263.laidPicture size) (pick (either (ltb (8 * l i) n) (ltb (limit size) n)) (unread (stopIn plain (refusal Count 0) 0)) (G263.picture size (s i) 0)))
 
 pub codings-read-bits : CodingsReadBits
-unfolding codingOf
-codings-read-bits = record { each = λ k. record { exactly = read-alike (formatOf k) } }
+codings-read-bits = record { each = λ k. record { exactly = read-alike k } }
 
 pub clip-finished-met : ClipFinishedMet
 clip-finished-met = clip-finished Flat codingOf coding-lawful codings-read-bits

@@ -10,8 +10,9 @@ use Rattle.refusals.specs.Told.{Told, accepted}
 use Rattle.bits.specs.Bits.{O}
 use Rattle.size.specs.declared.Size.{Size}
 use Rattle.size.specs.Size.{storeLength}
+use Rattle.h261_groups.specs.declared.Format.the-variants.{Qcif}
 use Rattle.coding.specs.declared.Kind.{Kind}
-use Rattle.coding.specs.declared.Kind.the-variants as K
+use Rattle.coding.specs.declared.Kind.the-variants.{H261}
 use Rattle.coding.specs.Coding.{Coding}
 use Rattle.coding.specs.Kind.{kindSize, kindStandard}
 use Rattle.vault.specs.declared.Header.{Header}
@@ -49,7 +50,7 @@ anyBits kind = record {
 }
 
 abbrev kind : Kind
-kind = K.H261Qcif
+kind = H261 Qcif
 
 abbrev size : Size
 size = kindSize kind

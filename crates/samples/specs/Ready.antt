@@ -6,7 +6,7 @@ use lib.IntN.{ℤ}
 use Rattle.laws.specs.Rows.{Room}
 use Rattle.size.specs.declared.Size.{Size}
 use Rattle.size.specs.Size.{storeLength}
-use Rattle.size.specs.Place.{macroblocksAcross, macroblocksDown, wide, high}
+use Rattle.size.specs.Place.{macroblocksAcross, macroblocksDown, wide, high, base}
 use Rattle.quantiser.specs.Lines.{Small}
 use Rattle.quantiser.specs.Level.{Coded}
 
@@ -15,6 +15,12 @@ pub record Inside (f : Size) (p y x : ℕ) : Type 0 where
   pub plane : p < 3
   pub row : y < high f p
   pub column : x < wide f p
+
+-- row y, column x of plane p, which starts there and has its rows a stride apart
+pub record InPlane (f : Size) (p start stride y x : ℕ) : Type 0 where
+  pub inside : Inside f p y x
+  pub starts : start ≡ base f p
+  pub apart : stride ≡ wide f p
 
 -- n rows of n samples, a stride apart, can be put at `to` in a store of this length: they lie in it, and none meets another
 pub record Fits (n to stride size : ℕ) : Type 0 where

@@ -5,15 +5,32 @@ ghost use lib.ListN.{getD, length};
 ghost use Rattle.laws.specs.Rows.{Begins, Row, Put};
 ghost use Rattle.size.specs.Place.{index};
 ghost use Rattle.samples.specs.Wrote.{rowsOf};
-ghost use Rattle.samples.specs.Ready.{Inside, Copies};
+ghost use Rattle.samples.specs.Ready.{Inside, InPlane, Copies};
 use size::Size;
 
-// Where a row and a column of a plane lie in a store.
+// Where a row and a column of a plane lie in a store, by where the plane starts and how far its rows are apart.
+pub fn place_from(
+    size: Size,
+    plane: usize,
+    start: usize,
+    stride: usize,
+    row: usize,
+    column: usize,
+) -> usize
+    requires { ⌜ InPlane size plane start stride row column ⌝ }
+    ensures { λ r. ⌜ r ≡ index size plane row column ⌝ }
+{
+    start + row * stride + column
+}
+
+// The same by the plane alone.
 pub fn place(size: Size, plane: usize, row: usize, column: usize) -> usize
     requires { ⌜ Inside size plane row column ⌝ }
     ensures { λ r. ⌜ r ≡ index size plane row column ⌝ }
 {
-    size::place::start(size, plane) + row * size::place::stride(size, plane) + column
+    let start = size::place::start(size, plane);
+    let stride = size::place::stride(size, plane);
+    place_from(size, plane, start, stride, row, column)
 }
 
 // The first samples of a row, at most sixteen.

@@ -7,7 +7,7 @@ use lib.ListN.{length, take}
 use lib.Seq.{length-take-le}
 use Rattle.size.specs.declared.Size.{Size}
 use Rattle.size.specs.declared.Size.the-variants.{SubQcif, Qcif, Cif}
-use Rattle.size.specs.Size.{limit, storeLength, outputLength, blocksLength}
+use Rattle.size.specs.Size.{limit, storeLength, collectionLength, outputLength, blocksLength}
 
 pub part-long : {n : ℕ} (array : List ℕ) → n ≤ length array → n ≡ length (take n array)
 part-long {n} array l = sym (length-take-le n array l)
@@ -16,6 +16,11 @@ pub store-most : (f : Size) → storeLength f ≤ 152064
 store-most SubQcif = omega arith
 store-most Qcif = omega arith
 store-most Cif = omega arith
+
+pub collection-most : (f : Size) → collectionLength f ≤ 33000
+collection-most SubQcif = omega arith
+collection-most Qcif = omega arith
+collection-most Cif = omega arith
 
 pub output-most : (f : Size) → outputLength f ≤ 32768
 output-most SubQcif = omega arith

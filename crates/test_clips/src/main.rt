@@ -1,13 +1,13 @@
 // Tests clips sent and delivered: `test_clips send` or `test_clips deliver`.
 //
-// A session on standard input is the format (0 QCIF, 1 CIF), the clip in two bytes, the number of calls in four, of a sender also the number of its next picture in four, and
-// the calls; src/send.rt and deliver.rt say how a call and its line look. Before a session every byte of the sender's output is 165, of the receiver's collection buffer 51, of the first store 17, of the second 34. Lines: "opened"
-// or "refused 22", those of the calls, and after a receiver's calls "end COLLECTION FIRST SECOND" with the checks of the buffers. Stops at the end of the input and at a
-// record that has no such form.
+// A session on standard input is the kind (0 QCIF and 1 CIF of H.261, 2 sub-QCIF, 3 QCIF and 4 CIF of H.263), the clip in two bytes, the number of calls in four, of a
+// sender also the number of its next picture in four, and the calls; src/send.rt and deliver.rt say how a call and its line look. Before a session every byte of the
+// sender's output is 165, of the receiver's collection buffer 51, of the first store 17, of the second 34. Lines: "opened" or "refused 22", those of the calls, and after a
+// receiver's calls "end COLLECTION FIRST SECOND" with the checks of the buffers. Stops at the end of the input and at a record that has no such form.
 use checks::lent;
 use checks::part;
 use checks::two;
-use h261_groups::Format;
+use coding::Kind;
 use libc::STDERR_FILENO;
 use refusals::Refusal;
 use sender::Sender;
@@ -186,22 +186,22 @@ fn refused(why: Refusal) -> bool {
     true
 }
 
-fn open_sender(clip: u16, format: Format, count: usize) -> bool {
+fn open_sender(clip: u16, kind: Kind, count: usize) -> bool {
     let mut number = [0u8; 4];
     if !checks::fills(&mut number) {
         return false;
     }
     let next = checks::picture_of(number[0], number[1], number[2], number[3]);
-    match sender::open(clip, coding::kind_of(format)) {
+    match sender::open(clip, kind) {
         sender::Opened::Open(sender) => session(Party::Sending(send::before(sender, next)), count),
         sender::Opened::Refused(why) => refused(why),
     }
 }
 
-fn open(case: Case, clip: u16, format: Format, count: usize) -> bool {
+fn open(case: Case, clip: u16, kind: Kind, count: usize) -> bool {
     match case {
-        Case::Send => open_sender(clip, format, count),
-        Case::Deliver => match standing::open(clip, coding::kind_of(format)) {
+        Case::Send => open_sender(clip, kind, count),
+        Case::Deliver => match standing::open(clip, kind) {
             standing::Opened::Open(receiver) => session(Party::Receiving(receiver), count),
             standing::Opened::Refused(why) => refused(why),
         },
@@ -212,12 +212,12 @@ fn open(case: Case, clip: u16, format: Format, count: usize) -> bool {
 // One session, and whether to go on.
 fn one(case: Case) -> bool {
     let mut start = [0u8; 7];
-    if !checks::fills(&mut start) || 1 < start[0] {
+    if !checks::fills(&mut start) || 4 < start[0] {
         return false;
     }
     let clip = checks::clip_of(start[1], start[2]);
     let count = checks::four(start[3], start[4], start[5], start[6]);
-    open(case, clip, checks::format_of(start[0]), count)
+    open(case, clip, checks::kind_named(start[0]), count)
 }
 
 // Nothing says that the input ends, so the loop counts its turns.

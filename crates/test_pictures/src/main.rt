@@ -5,7 +5,6 @@
 use libc::STDERR_FILENO;
 ghost use Prim.Native.Nat.{_<_};
 
-mod kind;
 mod pictures;
 mod render;
 mod write;
@@ -39,7 +38,7 @@ fn one(case: Case, pattern: &[u8; 152064]) -> bool {
     if !checks::fills(&mut start) || 4 < start[0] {
         return false;
     }
-    let kind = kind::named(start[0]);
+    let kind = checks::kind_named(start[0]);
     match case {
         Case::Render => render::one(kind),
         Case::Write => write::one(kind),

@@ -2,10 +2,8 @@
 // how many fields and codewords were read, "refused NUMBER at PLACE reads READS", "refused 8 at PLACE table TABLE reads READS", "refused 2 reads 0"; "two verdicts" where
 // reading and decoding disagree, and "a refusal that changed a buffer".
 use crate::BEFORE;
-use crate::kind;
-use crate::kind::Kind;
-use crate::render;
 use checks::part;
+use coding::Kind;
 use refusals::Refusal;
 use refusals::Verdict;
 
@@ -77,34 +75,6 @@ fn say_verdict(
     }
 }
 
-// What decoding says. Of H.263 the description that was read is drawn.
-fn decode(
-    kind: Kind,
-    verdict: Verdict,
-    bytes: &[u8],
-    count: usize,
-    head: &[u8],
-    macroblocks: &[u8],
-    levels: &[u8],
-    reference: &[u8],
-    store: &mut [u8],
-) -> Verdict {
-    match kind {
-        Kind::H261(format) => {
-            decoder::decode(bytes, count, coding::kind_of(format), reference, store)
-        }
-        Kind::H263(_) => {
-            match verdict {
-                Verdict::Accepted => {
-                    render::draws(kind, head, macroblocks, levels, reference, store);
-                }
-                Verdict::Refused(_) => {}
-            }
-            verdict
-        }
-    }
-}
-
 fn say(
     kind: Kind,
     bytes: &[u8],
@@ -115,19 +85,9 @@ fn say(
     reference: &[u8],
     store: &mut [u8],
 ) {
-    let read = kind::read(kind, bytes, count, head, macroblocks, levels);
+    let read = coding::read(kind, bytes, count, head, macroblocks, levels);
     let verdict = read.verdict;
-    let decoded = decode(
-        kind,
-        verdict,
-        bytes,
-        count,
-        head,
-        macroblocks,
-        levels,
-        reference,
-        store,
-    );
+    let decoded = decoder::decode(bytes, count, kind, reference, store);
     say_verdict(
         verdict,
         read.reads,
@@ -145,10 +105,10 @@ fn with_buffers(kind: Kind, bytes: &[u8], count: usize, pattern: &[u8; 152064]) 
     let mut levels = [BEFORE; 152064];
     let mut store = [BEFORE; 152064];
     let reference: &[u8] = pattern;
-    let heads = part(kind::head_length(kind), &head);
-    let fields = part(kind::macroblocks_length(kind), &macroblocks);
-    let coefficients = part(kind::levels_length(kind), &levels);
-    let length = kind::store_length(kind);
+    let heads = part(coding::head_length(kind), &head);
+    let fields = part(coding::macroblocks_length(kind), &macroblocks);
+    let coefficients = part(coding::levels_length(kind), &levels);
+    let length = size::store_length(coding::size_of(kind));
     let shown = part(length, reference);
     let samples = part(length, &store);
     say(

@@ -1,10 +1,9 @@
 // Pictures written: a record goes on with the output's length in four bytes and the description. Every byte of the output is 165 before. Lines: "written N CHECK" and
 // "refused NUMBER CHECK" with the check of the output; "not read back" where reading N bits of it doesn't give the description again.
 use crate::BEFORE;
-use crate::kind;
-use crate::kind::Kind;
 use checks::Description;
 use checks::part;
+use coding::Kind;
 use refusals::Verdict;
 use refusals::Written;
 
@@ -20,7 +19,7 @@ fn gives(
     macroblocks_read: &mut [u8],
     levels_read: &mut [u8],
 ) -> bool {
-    let read = kind::read(kind, bytes, count, head_read, macroblocks_read, levels_read);
+    let read = coding::read(kind, bytes, count, head_read, macroblocks_read, levels_read);
     let verdict = read.verdict;
     match verdict {
         Verdict::Refused(_) => false,
@@ -43,9 +42,9 @@ fn reads_back(
     let mut head_read = [0u8; 23];
     let mut macroblocks_read = [0u8; 1584];
     let mut levels_read = [0u8; 152064];
-    let heads = part(kind::head_length(kind), &head_read);
-    let fields = part(kind::macroblocks_length(kind), &macroblocks_read);
-    let coefficients = part(kind::levels_length(kind), &levels_read);
+    let heads = part(coding::head_length(kind), &head_read);
+    let fields = part(coding::macroblocks_length(kind), &macroblocks_read);
+    let coefficients = part(coding::levels_length(kind), &levels_read);
     gives(
         bytes,
         count,
@@ -59,15 +58,8 @@ fn reads_back(
     )
 }
 
-fn written(kind: Kind, head: &[u8], macroblocks: &[u8], levels: &[u8], out: &mut [u8]) -> Written {
-    match kind {
-        Kind::H261(format) => h261_writer::write(head, macroblocks, levels, format, out),
-        Kind::H263(size) => h263_writer::write(head, macroblocks, levels, size, out),
-    }
-}
-
 fn say(kind: Kind, head: &[u8], macroblocks: &[u8], levels: &[u8], out: &mut [u8]) {
-    let written = written(kind, head, macroblocks, levels, out);
+    let written = coding::write(kind, head, macroblocks, levels, out);
     match written {
         Written::Bits(count) => {
             if reads_back(out, count, kind, head, macroblocks, levels) {

@@ -18,6 +18,12 @@ renewedBody clip picture block =
 unfoldable pub renewedBlock : ℕ → ℕ → List ℕ → List ℕ
 renewedBlock clip picture block = renewedBody clip picture block ++ twoBytes (sumOf (renewedBody clip picture block))
 
+-- what it is made of: a block, room for another, and a number that a picture can have
+pub record Renewing (picture : ℕ) (block out : List ℕ) : Type 0 where
+  pub block-long : length block ≡ 512
+  pub out-long : length out ≡ 512
+  pub numbered : picture < pictures
+
 abbrev pub renewedHeader : ℕ → ℕ → Header → Header
 renewedHeader clip picture header = record {
   standard = header .standard;

@@ -11,7 +11,7 @@ ghost use lib.Seq.{sets, paste};
 ghost use Rattle.laws.specs.Choice.{both};
 ghost use Rattle.refusals.specs.Number.{refusal};
 ghost use Rattle.vault.specs.Block.{pairAt, pictureOf, headerOf, pictures, greatestPart, refreshRule, usedRule, headerRuled as ruledOf, unused, unusedClear, payloadOf, fieldsFollow as followsOf, sumOf, toldChecked, checkOf, ofClip, sameStandard, judgeOf, standardBit, standardIn, standardMark, lowMarks, marksFor, headBytes, twoBytes, blockFor};
-ghost use Rattle.vault.specs.Renewed.{renewedBlock};
+ghost use Rattle.vault.specs.Renewed.{renewedBlock, Renewing};
 ghost use Rattle.vault.specs.Parts.{partCount, usedAt, keptByte, payloadAt, headerAt, blocksOf, PartIn, PayloadRoom, BlocksRoom, placedPayload};
 
 // What a clip's pictures are coded by.
@@ -228,7 +228,7 @@ pub fn check(size: Size, block: &[u8]) -> Checked
 }
 
 // 1, 21, 22, 23, or the header of a block of this clip.
-fn of_clip(size: Size, clip: u16, block: &[u8]) -> Checked
+pub fn of_clip(size: Size, clip: u16, block: &[u8]) -> Checked
     ensures { λ r. ⌜ toldChecked r ≡ ofClip clip (checkOf size (now (block .entry))) ⌝ }
 {
     match check(size, block) {
@@ -471,7 +471,7 @@ pub fn blocks(
 
 // The block for another clip, under another number: all between its number and its high byte stays.
 pub fn renew(clip: u16, picture: u32, block: &[u8], out: &mut [u8])
-    requires { ⌜ (length (now block) ≡ 512) × (length (now out) ≡ 512) × (picture < pictures) ⌝ }
+    requires { ⌜ Renewing picture (now block) (now out) ⌝ }
     ensures { λ _. ⌜ now (out .exit) ≡ renewedBlock clip picture (now (block .entry)) ⌝ }
 {
     let low = picture % 65536;

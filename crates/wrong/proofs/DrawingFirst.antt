@@ -8,22 +8,16 @@ use borrow.Author.Tests.{eq-eqb}
 use lib.Dec.{eqb, lit<, lit≤}
 use lib.ListN.{length, replicate, getD, length-replicate, getD-replicate}
 use Rattle.laws.specs.Choice.{pick, both, opposite, alike}
-use Rattle.laws.proofs.Choice.{T-true}
 use Rattle.refusals.specs.Told.{untabled, Told, accepted, refused, verdictOn}
 use Rattle.size.specs.Size.{storeLength, collectionLength}
 use Rattle.bits.specs.Bits.{Bit}
 use Rattle.bits.specs.Write.{Holds}
 use Rattle.layout.specs.Flat.{Flat, putGroups, putMacroblocks}
-use Rattle.h261_groups.specs.declared.Format.the-variants.{Qcif}
-use Rattle.h261_groups.specs.Format.{sizeOf}
 use Rattle.h261_description.specs.Value.{laidPicture}
-use Rattle.h261_description.specs.Valid.{valid}
 use Rattle.h261_description.specs.Fields.{refresh}
-use Rattle.h261_writer.specs.Output.{pictureBits}
-use Rattle.coding.specs.declared.Kind.the-variants.{H261Qcif}
 use Rattle.coding.specs.Kind.{kindSize, codingOf}
 use Rattle.coding.specs.Described.{bytesIn}
-use Rattle.coding.proofs.H261.{coding-lawful}
+use Rattle.coding.proofs.AllLawful.{coding-lawful}
 use Rattle.vault.specs.declared.Standard.the-variants.{H261}
 use Rattle.vault.specs.declared.Header.{Header}
 use Rattle.vault.specs.Block.{headerOf}
@@ -46,11 +40,11 @@ use Rattle.demand1.proofs.Blocks.{value-verdict, judge-is}
 use Rattle.demand3.proofs.Filled.{collected-holds}
 use Rattle.wrong.specs.WrongPrograms.{first}
 use Rattle.wrong.specs.DrawingFirst.{drawnInto, DrawingFirstWrong}
-use Rattle.wrong.proofs.WrongPrograms.{first-valid, first-long, first-below}
+use Rattle.wrong.proofs.WrongPrograms.{qcif, first-valid, first-long, first-below}
 
 -- ---- the block
 abbrev bits : List Bit
-bits = pictureBits Qcif first
+bits = codingOf qcif .written first
 
 abbrev count : ℕ
 count = length bits
@@ -64,7 +58,7 @@ head = headerAt H261 1 0 true count 0
 one-part : partCount count ≡ 1
 one-part = let l : count ≡ 110 = first-long in omega arith
 
-part-0 : Part (sizeOf Qcif) 1 0 count 0
+part-0 : Part (kindSize qcif) 1 0 count 0
 part-0 = record { clip-is = lit≤ tt; picture-is = lit< tt; count-is = first-below; part-is = omega (arith, one-part) }
 
 head-is : headerOf block ≡ head
@@ -73,7 +67,7 @@ head-is = made-header head (payloadAt (bytesIn bits) count 0) (payload-length (b
 
 -- ---- the receiver, and what it is lent: two stores that differ
 abbrev receiver : Receiver
-receiver = freshReceiver 1 H261Qcif
+receiver = freshReceiver 1 qcif
 
 unfoldable all : ℕ → ℕ → List ℕ
 all n k = replicate n k
@@ -87,15 +81,15 @@ unfolding all
 all-first n k l = getD-replicate n 0 k 0 l
 
 abbrev size : ℕ
-size = storeLength (sizeOf Qcif)
+size = storeLength (kindSize qcif)
 
 abbrev lent : Buffers
-lent = record { collection = all (collectionLength (sizeOf Qcif)) 0; both = stores (all size 0) (all size 1) }
+lent = record { collection = all (collectionLength (kindSize qcif)) 0; both = stores (all size 0) (all size 1) }
 
-lent-named : lentLengths (kindSize H261Qcif) lent ≡ true
+lent-named : lentLengths (kindSize qcif) lent ≡ true
 lent-named =
     rw (
-      eq-eqb (length (all (collectionLength (sizeOf Qcif)) 0)) (collectionLength (sizeOf Qcif)) (all-long (collectionLength (sizeOf Qcif)) 0),
+      eq-eqb (length (all (collectionLength (kindSize qcif)) 0)) (collectionLength (kindSize qcif)) (all-long (collectionLength (kindSize qcif)) 0),
       eq-eqb (length (all size 0)) size (all-long size 0),
       eq-eqb (length (all size 1)) size (all-long size 1),
     )
@@ -107,31 +101,31 @@ after = placedPayload block 0 (lent .collection)
 -- ---- it is read
 collected : Collected (bytesIn bits) count 1 after
 collected =
-    collected-more (bytesIn bits) count block 0 (lent .collection) (at-payload H261 1 0 true (bytesIn bits) count 0) (omega (arith, all-long (collectionLength (sizeOf Qcif)) 0))
+    collected-more (bytesIn bits) count block 0 (lent .collection) (at-payload H261 1 0 true (bytesIn bits) count 0) (omega (arith, all-long (collectionLength (kindSize qcif)) 0))
     (collected-none (bytesIn bits) count (lent .collection))
 
 holds : Holds after bits
 holds =
-    let long : length after ≡ collectionLength (sizeOf Qcif) =
-    placed-length block 0 (lent .collection) (at-length H261 1 0 true (bytesIn bits) count 0) (omega (arith, all-long (collectionLength (sizeOf Qcif)) 0)) ∙ all-long (collectionLength (sizeOf Qcif)) 0 in
+    let long : length after ≡ collectionLength (kindSize qcif) =
+    placed-length block 0 (lent .collection) (at-length H261 1 0 true (bytesIn bits) count 0) (omega (arith, all-long (collectionLength (kindSize qcif)) 0)) ∙ all-long (collectionLength (kindSize qcif)) 0 in
     collected-holds bits after (omega (arith, long, one-part)) (subst (λ (n : ℕ). Collected (bytesIn bits) count n after) (sym one-part) collected)
 
-read-first : codingOf H261Qcif .read after (countOf head) ≡ accepted first
+read-first : codingOf qcif .read after (countOf head) ≡ accepted first
 unfolding codingOf
 read-first =
-    ap (codingOf H261Qcif .read after) (count-back H261 1 0 true (bytesIn bits) count 0 (omega (arith, first-long)) (sym one-part))
-    ∙ coding-lawful .each H261Qcif .reads first after (T-true (valid Qcif first) first-valid) first-below holds
+    ap (codingOf qcif .read after) (count-back H261 1 0 true (bytesIn bits) count 0 (omega (arith, first-long)) (sym one-part))
+    ∙ coding-lawful .each qcif .reads first after first-valid first-below holds
 
-no-refresh : codingOf H261Qcif .refresh first ≡ false
+no-refresh : codingOf qcif .refresh first ≡ false
 unfolding codingOf refresh laidPicture putGroups putMacroblocks
 no-refresh = refl
 
 -- ---- 24 is due
 good : firstOf (blockRules receiver block lent) ≡ accepted tt
 good =
-    ap (λ (z : Bool). firstOf (when 1 (opposite z) ∷ judgeRules (sizeOf Qcif) H261 1 block)) lent-named
-    ∙ sym (value-verdict (headerOf block) (firstOf (judgeRules (sizeOf Qcif) H261 1 block)))
-    ∙ ap verdictOn (sym (judge-is (sizeOf Qcif) H261 1 block) ∙ at-judged H261 1 0 true (bytesIn bits) count (sizeOf Qcif) 0 part-0)
+    ap (λ (z : Bool). firstOf (when 1 (opposite z) ∷ judgeRules (kindSize qcif) H261 1 block)) lent-named
+    ∙ sym (value-verdict (headerOf block) (firstOf (judgeRules (kindSize qcif) H261 1 block)))
+    ∙ ap verdictOn (sym (judge-is (kindSize qcif) H261 1 block) ∙ at-judged H261 1 0 true (bytesIn bits) count (kindSize qcif) 0 part-0)
 
 -- by the header
 abbrev taken : Header → Bool
@@ -144,18 +138,18 @@ is-taken = ap (eqb 1) one-part
 abbrev lastFor : Header → List Verdict
 lastFor h =
     let now : List ℕ = placedPayload block (h .part) (lent .collection) in
-    pick (taken h) (pictureRules Qcif now (countOf h) ++ (markRule receiver h (codingOf H261Qcif .read now (countOf h)) ∷ [])) []
+    pick (taken h) (pictureRules qcif now (countOf h) ++ (markRule receiver h (codingOf qcif .read now (countOf h)) ∷ [])) []
 
-marked : markRule receiver head (codingOf H261Qcif .read after (countOf head)) ≡ refused 24 0
+marked : markRule receiver head (codingOf qcif .read after (countOf head)) ≡ refused 24 0
 marked = ap (markRule receiver head) read-first ∙ ap (λ (z : Bool). when 24 (opposite (alike z true))) no-refresh
 
 refused-24 : firstOf (lastRules receiver block lent) ≡ refused 24 0
 refused-24 =
-    let x : Told Flat = codingOf H261Qcif .read after (countOf head) in
+    let x : Told Flat = codingOf qcif .read after (countOf head) in
     ap (λ (h : Header). firstOf (lastFor h)) head-is
-    ∙ ap (λ (z : Bool). firstOf (pick z (pictureRules Qcif after (countOf head) ++ (markRule receiver head x ∷ [])) [])) is-taken
-    ∙ first-append (pictureRules Qcif after (countOf head)) (markRule receiver head x ∷ [])
-    ∙ ap (λ (v : Verdict). orElse v (firstOf (markRule receiver head x ∷ []))) (sym (kind-due H261Qcif after (countOf head)) ∙ ap verdictOn read-first)
+    ∙ ap (λ (z : Bool). firstOf (pick z (pictureRules qcif after (countOf head) ++ (markRule receiver head x ∷ [])) [])) is-taken
+    ∙ first-append (pictureRules qcif after (countOf head)) (markRule receiver head x ∷ [])
+    ∙ ap (λ (v : Verdict). orElse v (firstOf (markRule receiver head x ∷ []))) (sym (kind-due qcif after (countOf head)) ∙ ap verdictOn read-first)
     ∙ ap (λ (v : Verdict). firstOf (v ∷ [])) marked
 
 due-24 : firstOf (blockRules receiver block lent ++ lastRules receiver block lent) ≡ refused 24 0
@@ -163,13 +157,13 @@ due-24 = first-append (blockRules receiver block lent) (lastRules receiver block
 
 -- ---- what is drawn
 abbrev drawnFor : Stores → Header → Stores
-drawnFor else h = pick (taken h) (drawnInto receiver (lent .both) (codingOf H261Qcif .read (placedPayload block (h .part) (lent .collection)) (countOf h))) else
+drawnFor else h = pick (taken h) (drawnInto receiver (lent .both) (codingOf qcif .read (placedPayload block (h .part) (lent .collection)) (countOf h))) else
 
 drawn-is : (else : Stores) → drawnFor else (headerOf block) .first ≡ all size 1
 unfolding codingOf
 drawn-is else =
     ap (λ (h : Header). drawnFor else h .first) head-is
-    ∙ ap (λ (z : Bool). pick z (drawnInto receiver (lent .both) (codingOf H261Qcif .read after (countOf head))) else .first) is-taken
+    ∙ ap (λ (z : Bool). pick z (drawnInto receiver (lent .both) (codingOf qcif .read after (countOf head))) else .first) is-taken
     ∙ ap (λ (x : Told Flat). drawnInto receiver (lent .both) x .first) read-first
     ∙ shown P1 .3 (all size 1) (all-long size 1)
 

@@ -11,7 +11,7 @@ use lib.Dec.{T, ltb}
 use lib.Seq.{take-take, drop-at, drop-nil}
 use lib.ListN.{length, take, drop, replicate, length-append, length-drop, length-replicate}
 use Rattle.laws.specs.Choice.{pick, both, either}
-use Rattle.laws.proofs.Choice.{both-left, both-right}
+use Rattle.laws.proofs.Choice.{both-left, both-right, true-T}
 use Rattle.laws.proofs.Rows.{lt-or-ge}
 use Rattle.refusals.specs.declared.Refusal.{Refusal}
 use Rattle.refusals.specs.declared.Reason.the-variants.{Count}
@@ -25,10 +25,10 @@ use Rattle.bits.proofs.Tree.{miss}
 use Rattle.bits.proofs.Write.{length-bytesOf}
 use Rattle.h261_words.specs.Tables.{table1}
 use Rattle.h261_groups.specs.declared.Format.{Format}
-use Rattle.h261_groups.specs.declared.Format.the-variants.{Qcif, Cif}
 use Rattle.h261_groups.specs.Format.{sizeOf}
 use Rattle.size.specs.Size.{limit, outputLength}
 use Rattle.layout.specs.Flat.{Flat}
+use Rattle.size.specs.declared.Size.{Size}
 use Rattle.h261_description.specs.Value.{Picture, laidPicture, pictureIn}
 use Rattle.h261_description.specs.Valid.{valid}
 use Rattle.h261_description.proofs.Pictured.{picture-proper}
@@ -37,14 +37,23 @@ use Rattle.h261_layers.specs.Grammar.{picture, reading}
 use Rattle.h261_reader.specs.Described.{described}
 use Rattle.h261_reader.proofs.Verdicts.{accepted-described}
 use Rattle.bits.specs.Output.{filledOutput, outputLeft}
-use Rattle.h261_writer.specs.Output.{pictureBits, writeOf, outputOf}
+use Rattle.h261_writer.specs.Output.{pictureBits}
 use Rattle.h261_readback.proofs.Exactly.{Unread, fewer-bits, more-bits}
-use Rattle.demand2.proofs.WrittenBack.{writes, written-held, output-holds}
+use Rattle.coding.specs.declared.Kind.{Kind}
+use Rattle.coding.specs.declared.Kind.the-variants.{H261, H263}
+use Rattle.coding.specs.Kind.{kindSize, codingOf, describedBy}
+use Rattle.coding.specs.Described.{writeOf, outputOf}
+use Rattle.demand2.proofs.WrittenBack.{held-back, writes, written-held, output-holds}
 use Rattle.instances.specs.Uniform.{repeated}
 use Rattle.instances.specs.Example.{blank}
-use Rattle.instances.proofs.Uniform.{repeated-add}
+use Rattle.instances.proofs.Repeated.{repeated-add}
 use Rattle.instances.proofs.Sending.{blank-long}
 use Rattle.wrong.specs.WrongPrograms.{blankOutput, MadeUpWrong}
+use Rattle.size.specs.declared.Size.the-variants as S
+use Rattle.h263_description.specs.Value as V263
+use Rattle.h263_layers.specs.Grammar as G263
+use Rattle.h263_reader.specs.Described as R263
+use Rattle.h263_readback.proofs.Verdicts as P263
 
 abbrev none : ℕ → List Bit
 none k = replicate k O
@@ -71,15 +80,15 @@ unfolding lookup
 none-found [] n at r t = refl
 none-found (entry w m ∷ tab) n at r t = miss w m tab (none n) at (refused r) (not-begun w n (both-left (hasOne w) (eachOne tab) t)) ∙ none-found tab n at r (both-right (hasOne w) (eachOne tab) t)
 
+never : {A : Type 0} {r : Refusal} {a : A} {left : List Bit} {p : ℕ} → _≡_ {A = Read A} (refused r) (got a left p) → ⊥
+never e = let z : _≡_ {A = ℕ} 0 1 = cc in omega arith
+
 none-unread : (k : ℕ) → Unread (none (suc k))
 unfolding word table1
 none-unread k = record {
   some = omega arith;
   none = λ at m left p e. never (sym (none-found (table1 .entries) (suc k) at _ tt) ∙ e);
 }
-  where
-    never : {r : Refusal} {m : ℕ} {left : List Bit} {p : ℕ} → _≡_ {A = Read ℕ} (refused r) (got m left p) → ⊥
-    never e = let z : _≡_ {A = ℕ} 0 1 = cc in omega arith
 
 -- ---- zeros after the bits change no byte
 byte-padded : (k v : ℕ) (bs : List Bit) (m : ℕ) → byteFrom k v (bs ++ none m) ≡ byteFrom k v bs
@@ -146,12 +155,67 @@ filled-padded m bits k l =
     enough : (n : ℕ) → n ≤ 8 * startedBytes n
     enough n = omega arith
 
--- ---- what is read of another number of bits
-read-laid : (f : Format) (x : Read Picture) (d : Flat) (n : ℕ) → mapRead (laidPicture f) x ≡ got d [] n → (p : Picture) × (left : List Bit) × (q : ℕ) × (x ≡ got p left q) × (laidPicture f p ≡ d)
-read-laid f (got p left q) d n e = (p, left, q, refl, cc)
-read-laid f (refused why) d n e = let z : _≡_ {A = ℕ} 0 1 = cc in absurd (omega arith)
-read-laid f endless d n e = let z : _≡_ {A = ℕ} 0 1 = cc in absurd (omega arith)
+-- ---- bytes that hold a picture's bits first, and then zeros
+record Padded (s : List ℕ) (bits : List Bit) : Type 0 where
+  first-bits : (n : ℕ) → n ≤ length bits → source s n ≡ take n bits
+  with-none : (k : ℕ) → length bits + k ≤ 8 * length s → source s (length bits + k) ≡ bits ++ none k
 
+filled-long : (out : List ℕ) (bits : List Bit) → startedBytes (length bits) ≤ length out → length (filledOutput out bits) ≡ length out
+filled-long out bits l =
+    omega (arith, l, length-append (bytesOf (startedBytes (length bits)) bits) (drop (startedBytes (length bits)) out), length-bytesOf (startedBytes (length bits)) bits, length-drop (startedBytes (length bits)) out)
+
+started-fits : (size : Size) (n m : ℕ) → n ≤ limit size → m ≡ outputLength size → startedBytes n ≤ m
+started-fits S.SubQcif n m l e = omega arith
+started-fits S.Qcif n m l e = omega arith
+started-fits S.Cif n m l e = omega arith
+
+module _ (k : Kind) (d : Flat) (v : codingOf k .valid d ≡ true) (l : length (codingOf k .written d) ≤ limit (kindSize k)) where
+  abbrev bits : List Bit
+  bits = codingOf k .written d
+
+  abbrev left-there : List ℕ
+  left-there = outputOf k d (blankOutput k)
+
+  long : length (blankOutput k) ≡ outputLength (kindSize k)
+  long = blank-long (outputLength (kindSize k))
+
+  answers : writeOf k d (length (blankOutput k)) ≡ accepted (length bits)
+  answers = writes k d (blankOutput k) v l long
+
+  held : Holds left-there bits
+  held = written-held k d (blankOutput k) (length bits) answers
+
+  left-is : left-there ≡ filledOutput (blankOutput k) bits
+  unfolding outputLeft
+  left-is = ap (outputLeft (blankOutput k) bits) answers
+
+  room : length left-there ≡ outputLength (kindSize k)
+  room = ap length left-is ∙ filled-long (blankOutput k) bits (started-fits (kindSize k) (length bits) (length (blankOutput k)) l long) ∙ long
+
+  padded : Padded left-there bits
+  padded = record {
+    first-bits = λ n i. sym (take-take n (length bits) (bitsIn left-there) i) ∙ ap (take n) (held .bits);
+    with-none = more;
+  }
+    where
+      more : (m : ℕ) → length bits + m ≤ 8 * length left-there → source left-there (length bits + m) ≡ bits ++ none m
+      more m i =
+          let same : left-there ≡ filledOutput (blankOutput k) (bits ++ none m) = left-is ∙ sym (filled-padded (outputLength (kindSize k)) bits m (omega (arith, i, room))) in
+          let count : length (bits ++ none m) ≡ length bits + m = padded-long bits m in
+          let also : Holds left-there (bits ++ none m) =
+          subst (λ (s : List ℕ). Holds s (bits ++ none m)) (sym same) (output-holds (blankOutput k) (bits ++ none m) (omega (arith, i, room, count, long))) in
+          ap (source left-there) (sym count) ∙ also .bits
+
+-- ---- what is read of another number of them
+read-laid : {A : Type 0} (g : A → Flat) (x : Read A) (d : Flat) (n : ℕ) → mapRead g x ≡ got d [] n → (p : A) × (left : List Bit) × (q : ℕ) × (x ≡ got p left q) × (g p ≡ d)
+read-laid g (got p left q) d n e = (p, left, q, refl, cc)
+read-laid g (refused why) d n e = let z : _≡_ {A = ℕ} 0 1 = cc in absurd (omega arith)
+read-laid g endless d n e = let z : _≡_ {A = ℕ} 0 1 = cc in absurd (omega arith)
+
+one-more : (n m : ℕ) → m ≤ n → (n ≡ m → ⊥) → m + suc (n - m - 1) ≡ n
+one-more n m l other = omega (arith, l, other)
+
+-- H.261: the last group ends at bit N, where no codeword of Table 1 may begin
 read-bits : (f : Format) (s : List ℕ) (n : ℕ) (p : Picture) (left : List Bit) (q : ℕ) → reading f s n ≡ got p left q → (picture {P = plain} f (source s n) 0 ≡ got p left q) × (n ≤ 8 * length s)
 unfolding reading
 read-bits f s n p left q e = go (ltb (8 * length s) n) refl e
@@ -164,71 +228,54 @@ read-bits f s n p left q e = go (ltb (8 * length s) n) refl e
         within true e = let z : _≡_ {A = ℕ} 0 1 = cc in absurd (omega arith)
         within false e = (e, ltb-false (8 * length s) n h)
 
-filled-long : (out : List ℕ) (bits : List Bit) → startedBytes (length bits) ≤ length out → length (filledOutput out bits) ≡ length out
-filled-long out bits l =
-    omega (arith, l, length-append (bytesOf (startedBytes (length bits)) bits) (drop (startedBytes (length bits)) out), length-bytesOf (startedBytes (length bits)) bits, length-drop (startedBytes (length bits)) out)
-
-started-fits : (f : Format) (n m : ℕ) → n ≤ limit (sizeOf f) → m ≡ outputLength (sizeOf f) → startedBytes n ≤ m
-started-fits Qcif n m l e = omega arith
-started-fits Cif n m l e = omega arith
-
-one-more : (n m : ℕ) → m ≤ n → (n ≡ m → ⊥) → m + suc (n - m - 1) ≡ n
-one-more n m l other = omega (arith, l, other)
-
-module _ (f : Format) (d : Flat) (v : T (valid f d)) (l : length (pictureBits f d) ≤ limit (sizeOf f)) where
-  abbrev bits : List Bit
-  bits = pictureBits f d
-
-  abbrev left-there : List ℕ
-  left-there = outputOf f d (blankOutput f)
-
-  long : length (blankOutput f) ≡ outputLength (sizeOf f)
-  long = blank-long (outputLength (sizeOf f))
-
-  answers : writeOf f d (length (blankOutput f)) ≡ accepted (length bits)
-  answers = writes f d (blankOutput f) v l long
-
-  held : Holds left-there bits
-  held = written-held f d (blankOutput f) (length bits) answers
-
-  left-is : left-there ≡ filledOutput (blankOutput f) bits
-  unfolding outputLeft
-  left-is = ap (outputLeft (blankOutput f) bits) answers
-
-  room : length left-there ≡ outputLength (sizeOf f)
-  room = ap length left-is ∙ filled-long (blankOutput f) bits (started-fits f (length bits) (length (blankOutput f)) l long) ∙ long
-
-  -- fewer
-  first-bits : (n : ℕ) → n ≤ length bits → source left-there n ≡ take n bits
-  first-bits n i = sym (take-take n (length bits) (bitsIn left-there) i) ∙ ap (take n) (held .bits)
-
-  -- more
-  with-none : (k : ℕ) → length bits + k ≤ 8 * length left-there → source left-there (length bits + k) ≡ bits ++ none k
-  with-none k i =
-      let same : left-there ≡ filledOutput (blankOutput f) (bits ++ none k) = left-is ∙ sym (filled-padded (outputLength (sizeOf f)) bits k (omega (arith, i, room))) in
-      let count : length (bits ++ none k) ≡ length bits + k = padded-long bits k in
-      let also : Holds left-there (bits ++ none k) =
-      subst (λ (s : List ℕ). Holds s (bits ++ none k)) (sym same) (output-holds (blankOutput f) (bits ++ none k) (omega (arith, i, room, count, long))) in
-      ap (source left-there) (sym count) ∙ also .bits
-
-  other-number : (n : ℕ) → (n ≡ length bits → ⊥) → described f left-there n ≡ got d [] n → ⊥
+module _ (f : Format) (d : Flat) (v : T (valid f d)) (s : List ℕ) (padded : Padded s (pictureBits f d)) where
+  other-h261 : (n : ℕ) → (n ≡ length (pictureBits f d) → ⊥) → described f s n ≡ got d [] n → ⊥
   unfolding described pictureBits
-  other-number n other e =
-      let r = read-laid f (reading f left-there n) d n e in
-      let read = read-bits f left-there n (r .0) (r .1) (r .2) (r .3) in
-      let same : r .0 ≡ pictureIn d = sym (accepted-described f left-there n (r .0) (r .1) (r .2) (r .3)) ∙ ap pictureIn (r .4) in
-      go (r .0) (r .1) (r .2) same (read .0) (read .1) (lt-or-ge n (length bits))
+  other-h261 n other e =
+      let r = read-laid (laidPicture f) (reading f s n) d n e in
+      let read = read-bits f s n (r .0) (r .1) (r .2) (r .3) in
+      let same : r .0 ≡ pictureIn d = sym (accepted-described f s n (r .0) (r .1) (r .2) (r .3)) ∙ ap pictureIn (r .4) in
+      go (r .0) (r .1) (r .2) same (read .0) (read .1) (lt-or-ge n (length (pictureBits f d)))
     where
-      go : (p : Picture) (left : List Bit) (q : ℕ) → p ≡ pictureIn d → picture {P = plain} f (source left-there n) 0 ≡ got p left q → n ≤ 8 * length left-there → (n < length bits) ⊎ (length bits ≤ n) → ⊥
+      go : (p : Picture) (left : List Bit) (q : ℕ) → p ≡ pictureIn d → picture {P = plain} f (source s n) 0 ≡ got p left q → n ≤ 8 * length s → (n < length (pictureBits f d)) ⊎ (length (pictureBits f d) ≤ n) → ⊥
       go p left q same e i (inl less) =
           fewer-bits f (pictureIn d) (picture-proper f d v) n left q less
-          (ap (λ (bs : List Bit). picture f bs 0) (sym (first-bits n (le-of-lt less))) ∙ e ∙ ap (λ (x : Picture). got x left q) same)
+          (ap (λ (bs : List Bit). picture f bs 0) (sym (padded .first-bits n (le-of-lt less))) ∙ e ∙ ap (λ (x : Picture). got x left q) same)
       go p left q same e i (inr least) =
-          let k : ℕ = n - length bits - 1 in
-          let q′ : length bits + suc k ≡ n = one-more n (length bits) least other in
+          let k : ℕ = n - length (pictureBits f d) - 1 in
+          let q′ : length (pictureBits f d) + suc k ≡ n = one-more n (length (pictureBits f d)) least other in
           more-bits (none (suc k)) (none-unread k) f (pictureIn d) (picture-proper f d v) p left q
-          (ap (λ (bs : List Bit). picture f bs 0) (sym (ap (source left-there) (sym q′) ∙ with-none (suc k) (omega (arith, i, q′)))) ∙ e)
+          (ap (λ (bs : List Bit). picture f bs 0) (sym (ap (source s) (sym q′) ∙ padded .with-none (suc k) (omega (arith, i, q′)))) ∙ e)
+
+-- H.263: "no accepted picture begins another"
+module _ (size : Size) (s : List ℕ) where
+  described-all : (d : Flat) (n : ℕ) → R263.described size s n ≡ got d [] n → (p : V263.Picture) × (G263.reading size s n ≡ got p [] n)
+  unfolding R263.described
+  described-all d n e =
+      let r = read-laid (V263.laidPicture size) (G263.reading size s n) d n e in
+      let all = P263.all-read size s n (r .0) (r .1) (r .2) (r .3) in
+      (r .0, r .3 ∙ (λ i. got (r .0) (all .0 i) (all .1 i)))
+
+  none-begins : (d : Flat) (n m : ℕ) → R263.described size s n ≡ got d [] n → R263.described size s m ≡ got d [] m → n < m → ⊥
+  none-begins d n m e g l =
+      let first = described-all d n e in
+      let second = described-all d m g in
+      let cut = P263.every-beginning size s m (second .0) (second .1) n l in
+      never (sym (cut .1) ∙ first .1)
+
+other-number : (k : Kind) (d : Flat) (v : codingOf k .valid d ≡ true) (l : length (codingOf k .written d) ≤ limit (kindSize k)) (n : ℕ) → (n ≡ length (codingOf k .written d) → ⊥)
+    → describedBy k (outputOf k d (blankOutput k)) n ≡ got d [] n → ⊥
+unfolding codingOf
+other-number (H261 f) d v l n other e = other-h261 f d (true-T (valid f d) v) (left-there (H261 f) d v l) (padded (H261 f) d v l) n other e
+other-number (H263 size) d v l n other e = go (lt-or-ge n (length (bits (H263 size) d v l)))
+  where
+    right : R263.described size (left-there (H263 size) d v l) (length (bits (H263 size) d v l)) ≡ got d [] (length (bits (H263 size) d v l))
+    right = held-back (H263 size) d (left-there (H263 size) d v l) v l (held (H263 size) d v l)
+
+    go : (n < length (bits (H263 size) d v l)) ⊎ (length (bits (H263 size) d v l) ≤ n) → ⊥
+    go (inl less) = none-begins size (left-there (H263 size) d v l) d n (length (bits (H263 size) d v l)) e right less
+    go (inr least) = none-begins size (left-there (H263 size) d v l) d (length (bits (H263 size) d v l)) n right e (omega (arith, least, other))
 
 pub made-up-wrong : MadeUpWrong
-made-up-wrong w f d n v l leaves-it answers other back =
-    other-number f d v l n other (ap (λ (s : List ℕ). described f s n) (sym leaves-it) ∙ back .back f d (blankOutput f) n v (blank-long (outputLength (sizeOf f))) answers)
+made-up-wrong w k d n v l leaves-it answers other back =
+    other-number k d v l n other (ap (λ (s : List ℕ). describedBy k s n) (sym leaves-it) ∙ back .back k d (blankOutput k) n v (blank-long (outputLength (kindSize k))) answers)

@@ -25,11 +25,12 @@ use Rattle.inverse.specs.Inverse.{A, S, cosine, output, inverseAt}
 use Rattle.samples.specs.Content.{differenceOf, sentValues, contentValues, pictureValues, sampleAt}
 use Rattle.h261_render.specs.Sample.{source, predicted, predictionOf, contentOf, contentsOf, rendered}
 use Rattle.h261_render.proofs.Rendered.{rendered-at}
+use Rattle.coding.specs.declared.Kind.the-variants.{H261}
 use Rattle.instances.specs.Uniform.{repeated, uniform, grey}
-use Rattle.instances.proofs.Uniform.{Code, one, two, codeOf}
+use Rattle.instances.proofs.Codes.{Code, one, two, codeOf}
 
 abbrev flat : Code → Flat
-flat c = grey Qcif (codeOf c)
+flat c = grey (H261 Qcif) (codeOf c)
 
 type-first : (c : Code) → typeOf (flat c) 0 ≡ 1
 unfolding uniform repeated
@@ -64,5 +65,5 @@ value-first c under =
     (cellOf (sizeOf Qcif) under 0 0 0 0 0)) (type-first c)
     ∙ ap (sampleOf (pos 0)) (difference-first c (quantiserOf (flat c) 0)) ∙ sample-first c
 
-pub grey-sample : (c : Code) (under : List ℕ) → getD (rendered Qcif (grey Qcif (codeOf c)) under) 0 0 ≡ codeOf c
+pub grey-sample : (c : Code) (under : List ℕ) → getD (rendered Qcif (grey (H261 Qcif) (codeOf c)) under) 0 0 ≡ codeOf c
 grey-sample c under = rendered-at Qcif (flat c) under 0 0 0 (lit< tt) (lit< tt) (lit< tt) ∙ value-first c under

@@ -10,11 +10,9 @@ use borrow.Author.Tests.{eqb-false, ltb-false}
 use lib.Dec.{eqb, ltb, lit<}
 use lib.ListN.{getElem?, getD}
 use Rattle.laws.specs.Choice.{both, either, opposite}
-use Rattle.coding.specs.declared.Kind.the-variants.{H261Qcif}
 use Rattle.layout.specs.Flat.{Flat}
-use Rattle.h261_groups.specs.declared.Format.the-variants.{Qcif}
 use Rattle.coding.specs.Kind.{codingOf}
-use Rattle.coding.proofs.H261.{coding-lawful}
+use Rattle.coding.proofs.AllLawful.{coding-lawful}
 use Rattle.standing.specs.declared.Receiver.{Receiver}
 use Rattle.standing.specs.declared.Standing.{Standing}
 use Rattle.standing.specs.Receive.{place, earlierPlace, samePlace, isLost, freshReceiver, Buffers, Outcome, step}
@@ -31,33 +29,34 @@ use Rattle.instances.specs.Uniform.{grey}
 use Rattle.instances.specs.Example.{newcomer, example}
 use Rattle.instances.specs.Instances.{Example, Delivered, astray}
 use Rattle.instances.specs.Bound.{sparseClip, Bound}
-use Rattle.instances.proofs.Uniform.{Code, one, two, codeOf}
+use Rattle.instances.proofs.Codes.{Code, one, two, codeOf}
 use Rattle.instances.proofs.Sending.{newcomer-named}
 use Rattle.instances.proofs.Instances.{example-sent, example-meets, one-gap, each-parts}
 use Rattle.instances.proofs.Bound.{plain-between, none-after, bound-reached}
 use Rattle.wrong.specs.WrongReceivers.{IdleWrong, LostWrong, NeverInStepWrong, wasLost, LostForEverWrong, Delivery, comesTo, OnlyRefreshWrong, RenumberingWrong, TwoRefreshes, TwoRefreshesWrong}
+use Rattle.wrong.proofs.WrongPrograms.{qcif}
 use Rattle.wrong.proofs.Sampled.{grey-sample}
 use Rattle.standing.specs.declared.Standing.the-variants as T
 
--- ---- the example in QCIF, and a fresh receiver
+-- ---- the example in H.261's QCIF, and a fresh receiver
 abbrev clip : Clip Flat
-clip = example H261Qcif
+clip = example qcif
 
 abbrev sent : List (Picture Flat)
 sent = picturesIn codingOf clip
 
-abbrev x : Example H261Qcif
-x = example-sent H261Qcif
+abbrev x : Example qcif
+x = example-sent qcif
 
 abbrev opened : World
-opened = begin (newcomer H261Qcif)
+opened = begin (newcomer qcif)
 
 at : (p : ℕ) (y : Picture Flat) → getElem? (x .picture0 ∷ x .picture1 ∷ x .picture2 ∷ x .picture3 ∷ x .picture4 ∷ []) p ≡ some y → getElem? sent p ≡ some y
 at p y e = ap (λ (l : List (Picture Flat)). getElem? l p) (x .sent) ∙ e
 
 -- their blocks are the clip's
 until-loss : Each (blocksIn codingOf clip) (x .picture0 .blocks ++ x .picture2 .blocks) × Each (blocksIn codingOf clip) (x .picture3 .blocks ++ x .picture4 .blocks)
-until-loss = each-parts (blocksIn codingOf clip) (x .picture0 .blocks ++ x .picture2 .blocks) (x .picture3 .blocks ++ x .picture4 .blocks) (example-meets H261Qcif .each)
+until-loss = each-parts (blocksIn codingOf clip) (x .picture0 .blocks ++ x .picture2 .blocks) (x .picture3 .blocks ++ x .picture4 .blocks) (example-meets qcif .each)
 
 each0 : Each (blocksIn codingOf clip) (x .picture0 .blocks)
 each0 = each-parts (blocksIn codingOf clip) (x .picture0 .blocks) (x .picture2 .blocks) (until-loss .0) .0
@@ -68,18 +67,18 @@ each3 = each-parts (blocksIn codingOf clip) (x .picture3 .blocks) (x .picture4 .
 module _ {receive : Receive} {show : Show} (catches : CatchesUp codingOf receive show) where
   -- with all blocks it is in step at picture 4
   all-come : InStepAt receive show sent 4 opened (blocksIn codingOf clip)
-  all-come = whole-clip Flat codingOf coding-lawful receive show catches clip (newcomer H261Qcif) (newcomer-named H261Qcif) (x .picture0) (x .picture1 ∷ x .picture2 ∷ x .picture3 ∷ x .picture4 ∷ []) (x .sent)
+  all-come = whole-clip Flat codingOf coding-lawful receive show catches clip (newcomer qcif) (newcomer-named qcif) (x .picture0) (x .picture1 ∷ x .picture2 ∷ x .picture3 ∷ x .picture4 ∷ []) (x .sent)
 
   -- with those of a refresh alone, at that one
-  alone : (p : ℕ) (y : Picture Flat) → getElem? sent p ≡ some y → codingOf H261Qcif .refresh (y .description) ≡ true → earlierPlace (place p 0) (place 0 0) ≡ false → InStepAt receive show sent (p + 0) opened (y .blocks)
+  alone : (p : ℕ) (y : Picture Flat) → getElem? sent p ≡ some y → codingOf qcif .refresh (y .description) ≡ true → earlierPlace (place p 0) (place 0 0) ≡ false → InStepAt receive show sent (p + 0) opened (y .blocks)
   unfolding worldGiven
   alone p y e r n =
       subst (λ (l : List (List ℕ)). InStepAt receive show sent (p + 0) opened l) (append-nil (y .blocks))
-      (catches clip (newcomer H261Qcif) (newcomer-named H261Qcif) [] tt p y e r n (y .blocks) [] (own-arrive sent p y e) tt)
+      (catches clip (newcomer qcif) (newcomer-named qcif) [] tt p y e r n (y .blocks) [] (own-arrive sent p y e) tt)
 
   -- ---- wrong: "a receiver that does nothing or is lost for ever"
   -- no receiver may still be what a fresh one is, by whatever excludes that it is in step
-  staying : (P : Receiver → Type 0) → P (freshReceiver 1 H261Qcif) → ((r : Receiver) (block : List ℕ) (b : Buffers) → P r → P (receive r block b .gave .next))
+  staying : (P : Receiver → Type 0) → P (freshReceiver 1 qcif) → ((r : Receiver) (block : List ℕ) (b : Buffers) → P r → P (receive r block b .gave .next))
       → ((r : Receiver) → P r → r .progress .standing ≡ T.InStep 4 → ⊥) → ⊥
   staying P begins on never =
       let e : Ends receive show sent 4 opened (blocksIn codingOf clip) = ends receive all-come in
@@ -144,14 +143,14 @@ module _ {receive : Receive} {show : Show} (ours : (r : Receiver) (block : List 
   unfolding worldGiven
   astray-too =
       given-append receive opened (x .picture0 .blocks) (x .picture2 .blocks)
-      ∙ ap (worldGiven receive (worldGiven receive opened (x .picture0 .blocks))) (one-gap H261Qcif .1)
-      ∙ as-ours (worldGiven receive opened (x .picture0 .blocks)) (one-gap H261Qcif .0) not-lost
-      ∙ ap (λ (w : World). afterBlock (step codingOf) w (one-gap H261Qcif .0)) there
-      ∙ ap (worldGiven (step codingOf) (worldGiven (step codingOf) opened (x .picture0 .blocks))) (sym (one-gap H261Qcif .1))
+      ∙ ap (worldGiven receive (worldGiven receive opened (x .picture0 .blocks))) (one-gap qcif .1)
+      ∙ as-ours (worldGiven receive opened (x .picture0 .blocks)) (one-gap qcif .0) not-lost
+      ∙ ap (λ (w : World). afterBlock (step codingOf) w (one-gap qcif .0)) there
+      ∙ ap (worldGiven (step codingOf) (worldGiven (step codingOf) opened (x .picture0 .blocks))) (sym (one-gap qcif .1))
       ∙ sym (given-append (step codingOf) opened (x .picture0 .blocks) (x .picture2 .blocks))
 
   abbrev d : Delivered x
-  d = example-meets H261Qcif
+  d = example-meets qcif
 
   lost-there : wasLost (worldGiven receive opened (x .picture0 .blocks ++ x .picture2 .blocks) .receiver) ≡ true
   lost-there = ap (λ (w : World). wasLost (w .receiver)) astray-too ∙ (λ i. both (isLost (d .is-lost i)) (opposite (samePlace (d .wants i) (place 0 0))))
@@ -162,7 +161,7 @@ module _ {receive : Receive} {show : Show} (ours : (r : Receiver) (block : List 
       let until : List (List ℕ) = x .picture0 .blocks ++ x .picture2 .blocks in
       let e : Ends receive show sent 3 (worldGiven receive opened until) (x .picture3 .blocks ++ []) =
       ends receive
-      (catches clip (newcomer H261Qcif) (newcomer-named H261Qcif) until (until-loss .0) 3 (x .picture3) (at 3 (x .picture3) refl) (x .refresh3)
+      (catches clip (newcomer qcif) (newcomer-named qcif) until (until-loss .0) 3 (x .picture3) (at 3 (x .picture3) refl) (x .refresh3)
       (ap (λ (w : World). earlierPlace (place 3 0) (w .receiver .progress .wanted)) astray-too ∙ ap (earlierPlace (place 3 0)) (d .wants)) (x .picture3 .blocks) [] (own-arrive sent 3 (x .picture3) (at 3 (x .picture3) refl)) tt) in
       true≢false (sym (goes-on (worldGiven receive opened until) (x .picture3 .blocks ++ []) lost-there) ∙ was-in-step (worldGiven receive (worldGiven receive opened until) (x .picture3 .blocks ++ []) .receiver) 3 (ap (λ (w : World). w .receiver .progress .standing) (e .is) ∙ e .stands))
 
@@ -174,7 +173,7 @@ module _ {receive : Receive} {show : Show} {k : ℕ} {blocks : List (List ℕ)} 
   abbrev delivery : Delivery
   delivery =
       let both = each-parts (blocksIn codingOf clip) (so .before) (so .block ∷ []) (subst (Each (blocksIn codingOf clip)) (so .is) each) in
-      record { clip = clip; receiver = newcomer H261Qcif; before = so .before; block = so .block; each = both .0; one = both .1 .0 }
+      record { clip = clip; receiver = newcomer qcif; before = so .before; block = so .block; each = both .0; one = both .1 .0 }
 
   -- it shows that picture's store
   shows : (y : Picture Flat) → getElem? sent k ≡ some y → show (comesTo receive delivery .gave) (comesTo receive delivery .left .both) ≡ y .store
@@ -190,11 +189,11 @@ only-refresh-wrong receive show only catches =
     true≢false (sym (only (delivery (each-of (blocksIn codingOf clip) (blocksIn codingOf clip) (λ b m. m)) so) 4 (x .picture4) (so .stands) (at 4 (x .picture4) refl)) ∙ x .plain4)
 
 -- ---- wrong: "one that decodes picture 0 and then only renumbers it". Pictures 0 and 3 have other samples
-first-sample : (k : ℕ) (y : Picture Flat) (c : Code) → getElem? sent k ≡ some y → y .description ≡ grey Qcif (codeOf c) → getD (y .store) 0 0 ≡ codeOf c
+first-sample : (k : ℕ) (y : Picture Flat) (c : Code) → getElem? sent k ≡ some y → y .description ≡ grey qcif (codeOf c) → getD (y .store) 0 0 ≡ codeOf c
 unfolding codingOf
 first-sample k y c e q =
     let drawn = sound-clip coding-lawful clip .drawn k y e in
-    ap (λ (l : List ℕ). getD l 0 0) (drawn .1 ∙ ap (λ (z : Flat). codingOf H261Qcif .render z (drawn .0)) q) ∙ grey-sample c (drawn .0)
+    ap (λ (l : List ℕ). getD l 0 0) (drawn .1 ∙ ap (λ (z : Flat). codingOf qcif .render z (drawn .0)) q) ∙ grey-sample c (drawn .0)
 
 pub renumbering-wrong : RenumberingWrong
 renumbering-wrong receive show made only catches =
@@ -229,21 +228,21 @@ after-twelve p e = go (ltb p 12) (eqb p 12) refl refl e
     go false false l m n = let z = ltb-false p 12 l in let d = eqb-false p 12 m in omega (arith, z, d)
 
 -- the second of two after picture 12 would be past the clip's end
-no-two : (q : ℕ) → TwoRefreshes (sparseClip H261Qcif) 12 1 q → ⊥
+no-two : (q : ℕ) → TwoRefreshes (sparseClip qcif) 12 1 q → ⊥
 no-two q t =
     let low : 12 < t .first = after-twelve (t .first) (t .from) in
-    let high : t .second < 25 = none-after H261Qcif (t .second) (t .at-second .0) (t .at-second .1) in
+    let high : t .second < 25 = none-after qcif (t .second) (t .at-second .0) (t .at-second .1) in
     let less : t .first < t .second = t .less in
-    true≢false (sym (t .at-first .2) ∙ plain-between H261Qcif (t .first) (t .at-first .0) (t .at-first .1) low (omega (arith, high, less)))
+    true≢false (sym (t .at-first .2) ∙ plain-between qcif (t .first) (t .at-first .0) (t .at-first .1) low (omega (arith, high, less)))
 
 pub two-refreshes-wrong : TwoRefreshesWrong
 unfolding worldGiven
 two-refreshes-wrong receive show needs back =
-    let b : Bound H261Qcif = bound-reached H261Qcif in
+    let b : Bound qcif = bound-reached qcif in
     let given : List (List ℕ) = b .before ++ (b .last ∷ []) in
-    let w : World = begin (newcomer H261Qcif) in
-    let s : Soon receive show (picturesIn codingOf (sparseClip H261Qcif)) 24 w given =
-    back (sparseClip H261Qcif) (newcomer H261Qcif) (newcomer-named H261Qcif) (b .every) [] tt 12 1 refl 25 0 given (b .in-order) (lit< tt) in
+    let w : World = begin (newcomer qcif) in
+    let s : Soon receive show (picturesIn codingOf (sparseClip qcif)) 24 w given =
+    back (sparseClip qcif) (newcomer qcif) (newcomer-named qcif) (b .every) [] tt 12 1 refl 25 0 given (b .in-order) (lit< tt) in
     let o = order-split (b .in-order) (s .upto) (s .rest) (s .is) in
-    let e : Ends receive show (picturesIn codingOf (sparseClip H261Qcif)) (s .k) w (s .upto) = ends receive (s .finishes) in
-    no-two (o .0) (needs (sparseClip H261Qcif) (newcomer H261Qcif) (o .0) (o .1) 12 1 (s .upto) (o .2) (s .k) (ap (λ (v : World). v .receiver .progress .standing) (e .is) ∙ e .stands))
+    let e : Ends receive show (picturesIn codingOf (sparseClip qcif)) (s .k) w (s .upto) = ends receive (s .finishes) in
+    no-two (o .0) (needs (sparseClip qcif) (newcomer qcif) (o .0) (o .1) 12 1 (s .upto) (o .2) (s .k) (ap (λ (v : World). v .receiver .progress .standing) (e .is) ∙ e .stands))

@@ -1,19 +1,18 @@
 -- The wrong readers and writers that document 01 names, "What the promises decide", don't meet demand 2. Assumes nothing.
 use Prim.Native.Nat.{ℕ, _≤_}
 use mathlib.Core.Path.{_≡_}
+use mathlib.Core.Bool.{true}
 use mathlib.Core.List.{List}
-use lib.Dec.{T}
 use lib.ListN.{length}
 use Rattle.refusals.specs.Told.{Numbers, accepted, refusedBy}
-use Rattle.h261_groups.specs.declared.Format.{Format}
 use Rattle.h261_groups.specs.declared.Format.the-variants.{Qcif}
-use Rattle.h261_groups.specs.Format.{sizeOf}
 use Rattle.size.specs.Size.{limit, outputLength}
 use Rattle.layout.specs.Flat.{Flat}
 use Rattle.h261_description.specs.Value.{laidPicture}
-use Rattle.h261_description.specs.Valid.{valid}
 use Rattle.coding.specs.declared.Kind.{Kind}
-use Rattle.h261_writer.specs.Output.{pictureBits, outputOf}
+use Rattle.coding.specs.declared.Kind.the-variants.{H261}
+use Rattle.coding.specs.Kind.{kindSize, codingOf}
+use Rattle.coding.specs.Described.{outputOf}
 use Rattle.sheet.specs.Sheet.{picture1}
 use Rattle.instances.specs.Example.{blank}
 use Rattle.demand2.specs.Demand2.{RefusedExactly, EverySample, AcceptedExactly, Writer, Follows, write, Decoder, ReadsBack}
@@ -43,23 +42,23 @@ first = laidPicture Qcif picture1
 
 -- ---- wrong: "a writer that writes the P1 picture for all"
 abbrev pub firstForAll : Writer
-firstForAll f d out = write Qcif first out
+firstForAll k d out = write (H261 Qcif) first out
 
 abbrev pub FirstForAllWrong : Type 0
 FirstForAllWrong = ReadsBack firstForAll → ⊥
 
 -- ---- wrong: one that "refuses all"
-abbrev pub refusingAll : (Format → Flat → Numbers) → Writer
-refusingAll numbers f d out = record { answer = refusedBy (numbers f d); output = out }
+abbrev pub refusingAll : (Kind → Flat → Numbers) → Writer
+refusingAll numbers k d out = record { answer = refusedBy (numbers k d); output = out }
 
 abbrev pub RefusingAllWrong : Type 0
-RefusingAllWrong = (numbers : Format → Flat → Numbers) → RefusedExactly (refusingAll numbers) → ⊥
+RefusingAllWrong = (numbers : Kind → Flat → Numbers) → RefusedExactly (refusingAll numbers) → ⊥
 
 -- ---- wrong: "a made-up N", whichever, shorter or longer: one that, for one valid description within the limit, leaves the right bytes in an output that was all 0 and answers another
 -- number of bits
-abbrev pub blankOutput : Format → List ℕ
-blankOutput f = blank (outputLength (sizeOf f))
+abbrev pub blankOutput : Kind → List ℕ
+blankOutput k = blank (outputLength (kindSize k))
 
 abbrev pub MadeUpWrong : Type 0
-MadeUpWrong = (w : Writer) (f : Format) (d : Flat) (n : ℕ) → T (valid f d) → length (pictureBits f d) ≤ limit (sizeOf f)
-    → w f d (blankOutput f) .output ≡ outputOf f d (blankOutput f) → w f d (blankOutput f) .answer ≡ accepted n → (n ≡ length (pictureBits f d) → ⊥) → ReadsBack w → ⊥
+MadeUpWrong = (w : Writer) (k : Kind) (d : Flat) (n : ℕ) → codingOf k .valid d ≡ true → length (codingOf k .written d) ≤ limit (kindSize k)
+    → w k d (blankOutput k) .output ≡ outputOf k d (blankOutput k) → w k d (blankOutput k) .answer ≡ accepted n → (n ≡ length (codingOf k .written d) → ⊥) → ReadsBack w → ⊥

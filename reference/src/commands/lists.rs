@@ -6,7 +6,8 @@ use reference::block::{blocks_of, BLOCK_LENGTH, PICTURES};
 use reference::clips::{self, Honesty};
 use reference::description::{Description, INTRA};
 use reference::format::Format;
-use reference::kind::{Kind, Standard};
+use reference::kind::{Kind, Size, Standard};
+use reference::lister::list;
 use reference::random::Random;
 use reference::writer::{self, Plain};
 
@@ -36,7 +37,7 @@ pub fn files(seed: u64, count: usize) -> Vec<File> {
         .into_iter()
         .enumerate()
         .flat_map(|(number, input)| {
-            let expected = super::before::list(&input).into_bytes();
+            let expected = list(Size::Qcif, &input).into_bytes();
             [
                 (format!("list-{number}.input"), input),
                 (format!("list-{number}.expected"), expected),

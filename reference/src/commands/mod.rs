@@ -1,7 +1,6 @@
 //! What each subcommand makes.
 
 pub mod annex_a;
-pub mod before;
 pub mod blocks;
 pub mod captures;
 pub mod deliver;

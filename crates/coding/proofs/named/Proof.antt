@@ -1,12 +1,21 @@
--- `coding::named` meets its contract: the lengths of one format. Assumes nothing.
+-- `coding::named` meets its contract: the lengths of one size. Assumes nothing.
 use borrow.Author.Needs.{needs}
-use Rattle.coding.specs.Kind.{codingOf}
+use mathlib.Core.Path.{ap, _∙_}
+use Rattle.layout.specs.Flat.{Flat, flat}
+use Rattle.coding.specs.Coding.{Coding}
+use Rattle.coding.proofs.ByKind.{coded-h261, coded-h263}
 use Rattle.coding.proofs.named.Statement.{statement}
 use Rattle.coding.proofs.named.Tie as tie
 
 returns : tie.Need-returns
-unfolding codingOf
-returns c = c .one-format .ensures
+returns c =
+    let start = c .before .before .before .before .before .before in
+    c .one-format .ensures ∙ ap (λ (x : Coding Flat). x .named (flat (start .args .head .now) (start .args .macroblocks .now) (start .args .levels .now))) (coded-h261 (c .before .enum-told .given .1))
+
+returns-2 : tie.Need-returns-2
+returns-2 c =
+    let start = c .before .before .before .before .before .before in
+    c .one-size .ensures ∙ ap (λ (x : Coding Flat). x .named (flat (start .args .head .now) (start .args .macroblocks .now) (start .args .levels .now))) (coded-h263 (c .before .enum-told2 .given .1))
 
 pub named-spec : {M : Type 1} → statement M
-named-spec = tie.close (tie.spec (λ c κs. search needs) returns)
+named-spec = tie.close (tie.spec (λ c. search needs) (λ c κs. search needs) (λ c. search needs) (λ c κs. search needs) returns returns-2)

@@ -3,7 +3,7 @@ use borrow.Author.Needs.{needs}
 use Rattle.refusals.specs.Number.{number, readTable}
 use Rattle.refusals.proofs.Told.{was-accepted, was-refused}
 use Rattle.layout.specs.Flat.{flat}
-use Rattle.coding.proofs.H261.{coding-lawful}
+use Rattle.coding.proofs.AllLawful.{coding-lawful}
 use Rattle.decoder.proofs.Steps.{drawn, untrue, unread}
 use Rattle.decoder.proofs.draw_in.Statement.{statement}
 use Rattle.decoder.proofs.draw_in.Tie as tie

@@ -10,7 +10,7 @@ use Rattle.h263_words.proofs.mvd.Tie as tie
 
 looked-up-requires : tie.Need-looked-up-requires
 looked-up-requires c κs =
-    let a = c .before .before .args in (omega arith, omega (arith, c .window .ensures, value-lt (a .bytes .now) (a .at) 24))
+    let a = c .before .before .args in omega (arith, c .window .ensures, value-lt (a .bytes .now) (a .at) 24)
 
 returns : tie.Need-returns
 returns c =

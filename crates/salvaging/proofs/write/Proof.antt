@@ -30,7 +30,13 @@ cast-renew : tie.Need-cast-renew
 cast-renew c = omega (arith, c .before .before .before .pre .numbered (c .if1 .taken))
 
 renew-requires : tie.Need-renew-requires
-renew-requires c κs = (c .before .before .before .before .pre .block-long, part-long (c .before .before .before .before .args .out .now) (512 * c .before .before .before .before .args .written) (omega (arith, c .before .before .before .before .pre .room)), c .before .before .before .before .pre .numbered (c .before .if1 .taken))
+renew-requires c κs =
+    let start = c .before .before .before .before in
+    record {
+      block-long = start .pre .block-long;
+      out-long = part-long (start .args .out .now) (512 * start .args .written) (omega (arith, start .pre .room));
+      numbered = start .pre .numbered (c .before .if1 .taken);
+    }
 
 returns : tie.Need-returns
 returns c =

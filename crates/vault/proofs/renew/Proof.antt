@@ -37,13 +37,13 @@ returns c =
     let start = at-copy .before .before .before .before in
     let block = start .args .block .now in
     c .before .before .write-sum .ensures
-    ∙ renewed-stored (start .args .clip) (start .args .picture) block (start .pre .0) _
-    (at-copy .copy .ensures .1 ∙ whole block (start .args .out .now) (start .pre .0) (start .pre .1))
+    ∙ renewed-stored (start .args .clip) (start .args .picture) block (start .pre .block-long) _
+    (at-copy .copy .ensures .1 ∙ whole block (start .args .out .now) (start .pre .block-long) (start .pre .out-long))
 
 same-length : tie.Need-same-length
 same-length c =
     let start = c .before .before .before .before .before .before .before .before .before .before in
-    ap length (returns c) ∙ renewed-length (start .args .clip) (start .args .picture) (start .args .block .now) (start .pre .0) ∙ sym (start .pre .1)
+    ap length (returns c) ∙ renewed-length (start .args .clip) (start .args .picture) (start .args .block .now) (start .pre .block-long) ∙ sym (start .pre .out-long)
 
 pub renew-spec : {M : Type 1} → statement M
 renew-spec =

@@ -16,67 +16,72 @@ abbrev vector : tie.Start → Vector
 vector s = byteVector (s .args .horizontal) (s .args .vertical)
 
 -- where the block lies
-module _ (c : tie.After-stride) where
+module _ (c : tie.After-place-from) where
   abbrev began : tie.Start
-  began = c .before .before .before .before .before
+  began = c .before .before .before .before .before .before
 
-  to : Corner (began .args .size) (began .args .plane) (began .args .y * 8) (began .args .x * 8) (c .before .place .result) (c .stride .result)
-  to = corner (began .args .size) (began .args .plane) (began .args .y * 8) (began .args .x * 8) (c .before .place .ensures) (c .stride .ensures)
+  to : Corner (began .args .size) (began .args .plane) (began .args .y * 8) (began .args .x * 8) (c .place-from .result) (c .before .stride .result)
+  to = corner (began .args .size) (began .args .plane) (began .args .y * 8) (began .args .x * 8) (c .place-from .ensures) (c .before .stride .ensures)
 
-mul-place : tie.Need-mul-place
-mul-place c = omega (arith, on-small (c .before .before .before .pre .on))
+start-requires : tie.Need-start-requires
+start-requires c κs = block-inside (c .before .before .before .pre .on) .plane
 
-mul-place-2 : tie.Need-mul-place-2
-mul-place-2 c = omega (arith, on-small (c .before .before .before .pre .on))
+mul-place-from : tie.Need-mul-place-from
+mul-place-from c = omega (arith, on-small (c .before .before .before .before .before .pre .on))
 
-place-requires : tie.Need-place-requires
-place-requires c κs = block-inside (c .before .before .before .pre .on)
+mul-place-from-2 : tie.Need-mul-place-from-2
+mul-place-from-2 c = omega (arith, on-small (c .before .before .before .before .before .pre .on))
+
+place-from-requires : tie.Need-place-from-requires
+place-from-requires c κs =
+    record { inside = block-inside (c .before .before .before .before .before .pre .on); starts = c .before .start .ensures; apart = c .stride .ensures }
 
 draw-requires : tie.Need-draw-requires
 draw-requires c κs =
-    let at-stride = c .before .before in
-    let s = began at-stride in
-    record { target = block-fits (to at-stride) (s .pre .on) (s .pre .store); coded = s .pre .coded }
+    let at-place = c .before .before in
+    let s = began at-place in
+    record { target = block-fits (to at-place) (s .pre .on) (s .pre .store); coded = s .pre .coded }
 
 returns : tie.Need-returns
 returns c =
     let at-if = c .before .before .before .before in
-    let at-stride = at-if .before in
-    let s = began at-stride in
+    let at-place = at-if .before in
+    let s = began at-place in
     intra-block (s .args .size) (s .args .plane) (s .args .y) (s .args .x) (vector s) (s .args .reference .now) (bytesFrom (s .args .levels .now) (s .args .at)) (s .args .quantiser)
-    (to at-stride) (s .pre .on) (at-if .if1 .taken) (c .before .before .draw .ensures)
+    (to at-place) (s .pre .on) (at-if .if1 .taken) (c .before .before .draw .ensures)
 
 predict-requires : tie.Need-predict-requires
 predict-requires c κs =
-    let at-stride = c .before .before in
-    let s = began at-stride in
+    let at-place = c .before .before in
+    let s = began at-place in
     record {
       reference = s .pre .reference;
       store = s .pre .store;
       on = s .pre .on;
       aims = s .pre .aims (c .before .if1 .left);
-      corner = at-stride .before .place .ensures;
-      apart = at-stride .stride .ensures;
+      corner = at-place .place-from .ensures;
+      starts = at-place .before .before .start .ensures;
+      apart = at-place .before .stride .ensures;
     }
 
 draw-requires-2 : tie.Need-draw-requires-2
 draw-requires-2 c κs =
     let at-predict = c .before .before .before in
-    let at-stride = at-predict .before .before .before in
-    let s = began at-stride in
-    record { target = fits-still (at-predict .predict .ensures .size) (block-fits (to at-stride) (s .pre .on) (s .pre .store)); coded = s .pre .coded }
+    let at-place = at-predict .before .before .before in
+    let s = began at-place in
+    record { target = fits-still (at-predict .predict .ensures .size) (block-fits (to at-place) (s .pre .on) (s .pre .store)); coded = s .pre .coded }
 
 returns-2 : tie.Need-returns-2
 returns-2 c =
     let at-predict = c .before .before .before .before .before .before in
     let at-if = at-predict .before .before in
-    let at-stride = at-if .before in
-    let s = began at-stride in
+    let at-place = at-if .before in
+    let s = began at-place in
     inter-block (s .args .size) (s .args .plane) (s .args .y) (s .args .x) (vector s) (s .args .reference .now) (bytesFrom (s .args .levels .now) (s .args .at)) (s .args .quantiser)
-    (to at-stride) (s .pre .on) (at-if .if1 .left) (at-predict .predict .ensures) (c .before .before .draw2 .ensures)
+    (to at-place) (s .pre .on) (at-if .if1 .left) (at-predict .predict .ensures) (c .before .before .draw2 .ensures)
 
 pub block-spec : {M : Type 1} → statement M
 block-spec =
     tie.close
-    (tie.spec mul-place mul-place-2 place-requires (λ c κs. search needs) draw-requires (λ c. search needs) returns
+    (tie.spec start-requires (λ c κs. search needs) mul-place-from mul-place-from-2 place-from-requires draw-requires (λ c. search needs) returns
     predict-requires draw-requires-2 (λ c. search needs) returns-2)

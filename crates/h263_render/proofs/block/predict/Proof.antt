@@ -18,12 +18,12 @@ vector s = byteVector (s .args .horizontal) (s .args .vertical)
 to : (s : tie.Start) → Corner (s .args .size) (s .args .plane) (s .args .y * 8) (s .args .x * 8) (s .args .to) (s .args .stride)
 to s = corner (s .args .size) (s .args .plane) (s .args .y * 8) (s .args .x * 8) (s .pre .corner) (s .pre .apart)
 
-module _ (c : tie.After-place) where
+module _ (c : tie.After-place-from) where
   abbrev began : tie.Start
   began = c .before .before .before .before .before
 
-  from : Corner (began .args .size) (began .args .plane) (c .before .before .half-place .result / 2) (c .before .half-place2 .result / 2) (c .place .result) (began .args .stride)
-  from = corner (began .args .size) (began .args .plane) (c .before .before .half-place .result / 2) (c .before .half-place2 .result / 2) (c .place .ensures) (began .pre .apart)
+  from : Corner (began .args .size) (began .args .plane) (c .before .before .half-place .result / 2) (c .before .half-place2 .result / 2) (c .place-from .result) (began .args .stride)
+  from = corner (began .args .size) (began .args .plane) (c .before .before .half-place .result / 2) (c .before .half-place2 .result / 2) (c .place-from .ensures) (began .pre .apart)
 
 mul-half-place : tie.Need-mul-half-place
 mul-half-place c = omega (arith, on-small (c .before .before .pre .on))
@@ -41,10 +41,14 @@ half-place-requires-2 c κs =
     let start = c .before .before .before in
     reach-moves (start .pre .aims .across) (omega arith) (omega (arith, on-small (start .pre .on)))
 
-place-requires : tie.Need-place-requires
-place-requires c κs =
+place-from-requires : tie.Need-place-from-requires
+place-from-requires c κs =
     let s = c .before .before .before .before in
-    moved-inside (s .args .size) (s .args .plane) (s .args .y) (s .args .x) (vector s) (c .before .half-place .ensures) (c .half-place2 .ensures) (s .pre .aims) (s .pre .on)
+    record {
+      inside = moved-inside (s .args .size) (s .args .plane) (s .args .y) (s .args .x) (vector s) (c .before .half-place .ensures) (c .half-place2 .ensures) (s .pre .aims) (s .pre .on);
+      starts = s .pre .starts;
+      apart = s .pre .apart;
+    }
 
 put-requires : tie.Need-put-requires
 put-requires c κs =
@@ -63,5 +67,5 @@ returns c =
 pub predict-spec : {M : Type 1} → statement M
 predict-spec =
     tie.close
-    (tie.spec mul-half-place half-place-requires mul-half-place-2 half-place-requires-2 place-requires put-requires
+    (tie.spec mul-half-place half-place-requires mul-half-place-2 half-place-requires-2 place-from-requires put-requires
     (λ c. search needs) returns)
