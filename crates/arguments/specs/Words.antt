@@ -1,11 +1,12 @@
--- What a program's words name: a size, a kind, a clip. Assumes nothing.
+-- What a program's words name: a size, a kind, a clip, a vault's size with or without a clip. Assumes nothing.
 use Prim.Native.Nat.{ℕ, _+_, _-_, _*_}
 use mathlib.Core.Bool.{Bool}
 use mathlib.Core.List.{List, [], _∷_}
-use lib.Dec.{leb}
+use lib.Dec.{eqb, leb}
 use lib.ListN.{take, drop}
 use Rattle.laws.specs.Choice.{pick, both}
 use Rattle.laws.specs.Lists.{alike}
+use Rattle.size.specs.declared.Size.{Size}
 use Rattle.size.specs.declared.Size.the-variants.{SubQcif, Qcif, Cif}
 use Rattle.vault.specs.declared.Standard.{Standard}
 use Rattle.vault.specs.declared.Standard.the-variants.{H261, H263}
@@ -15,9 +16,11 @@ use Rattle.coding.specs.Kind.{kindIn}
 use Rattle.arguments.specs.declared.SizeWord.{SizeWord}
 use Rattle.arguments.specs.declared.KindWord.{KindWord}
 use Rattle.arguments.specs.declared.ClipWord.{ClipWord}
+use Rattle.arguments.specs.declared.VaultWords.{VaultWords}
 use Rattle.arguments.specs.declared.SizeWord.the-variants as S
 use Rattle.arguments.specs.declared.KindWord.the-variants as K
 use Rattle.arguments.specs.declared.ClipWord.the-variants as C
+use Rattle.arguments.specs.declared.VaultWords.the-variants as W
 
 -- ---- a size
 -- "sqcif", "qcif", "cif"
@@ -66,3 +69,21 @@ clipAfter n (c ∷ cs) = pick (both (digit c) (leb (longer n c) 65535)) (clipAft
 unfoldable pub clipNamed : List ℕ → ClipWord
 clipNamed [] = C.Other
 clipNamed (c ∷ cs) = clipAfter 0 (c ∷ cs)
+
+-- ---- a vault's blocks: a size, and which clip of it
+abbrev pub sizeAlone : SizeWord → VaultWords
+sizeAlone (S.Names size) = W.Size size
+sizeAlone S.Other = W.Other
+
+-- no clip has number 0
+abbrev pub clipIn : Size → ClipWord → VaultWords
+clipIn size (C.Names clip) = pick (eqb clip 0) W.Other (W.Clip size clip)
+clipIn size C.Other = W.Other
+
+abbrev pub sizeWithClip : SizeWord → ClipWord → VaultWords
+sizeWithClip (S.Names size) clip = clipIn size clip
+sizeWithClip S.Other clip = W.Other
+
+-- how many words there are, the program's own name among them, and the two after it
+unfoldable pub vaultNamed : ℕ → List ℕ → List ℕ → VaultWords
+vaultNamed count size clip = pick (eqb count 2) (sizeAlone (sizeNamed size)) (pick (eqb count 3) (sizeWithClip (sizeNamed size) (clipNamed clip)) W.Other)

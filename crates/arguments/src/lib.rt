@@ -6,7 +6,7 @@ use text::same;
 use vault::Standard;
 ghost use mathlib.Core.Path.{_≡_};
 ghost use Prim.Native.Nat.{_+_, _-_, _*_, _≤_};
-ghost use Rattle.arguments.specs.Words.{sizeNamed, kindSized, kindNamed, digit, longer, clipNamed};
+ghost use Rattle.arguments.specs.Words.{sizeNamed, kindSized, kindNamed, digit, longer, clipNamed, sizeAlone, clipIn, sizeWithClip, vaultNamed};
 
 pub enum SizeWord {
     Names(Size),
@@ -20,6 +20,13 @@ pub enum KindWord {
 
 pub enum ClipWord {
     Names(u16),
+    Other,
+}
+
+// The words after the name of a program that takes a vault's blocks.
+pub enum VaultWords {
+    Size(Size),
+    Clip(Size, u16),
     Other,
 }
 
@@ -101,4 +108,50 @@ pub fn clip_named(word: &[u8]) -> ClipWord
         i += 1;
     }
     ClipWord::Names(n as u16)
+}
+
+fn size_alone(word: &[u8]) -> VaultWords
+    ensures { λ r. ⌜ r ≡ sizeAlone (sizeNamed (now (word .entry))) ⌝ }
+{
+    match size_named(word) {
+        SizeWord::Names(size) => VaultWords::Size(size),
+        SizeWord::Other => VaultWords::Other,
+    }
+}
+
+// No clip has number 0.
+fn clip_in(size: Size, word: &[u8]) -> VaultWords
+    ensures { λ r. ⌜ r ≡ clipIn size (clipNamed (now (word .entry))) ⌝ }
+{
+    match clip_named(word) {
+        ClipWord::Names(clip) => {
+            if clip == 0 {
+                return VaultWords::Other;
+            }
+            VaultWords::Clip(size, clip)
+        }
+        ClipWord::Other => VaultWords::Other,
+    }
+}
+
+fn size_with_clip(size: &[u8], clip: &[u8]) -> VaultWords
+    ensures { λ r. ⌜ r ≡ sizeWithClip (sizeNamed (now (size .entry))) (clipNamed (now (clip .entry))) ⌝ }
+{
+    match size_named(size) {
+        SizeWord::Names(named) => clip_in(named, clip),
+        SizeWord::Other => VaultWords::Other,
+    }
+}
+
+// How many words there are, the program's own name among them, and the two after it: a size alone, or a size and a clip from 1 to 65535.
+pub fn vault_named(count: usize, size: &[u8], clip: &[u8]) -> VaultWords
+    ensures { λ r. ⌜ r ≡ vaultNamed count (now (size .entry)) (now (clip .entry)) ⌝ }
+{
+    if count == 2 {
+        return size_alone(size);
+    }
+    if count == 3 {
+        return size_with_clip(size, clip);
+    }
+    VaultWords::Other
 }
