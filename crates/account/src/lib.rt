@@ -1,8 +1,10 @@
-// What a program's run met, and the status that it ends with; what it says of blocks that led to no picture; an input that fails told from its end.
+// What a program's run met, whether it goes on, and the status that it ends with; what it says of blocks that led to no picture; an input that fails told from its end.
+use libc::STDERR_FILENO;
 ghost use mathlib.Core.Path.{_≡_};
 ghost use Rattle.account.specs.Status.{doneStatus, statusOf};
 
 pub mod blocks;
+pub mod going;
 pub mod idle;
 pub mod input;
 pub mod remarks;
@@ -45,4 +47,15 @@ pub fn tell(end: End)
     ensures { λ r. ⌜ r ≡ tt ⌝ }
 {
     io::print_decimal(3, status(end) as u64);
+}
+
+// Which clip block n chose, on standard error; nothing where that is 0, which no clip is.
+pub fn say_chosen(n: u64, clip: u16)
+    ensures { λ r. ⌜ r ≡ tt ⌝ }
+{
+    if clip != 0 {
+        let mut text = [0u8; 128];
+        let count = remarks::chosen(n, clip, &mut text);
+        io::write_all(STDERR_FILENO, &text[..count]);
+    }
 }

@@ -8,9 +8,10 @@
 //     ./pagesorrel frames qcif 7 < clip.blocks > clip.y4m
 use account::End;
 use account::blocks::Met;
+use account::going::Going;
 use account::idle::Idle;
-use arguments::ClipWord;
-use arguments::SizeWord;
+use account::input::Next;
+use arguments::VaultWords;
 use libc::STDERR_FILENO;
 use libc::STDOUT_FILENO;
 use listing::Clip;
@@ -26,14 +27,6 @@ ghost use Rattle.io.specs.Counts.{Counts};
 ghost use Rattle.text.specs.Text.{over};
 ghost use Rattle.frames.specs.Header.{headerText};
 ghost use Rattle.frames.specs.Timing.{timingText};
-
-// Whether there is more to do, and if not, why.
-enum Going {
-    On,
-    Ended,
-    Unread,
-    Unwritten,
-}
 
 // Whether there is a frame for each tick, and the frames that were written between pictures.
 struct Timing {
@@ -212,23 +205,6 @@ fn say_short(n: u64) {
     io::write_all(STDERR_FILENO, &text[..count]);
 }
 
-fn say_chosen(n: u64, clip: u16) {
-    let mut text = [0u8; 128];
-    let count = account::remarks::chosen(n, clip, &mut text);
-    io::write_all(STDERR_FILENO, &text[..count]);
-}
-
-// Where no clip was asked for, the block that chose it.
-fn choose(n: u64, before: Clip, after: Clip) {
-    match before {
-        Clip::Unknown => match after {
-            Clip::Known(receiver) => say_chosen(n, receiver.clip),
-            _ => {}
-        },
-        _ => {}
-    }
-}
-
 fn say_idle(idle: Idle) {
     if idle.any {
         let mut text = [0u8; 128];
@@ -304,13 +280,6 @@ fn follow<'a>(
     }
 }
 
-fn written(all: bool) -> Going {
-    if all {
-        return Going::On;
-    }
-    Going::Unwritten
-}
-
 // What the block's answer leads to: frames up to its picture, then the picture and what is said. After a failed write nothing more is done.
 fn shown<'a>(
     n: u64,
@@ -330,7 +299,7 @@ fn shown<'a>(
         all = follow(n, answer, clip, idle, first, second);
     }
     Turn {
-        going: written(all),
+        going: account::going::written(all),
         clip,
         met: account::blocks::after(met, answer),
         idle: account::idle::after(idle, n, answer),
@@ -353,7 +322,7 @@ fn whole(
     let listed = listing::list(size, clip, block, collection, first, second);
     let answer = listed.answer;
     let next = listed.next;
-    choose(n, clip, next);
+    account::say_chosen(n, listing::chosen(clip, next));
     shown(n, clip, next, answer, met, idle, timing, first, second)
 }
 
@@ -381,17 +350,8 @@ fn one(
 ) -> Turn {
     let mut block = [0u8; 512];
     let filled = account::input::fill(&mut block);
-    if filled.failed {
-        return Turn {
-            going: Going::Unread,
-            clip,
-            met,
-            idle,
-            timing,
-        };
-    }
-    if filled.count == 512 {
-        return whole(
+    match account::input::next_of(filled) {
+        Next::Block => whole(
             n,
             size,
             clip,
@@ -402,17 +362,22 @@ fn one(
             collection,
             first,
             second,
-        );
-    }
-    if 0 < filled.count {
-        return short(n, clip, met, idle, timing);
-    }
-    Turn {
-        going: Going::Ended,
-        clip,
-        met,
-        idle,
-        timing,
+        ),
+        Next::Short => short(n, clip, met, idle, timing),
+        Next::End => Turn {
+            going: Going::Ended,
+            clip,
+            met,
+            idle,
+            timing,
+        },
+        Next::Unread => Turn {
+            going: Going::Unread,
+            clip,
+            met,
+            idle,
+            timing,
+        },
     }
 }
 
@@ -445,13 +410,6 @@ fn finish(going: Going, met: Met, idle: Idle, timing: Timing) -> End {
     }
 }
 
-fn goes_on(going: Going) -> bool {
-    match going {
-        Going::On => true,
-        _ => false,
-    }
-}
-
 // Nothing says that the input ends, so the loop counts its turns.
 fn all(
     size: Size,
@@ -469,9 +427,9 @@ fn all(
         repeated: 0,
         grey: 0,
     };
-    let mut going = written(begin(size));
+    let mut going = account::going::written(begin(size));
     let mut n: u64 = 0;
-    while n < 18446744073709551615 && goes_on(going) {
+    while n < 18446744073709551615 && account::going::goes_on(going) {
         let turn = one(n, size, clip, met, idle, timing, collection, first, second);
         clip = turn.clip;
         met = turn.met;
@@ -510,37 +468,13 @@ fn usage() -> End {
     End::Misnamed
 }
 
-// No clip has number 0.
-fn of_clip(size: Size, word: &[u8], timed: bool) -> End {
-    match arguments::clip_named(word) {
-        ClipWord::Names(clip) => {
-            if clip == 0 {
-                return usage();
-            }
-            run(size, Clip::Asked(clip), timed)
-        }
-        ClipWord::Other => usage(),
-    }
-}
-
-fn of_size(count: usize, word: &[u8], clip: &[u8], timed: bool) -> End {
-    match arguments::size_named(word) {
-        SizeWord::Names(size) => {
-            if count == 2 {
-                return run(size, Clip::Unknown, timed);
-            }
-            of_clip(size, clip, timed)
-        }
-        SizeWord::Other => usage(),
-    }
-}
-
 // How many words there are, the program's own name among them and `timed` not, and the two after it.
 fn of_words(count: usize, size: &[u8], clip: &[u8], timed: bool) -> End {
-    if 2 <= count && count <= 3 {
-        return of_size(count, size, clip, timed);
+    match arguments::vault_named(count, size, clip) {
+        VaultWords::Size(named) => run(named, Clip::Unknown, timed),
+        VaultWords::Clip(named, number) => run(named, Clip::Asked(number), timed),
+        VaultWords::Other => usage(),
     }
-    usage()
 }
 
 // The words without a last one that is `timed`.

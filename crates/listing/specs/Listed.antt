@@ -70,6 +70,17 @@ listed size K.Unknown block b = begun size K.Unknown block b
 listed size (K.Asked clip) block b = begun size (K.Asked clip) block b
 listed size (K.Known r) block b = stepped (step codingOf r block b)
 
+-- ---- the clip that a block chose, where none was asked for or known before it; 0, which no clip has, where it chose none
+abbrev pub knownNumber : Clip → ℕ
+knownNumber K.Unknown = 0
+knownNumber (K.Asked clip) = 0
+knownNumber (K.Known r) = r .clip
+
+abbrev pub chosenClip : Clip → Clip → ℕ
+chosenClip K.Unknown after = knownNumber after
+chosenClip (K.Asked clip) after = 0
+chosenClip (K.Known r) after = 0
+
 -- ---- the end: "end clip 7 in step at 0", "end clip 7 lost", "end clip 7 catching", "end none"
 unfoldable pub endOf : ℕ → Standing → List ℕ
 endOf clip standing = endClip ++ decimal clip ++ standingText standing ++ newline

@@ -21,7 +21,7 @@ ghost use Rattle.standing.specs.Receive.{buffers, step};
 ghost use Rattle.text.specs.Text.{over};
 ghost use Rattle.text.specs.Puts.{Puts};
 ghost use Rattle.listing.specs.Lines.{placeText, tickText, pictureText, textOf, lineText, shortText, standingText};
-ghost use Rattle.listing.specs.Listed.{openedKind, openedBy, foundBy, stays, came, stepped, begun, listed as listedOf, endOf, endText};
+ghost use Rattle.listing.specs.Listed.{openedKind, openedBy, foundBy, stays, came, stepped, begun, listed as listedOf, knownNumber, chosenClip, endOf, endText};
 
 // The clip that is listed: any, or one that was asked for by its number, until its first good block; then its receiver.
 pub enum Clip {
@@ -148,6 +148,30 @@ pub fn list(
         Clip::Known(receiver) => go_on(receiver, block, collection, first, second),
         Clip::Unknown => begin(size, clip, block, collection, first, second),
         Clip::Asked(_) => begin(size, clip, block, collection, first, second),
+    }
+}
+
+// ---- the clip that a block chose
+
+// The number of a clip that is known; 0, which no clip has, of none.
+fn known_number(clip: Clip) -> u16
+    ensures { λ r. ⌜ r ≡ knownNumber clip ⌝ }
+{
+    match clip {
+        Clip::Unknown => 0,
+        Clip::Asked(_) => 0,
+        Clip::Known(receiver) => receiver.clip,
+    }
+}
+
+// By the clip before the block and after it: where none was asked for or known, the one that is known now; else 0.
+pub fn chosen(before: Clip, after: Clip) -> u16
+    ensures { λ r. ⌜ r ≡ chosenClip before after ⌝ }
+{
+    match before {
+        Clip::Unknown => known_number(after),
+        Clip::Asked(_) => 0,
+        Clip::Known(_) => 0,
     }
 }
 

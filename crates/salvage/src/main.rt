@@ -7,6 +7,8 @@
 //
 //     ./pagesorrel salvage qcif 7 9 lossy.blocks > new.blocks 2> new.log
 use account::End;
+use account::going::Going;
+use account::input::Next;
 use arguments::ClipWord;
 use arguments::KindWord;
 use coding::Kind;
@@ -29,26 +31,10 @@ use standing::Receiver;
 
 // ---- the file
 
-// The list's next block, its end, or a read that failed.
-enum Next {
-    Block,
-    End,
-    Unread,
-}
-
-// A list that has grown or shrunk since its length was taken may end inside a block: that is no end of it.
+// A list that has grown or shrunk since its length was taken may end inside a block: that is no end of it, but a read that failed.
 fn read_block(file: i32, block: &mut [u8; 512]) -> Next {
     let filled = account::input::fill_from(file, block);
-    if filled.failed {
-        return Next::Unread;
-    }
-    if filled.count == 512 {
-        return Next::Block;
-    }
-    if filled.count == 0 {
-        return Next::End;
-    }
-    Next::Unread
+    account::input::next_of(filled)
 }
 
 // Where one has come to, the other goes on.
@@ -138,7 +124,7 @@ fn look_on(
             receiver,
             found: Found::No,
         },
-        Next::Unread => Search {
+        _ => Search {
             receiver,
             found: Found::Unread,
         },
@@ -286,14 +272,6 @@ fn say_all(entries: Entries) -> bool {
 
 // ---- a block
 
-// Whether there is more to do, and if not, why.
-enum Going {
-    On,
-    Ended,
-    Unread,
-    Unwritten,
-}
-
 // What the blocks so far have led to.
 struct State {
     receiver: Receiver,
@@ -434,14 +412,6 @@ fn one(
 ) -> Turn {
     let mut block = [0u8; 512];
     match read_block(file, &mut block) {
-        Next::End => Turn {
-            going: Going::Ended,
-            state: before,
-        },
-        Next::Unread => Turn {
-            going: Going::Unread,
-            state: before,
-        },
         Next::Block => whole(
             n,
             file,
@@ -456,6 +426,14 @@ fn one(
             first_ahead,
             second_ahead,
         ),
+        Next::End => Turn {
+            going: Going::Ended,
+            state: before,
+        },
+        _ => Turn {
+            going: Going::Unread,
+            state: before,
+        },
     }
 }
 
@@ -491,13 +469,6 @@ fn finish(going: Going, state: State) -> End {
     }
 }
 
-fn goes_on(going: Going) -> bool {
-    match going {
-        Going::On => true,
-        _ => false,
-    }
-}
-
 // Nothing says that the file ends, so the loop counts its turns.
 fn all(
     file: i32,
@@ -522,7 +493,7 @@ fn all(
     };
     let mut going = Going::On;
     let mut n: u64 = 0;
-    while n < 18446744073709551615 && goes_on(going) {
+    while n < 18446744073709551615 && account::going::goes_on(going) {
         let turn = one(
             n,
             file,
