@@ -31,7 +31,7 @@ use standing::Receiver;
 
 // ---- the file
 
-// A list that has grown or shrunk since its length was taken may end inside a block: that is no end of it, but a read that failed.
+// A list that has grown or shrunk since its length was taken may end inside a block: that is no end of it, and is taken like a read that failed.
 fn read_block(file: i32, block: &mut [u8; 512]) -> Next {
     let filled = account::input::fill_from(file, block);
     account::input::next_of(filled)
