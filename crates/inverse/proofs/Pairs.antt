@@ -27,7 +27,7 @@ pub asked : {f : List ℤ} {m : ℕ} {e : Lin} {r : ℤ} → SumOver f m e r →
 asked {m = m} s = subst (λ (z : ℤ). Low m z) (sym (s .is)) (s .small)
 
 pub half-asked : {f : List ℤ} {e a b : Lin} {p q r : ℤ} → SumOver f 186187776 e p → SumOver f 93093888 a q → SumOver f 93093888 b r → Half (toZ w32 (ofZ w32 p)) (toZ w32 (ofZ w32 q)) (toZ w32 (ofZ w32 r))
-half-asked s t u = record { evens = asked s; one = asked t; other = asked u }
+half-asked s t u = record { evens = asked s; added = asked t; taken = asked u }
 
 pub pair-is : (f : List ℤ) → SmallRow 16384 f → (i : ℕ) (k : ℤ) (j : ℕ) (l : ℤ) {r : ℤ} → T (ltb (natAbs k) 2842) → T (ltb (natAbs l) 2842) → mag r < 2 ^ 31 → r ≡ eval (entry f) (pairOf i k j l) → SumOver f 93093888 (pairOf i k j l) r
 pair-is f s i k j l t u ok e = record { is = result-is w32 ok e; small = low-add (low-mul (s i) (factor-low k t)) (low-mul (s j) (factor-low l u)) }
@@ -48,8 +48,5 @@ unfolding along
 sum-is f x e t s ok g = result-is w32 ok (g ∙ linear (entry f) 8 e (λ u. A u x) t s)
 
 module _ {f : List ℤ} (x : ℕ) {e a b : Lin} {p q r z : ℤ} (s : SumOver f 186187776 e p) (t : SumOver f 93093888 a q) (u : SumOver f 93093888 b r) where
-  pub near-is : T (inside 8 (less (plus e a) b)) → T (allB 8 (λ j. eqZ (coef (less (plus e a) b) j) (A j x))) → mag z < 2 ^ 31 → z ≡ toZ w32 (ofZ w32 p) +ℤ toZ w32 (ofZ w32 q) -ℤ toZ w32 (ofZ w32 r) → toZ w32 (ofZ w32 z) ≡ along f x
-  near-is i c ok g = sum-is f x (less (plus e a) b) i c ok (g ∙ (λ j. s .is j +ℤ t .is j -ℤ u .is j))
-
-  pub far-is : T (inside 8 (plus (less e a) b)) → T (allB 8 (λ j. eqZ (coef (plus (less e a) b) j) (A j x))) → mag z < 2 ^ 31 → z ≡ toZ w32 (ofZ w32 p) -ℤ toZ w32 (ofZ w32 q) +ℤ toZ w32 (ofZ w32 r) → toZ w32 (ofZ w32 z) ≡ along f x
-  far-is i c ok g = sum-is f x (plus (less e a) b) i c ok (g ∙ (λ j. s .is j -ℤ t .is j +ℤ u .is j))
+  pub joined-is : T (inside 8 (less (plus e a) b)) → T (allB 8 (λ j. eqZ (coef (less (plus e a) b) j) (A j x))) → mag z < 2 ^ 31 → z ≡ toZ w32 (ofZ w32 p) +ℤ toZ w32 (ofZ w32 q) -ℤ toZ w32 (ofZ w32 r) → toZ w32 (ofZ w32 z) ≡ along f x
+  joined-is i c ok g = sum-is f x (less (plus e a) b) i c ok (g ∙ (λ j. s .is j +ℤ t .is j -ℤ u .is j))

@@ -28,10 +28,10 @@ pub record Factors (i : ℕ) (k : ℤ) (j : ℕ) (l : ℤ) : Type 0 where
   pub second-low : Low 2841 l
 
 -- what the even places give of a line's sum, by two pairs, and two pairs of the odd ones: each small
-pub record Half (even a b : ℤ) : Type 0 where
+pub record Half (even more less : ℤ) : Type 0 where
   pub evens : Low 186187776 even
-  pub one : Low 93093888 a
-  pub other : Low 93093888 b
+  pub added : Low 93093888 more
+  pub taken : Low 93093888 less
 
 -- what the rows give
 abbrev pub rowsAt : List (List ℤ) → ℕ → ℕ → ℤ

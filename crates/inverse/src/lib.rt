@@ -42,19 +42,12 @@ fn difference(a: i32, b: i32) -> i32
     a - b
 }
 
-// A line's sum in its first half, by the even places and two pairs of odd ones, of which the second is taken off; and the one opposite.
-fn near(even: i32, a: i32, b: i32) -> i32
-    requires { ⌜ Half even a b ⌝ }
-    ensures { λ r. ⌜ r ≡ even +ℤ a -ℤ b ⌝ }
+// A line's sum at one place, by the even places, the pair of odd ones that is added there and the one that is taken off.
+fn joined(even: i32, more: i32, less: i32) -> i32
+    requires { ⌜ Half even more less ⌝ }
+    ensures { λ r. ⌜ r ≡ even +ℤ more -ℤ less ⌝ }
 {
-    even + a - b
-}
-
-fn far(even: i32, a: i32, b: i32) -> i32
-    requires { ⌜ Half even a b ⌝ }
-    ensures { λ r. ⌜ r ≡ even -ℤ a +ℤ b ⌝ }
-{
-    even - a + b
+    even + more - less
 }
 
 // A line's eight sums.
@@ -79,14 +72,14 @@ fn pass(f: [i16; 8]) -> [i32; 8]
     let a3 = pair(f, 1, 565, 3, -1609);
     let b3 = pair(f, 5, -2408, 7, 2841);
     [
-        near(e0, a0, b0),
-        near(e1, a1, b1),
-        near(e2, a2, b2),
-        near(e3, a3, b3),
-        far(e3, a3, b3),
-        far(e2, a2, b2),
-        far(e1, a1, b1),
-        far(e0, a0, b0),
+        joined(e0, a0, b0),
+        joined(e1, a1, b1),
+        joined(e2, a2, b2),
+        joined(e3, a3, b3),
+        joined(e3, b3, a3),
+        joined(e2, b2, a2),
+        joined(e1, b1, a1),
+        joined(e0, b0, a0),
     ]
 }
 

@@ -6,7 +6,7 @@ use Rattle.laws.specs.Linear.{Lin, plus, less}
 use Rattle.quantiser.proofs.Lines.{line-of}
 use Rattle.inverse.specs.Inverse.{A, cosine}
 use Rattle.inverse.specs.Passes.{pairOf}
-use Rattle.inverse.proofs.Pairs.{SumOver, asked, half-asked, pair-is, sum-over, difference-over, near-is, far-is}
+use Rattle.inverse.proofs.Pairs.{SumOver, asked, half-asked, pair-is, sum-over, difference-over, joined-is}
 use Rattle.inverse.proofs.pass.Statement.{statement}
 use Rattle.inverse.proofs.pass.Tie as tie
 
@@ -96,48 +96,48 @@ difference-requires c κs = (asked (outer-less (c .before .before)), asked (inne
 difference-requires-2 : tie.Need-difference-requires-2
 difference-requires-2 c κs = (asked (outer-plus (c .before .before .before)), asked (inner-plus (c .before .before .before)))
 
-near-requires : tie.Need-near-requires
-near-requires c κs = let t = c in half-asked (even0 (evens t)) (a0 t) (b0 t)
+joined-requires : tie.Need-joined-requires
+joined-requires c κs = let t = c in half-asked (even0 (evens t)) (a0 t) (b0 t)
 
-near-requires-2 : tie.Need-near-requires-2
-near-requires-2 c κs = let t = c .before in half-asked (even1 (evens t)) (a1 t) (b1 t)
+joined-requires-2 : tie.Need-joined-requires-2
+joined-requires-2 c κs = let t = c .before in half-asked (even1 (evens t)) (a1 t) (b1 t)
 
-near-requires-3 : tie.Need-near-requires-3
-near-requires-3 c κs = let t = c .before .before in half-asked (even2 (evens t)) (a2 t) (b2 t)
+joined-requires-3 : tie.Need-joined-requires-3
+joined-requires-3 c κs = let t = c .before .before in half-asked (even2 (evens t)) (a2 t) (b2 t)
 
-near-requires-4 : tie.Need-near-requires-4
-near-requires-4 c κs = let t = c .before .before .before in half-asked (even3 (evens t)) (a3 t) (b3 t)
+joined-requires-4 : tie.Need-joined-requires-4
+joined-requires-4 c κs = let t = c .before .before .before in half-asked (even3 (evens t)) (a3 t) (b3 t)
 
-far-requires : tie.Need-far-requires
-far-requires c κs = let t = c .before .before .before .before in half-asked (even3 (evens t)) (a3 t) (b3 t)
+joined-requires-5 : tie.Need-joined-requires-5
+joined-requires-5 c κs = let t = c .before .before .before .before in half-asked (even3 (evens t)) (b3 t) (a3 t)
 
-far-requires-2 : tie.Need-far-requires-2
-far-requires-2 c κs = let t = c .before .before .before .before .before in half-asked (even2 (evens t)) (a2 t) (b2 t)
+joined-requires-6 : tie.Need-joined-requires-6
+joined-requires-6 c κs = let t = c .before .before .before .before .before in half-asked (even2 (evens t)) (b2 t) (a2 t)
 
-far-requires-3 : tie.Need-far-requires-3
-far-requires-3 c κs = let t = c .before .before .before .before .before .before in half-asked (even1 (evens t)) (a1 t) (b1 t)
+joined-requires-7 : tie.Need-joined-requires-7
+joined-requires-7 c κs = let t = c .before .before .before .before .before .before in half-asked (even1 (evens t)) (b1 t) (a1 t)
 
-far-requires-4 : tie.Need-far-requires-4
-far-requires-4 c κs = let t = c .before .before .before .before .before .before .before in half-asked (even0 (evens t)) (a0 t) (b0 t)
+joined-requires-8 : tie.Need-joined-requires-8
+joined-requires-8 c κs = let t = c .before .before .before .before .before .before .before in half-asked (even0 (evens t)) (b0 t) (a0 t)
 
 returns : tie.Need-returns
 unfolding A cosine
 returns c =
     let t = c .before .before .before .before .before .before .before .before in
     line-of
-    (near-is 0 (even0 (evens t)) (a0 t) (b0 t) tt tt (c .before .before .before .before .before .before .before .near .ok) (c .before .before .before .before .before .before .before .near .ensures))
-    (near-is 1 (even1 (evens t)) (a1 t) (b1 t) tt tt (c .before .before .before .before .before .before .near2 .ok) (c .before .before .before .before .before .before .near2 .ensures))
-    (near-is 2 (even2 (evens t)) (a2 t) (b2 t) tt tt (c .before .before .before .before .before .near3 .ok) (c .before .before .before .before .before .near3 .ensures))
-    (near-is 3 (even3 (evens t)) (a3 t) (b3 t) tt tt (c .before .before .before .before .near4 .ok) (c .before .before .before .before .near4 .ensures))
-    (far-is 4 (even3 (evens t)) (a3 t) (b3 t) tt tt (c .before .before .before .far .ok) (c .before .before .before .far .ensures))
-    (far-is 5 (even2 (evens t)) (a2 t) (b2 t) tt tt (c .before .before .far2 .ok) (c .before .before .far2 .ensures))
-    (far-is 6 (even1 (evens t)) (a1 t) (b1 t) tt tt (c .before .far3 .ok) (c .before .far3 .ensures))
-    (far-is 7 (even0 (evens t)) (a0 t) (b0 t) tt tt (c .far4 .ok) (c .far4 .ensures))
+    (joined-is 0 (even0 (evens t)) (a0 t) (b0 t) tt tt (c .before .before .before .before .before .before .before .joined .ok) (c .before .before .before .before .before .before .before .joined .ensures))
+    (joined-is 1 (even1 (evens t)) (a1 t) (b1 t) tt tt (c .before .before .before .before .before .before .joined2 .ok) (c .before .before .before .before .before .before .joined2 .ensures))
+    (joined-is 2 (even2 (evens t)) (a2 t) (b2 t) tt tt (c .before .before .before .before .before .joined3 .ok) (c .before .before .before .before .before .joined3 .ensures))
+    (joined-is 3 (even3 (evens t)) (a3 t) (b3 t) tt tt (c .before .before .before .before .joined4 .ok) (c .before .before .before .before .joined4 .ensures))
+    (joined-is 4 (even3 (evens t)) (b3 t) (a3 t) tt tt (c .before .before .before .joined5 .ok) (c .before .before .before .joined5 .ensures))
+    (joined-is 5 (even2 (evens t)) (b2 t) (a2 t) tt tt (c .before .before .joined6 .ok) (c .before .before .joined6 .ensures))
+    (joined-is 6 (even1 (evens t)) (b1 t) (a1 t) tt tt (c .before .joined7 .ok) (c .before .joined7 .ensures))
+    (joined-is 7 (even0 (evens t)) (b0 t) (a0 t) tt tt (c .joined8 .ok) (c .joined8 .ensures))
 
 pub pass-spec : {M : Type 1} → statement M
 pass-spec =
     tie.close
     (tie.spec (λ c κs. search needs) (λ c κs. search needs) (λ c κs. search needs) (λ c κs. search needs) sum-requires sum-requires-2
     difference-requires difference-requires-2 (λ c κs. search needs) (λ c κs. search needs) (λ c κs. search needs)
-    (λ c κs. search needs) (λ c κs. search needs) (λ c κs. search needs) (λ c κs. search needs) (λ c κs. search needs) near-requires
-    near-requires-2 near-requires-3 near-requires-4 far-requires far-requires-2 far-requires-3 far-requires-4 returns)
+    (λ c κs. search needs) (λ c κs. search needs) (λ c κs. search needs) (λ c κs. search needs) (λ c κs. search needs) joined-requires
+    joined-requires-2 joined-requires-3 joined-requires-4 joined-requires-5 joined-requires-6 joined-requires-7 joined-requires-8 returns)
