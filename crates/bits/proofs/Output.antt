@@ -120,7 +120,7 @@ module _ {bits : List Bit} {s t : List ℕ} {c : ℕ} (w : WroteBits bits s 0 t 
     within : c ≤ 8 * length s
     within = omega arith
 
-    first : take (startedBytes (length bits)) t ≡ bytesOf (startedBytes (length bits)) bits
+    pub first : take (startedBytes (length bits)) t ≡ bytesOf (startedBytes (length bits)) bits
     first = ap (take (startedBytes (length bits))) (w .is ∙ ap (appendedBits s 0) (room-whole s 0 bits (omega (arith, counted, within)))) ∙ first-bytes bits s
 
     pub copy-within : (c + 7) / 8 ≤ length t

@@ -6,25 +6,23 @@ use Prim.Native.Nat.{ℕ}
 use lib.Dec.{T}
 use lib.ListN.{length}
 use Rattle.laws.proofs.Choice.{true-T}
-use Rattle.bits.specs.Output.{limitedOutput}
+use Rattle.bits.specs.Appended.{WroteBits}
 use Rattle.refusals.specs.Told.{Told, verdictOn, foundOr}
 use Rattle.size.specs.declared.Size.{Size}
-use Rattle.size.specs.Size.{limit, storeLength}
+use Rattle.size.specs.Size.{storeLength}
 use Rattle.h261_groups.specs.declared.Format.{Format}
 use Rattle.h261_groups.specs.Format.{sizeOf}
-use Rattle.layout.specs.Flat.{Flat}
+use Rattle.layout.specs.Flat.{Flat, zeros}
 use Rattle.coding.specs.declared.Kind.{Kind}
 use Rattle.coding.specs.declared.Kind.the-variants.{H261, H263}
 use Rattle.coding.specs.Coding.{Coding}
 use Rattle.coding.specs.H261.{h261}
 use Rattle.coding.specs.H263.{h263}
-use Rattle.coding.specs.Kind.{kindSize, codingOf, readsOf}
-use Rattle.coding.specs.Described.{BlankFor, Drawable}
+use Rattle.coding.specs.Kind.{kindSize, shapeOf, codingOf, readsOf}
+use Rattle.coding.specs.Described.{Drawable}
 use Rattle.h261_layers.specs.Grammar as G261
-use Rattle.h261_reader.specs.Described as R261
 use Rattle.h261_render.specs.Turn as T261
 use Rattle.h263_layers.specs.Grammar as G263
-use Rattle.h263_reader.specs.Described as R263
 use Rattle.h263_render.specs.Turn as T263
 
 -- ---- what a coding says, another says that it equals
@@ -35,11 +33,15 @@ module _ {c e : Coding Flat} (is : c ≡ e) where
   pub says-buffers : {d before zeros : Flat} (bytes : List ℕ) (n : ℕ) → zeros ≡ before → d ≡ foundOr zeros (c .read bytes n) → d ≡ foundOr before (e .read bytes n)
   says-buffers bytes n b h = h ∙ (λ i. foundOr (b i) (is i .read bytes n))
 
+  pub says-wrote : {s t : List ℕ} {r : ℕ} (d : Flat) → WroteBits (c .written d) s 0 t r → WroteBits (e .written d) s 0 t r
+  says-wrote {s} {t} {r} d w = subst (λ (x : Coding Flat). WroteBits (x .written d) s 0 t r) is w
+
   pub is-valid : (d : Flat) → e .valid d ≡ true → T (c .valid d)
   is-valid d v = true-T (c .valid d) (ap (λ (x : Coding Flat). x .valid d) is ∙ v)
 
-  pub says-output : {s t : Size} {after : List ℕ} (d : Flat) (out : List ℕ) → s ≡ t → after ≡ limitedOutput (limit s) (c .written d) out → after ≡ limitedOutput (limit t) (e .written d) out
-  says-output d out s h = h ∙ (λ i. limitedOutput (limit (s i)) (is i .written d) out)
+-- ---- zeros in a kind's lengths
+pub zeros-as : {k kind : Kind} {d : Flat} → k ≡ kind → d ≡ zeros (shapeOf k) → d ≡ zeros (shapeOf kind)
+zeros-as is e = e ∙ ap (λ (x : Kind). zeros (shapeOf x)) is
 
 -- ---- H.261
 module _ {k : Kind} {f : Format} (is : k ≡ H261 f) where
@@ -49,11 +51,6 @@ module _ {k : Kind} {f : Format} (is : k ≡ H261 f) where
 
   pub size-h261 : sizeOf f ≡ kindSize k
   size-h261 = sym (ap kindSize is)
-
-  pub blank-h261 : {head macroblocks levels : List ℕ} → BlankFor k head macroblocks levels → R261.Blank f head macroblocks levels
-  blank-h261 {head} {macroblocks} {levels} blank =
-      let b : BlankFor (H261 f) head macroblocks levels = subst (λ (x : Kind). BlankFor x head macroblocks levels) is blank in
-      record { head-blank = b .head-blank; ms-blank = b .ms-blank; ls-blank = b .ls-blank }
 
   pub reads-h261 : {reads : ℕ} (bytes : List ℕ) (n : ℕ) → reads ≡ length (G261.readWidths f bytes n) → reads ≡ readsOf k bytes n
   unfolding readsOf
@@ -72,11 +69,6 @@ module _ {k : Kind} {size : Size} (is : k ≡ H263 size) where
 
   pub size-h263 : size ≡ kindSize k
   size-h263 = sym (ap kindSize is)
-
-  pub blank-h263 : {head macroblocks levels : List ℕ} → BlankFor k head macroblocks levels → R263.Blank size head macroblocks levels
-  blank-h263 {head} {macroblocks} {levels} blank =
-      let b : BlankFor (H263 size) head macroblocks levels = subst (λ (x : Kind). BlankFor x head macroblocks levels) is blank in
-      record { head-blank = b .head-blank; ms-blank = b .ms-blank; ls-blank = b .ls-blank }
 
   pub reads-h263 : {reads : ℕ} (bytes : List ℕ) (n : ℕ) → reads ≡ length (G263.readWidths size bytes n) → reads ≡ readsOf k bytes n
   unfolding readsOf

@@ -22,8 +22,7 @@ use Rattle.fields.specs.Answer.{mapRead, found}
 use Rattle.h261_layers.specs.Grammar.{reading}
 use Rattle.h261_reader.specs.Described.{described}
 use Rattle.h261_reader.proofs.Verdicts.{accepted-valid}
-use Rattle.h261_writer.specs.Write.{pictureOf}
-use Rattle.h261_writer.specs.Output.{pictureBits}
+use Rattle.h261_writer.specs.Write.{pictureOf, pictureBits}
 use Rattle.bits.specs.Write.{Holds}
 use Rattle.h261_readback.specs.ReadBack.{ReadBack}
 use Rattle.h261_readback.proofs.ReadBack.{reads-back}

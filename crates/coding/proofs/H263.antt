@@ -21,8 +21,7 @@ use Rattle.h263_description.specs.Valid.{lengthsOf, validHead, valid}
 use Rattle.h263_description.specs.Fields.{refresh}
 use Rattle.h263_layers.specs.Grammar.{reading}
 use Rattle.h263_reader.specs.Described.{described}
-use Rattle.h263_writer.specs.Write.{pictureOf}
-use Rattle.h263_writer.specs.Output.{pictureBits}
+use Rattle.h263_writer.specs.Write.{pictureOf, pictureBits}
 use Rattle.h263_readback.specs.ReadBack.{ReadBack}
 use Rattle.h263_readback.proofs.ReadBack.{reads-back}
 use Rattle.h263_readback.proofs.Verdicts.{accepted-valid}

@@ -3,3 +3,4 @@ pub mod H263
 pub mod AllLawful
 pub mod Scratch
 mod ByKind
+mod ReadSteps

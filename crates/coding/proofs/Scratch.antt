@@ -1,15 +1,17 @@
--- Scratch for a description, by the size of its picture. Assumes nothing.
-use mathlib.Core.Path.{_≡_, sym, ap, subst}
-use Prim.Native.Nat.{ℕ, _≤_}
+-- Scratch for a description and for its bits, by the size of its picture. Assumes nothing.
+use mathlib.Core.Path.{_≡_, refl, sym, ap, subst, _∙_}
+use Prim.Native.Nat.{ℕ, _*_, _≤_}
 use native.Mathlib.Omega.{arith}
 use lib.ListN.{take, replicate}
-use Rattle.levels.proofs.Buffers.{zeros-part}
+use Rattle.levels.proofs.Buffers.{zeros-part, zeros-flat}
 use Rattle.size.specs.declared.Size.{Size}
-use Rattle.size.specs.Size.{limit}
+use Rattle.size.specs.Size.{limit, outputLength}
+use Rattle.size.proofs.Room.{output-most, limit-room}
+use Rattle.layout.specs.Flat.{flat, zeros}
 use Rattle.coding.specs.declared.Kind.{Kind}
 use Rattle.coding.specs.declared.Kind.the-variants.{H261, H263}
-use Rattle.coding.specs.Kind.{kindSize, headLengthOf, macroblocksLengthOf, levelsLengthOf}
-use Rattle.coding.specs.Described.{BlankFor, RoomIn}
+use Rattle.coding.specs.Kind.{kindSize, shapeOf, headLengthOf, macroblocksLengthOf, levelsLengthOf}
+use Rattle.coding.specs.Described.{RoomIn}
 use Rattle.h261_groups.specs.declared.Format.the-variants as F
 use Rattle.size.specs.declared.Size.the-variants as S
 
@@ -32,11 +34,16 @@ room-large (H263 S.Cif) = record { head-room = omega arith; macroblocks-room = o
 fits : {n m l : ℕ} → n ≡ l → l ≤ m → n ≤ m
 fits {m = m} e h = subst (λ (x : ℕ). x ≤ m) (sym e) h
 
-pub scratch-blank : (k : Kind) {head macroblocks levels h m l : ℕ} → RoomIn head macroblocks levels k → h ≡ headLengthOf k → m ≡ macroblocksLengthOf k → l ≡ levelsLengthOf k
-    → BlankFor k (take h (replicate head 0)) (take m (replicate macroblocks 0)) (take l (replicate levels 0))
-scratch-blank k {head} {macroblocks} {levels} room eh em el =
-    record {
-      head-blank = zeros-part head (fits eh (room .head-room)) eh;
-      ms-blank = zeros-part macroblocks (fits em (room .macroblocks-room)) em;
-      ls-blank = zeros-part levels (fits el (room .levels-room)) el;
-    }
+pub scratch-zeros : (k : Kind) {head macroblocks levels h m l : ℕ} → RoomIn head macroblocks levels k → h ≡ headLengthOf k → m ≡ macroblocksLengthOf k → l ≡ levelsLengthOf k
+    → flat (take h (replicate head 0)) (take m (replicate macroblocks 0)) (take l (replicate levels 0)) ≡ zeros (shapeOf k)
+scratch-zeros k {head} {macroblocks} {levels} room eh em el =
+    zeros-flat (shapeOf k) (zeros-part head (fits eh (room .head-room)) refl) eh (zeros-part macroblocks (fits em (room .macroblocks-room)) refl) em
+    (zeros-part levels (fits el (room .levels-room)) refl) el
+
+-- ---- scratch for a picture's bits
+pub limit-most : (k : Kind) → limit (kindSize k) ≤ 262144
+limit-most k = omega (arith, limit-room (kindSize k), output-most (kindSize k))
+
+-- it has room for the limit
+pub scratch-room : (k : Kind) {long : ℕ} → long ≡ outputLength (kindSize k) → limit (kindSize k) ≡ 8 * long
+scratch-room k e = limit-room (kindSize k) ∙ ap (λ (n : ℕ). 8 * n) (sym e)

@@ -4,7 +4,7 @@ use mathlib.Core.Bool.{Bool, true}
 use mathlib.Core.List.{List}
 use Prim.Native.Nat.{ℕ, _≤_}
 use lib.Dec.{eqb}
-use lib.ListN.{length, replicate}
+use lib.ListN.{length}
 use Rattle.laws.specs.Choice.{pick, both}
 use Rattle.refusals.specs.declared.Verdict.{Verdict}
 use Rattle.refusals.specs.declared.Written.{Written}
@@ -39,13 +39,7 @@ ReadLeaves k bytes n before left = left ≡ foundOr before (readOf k bytes n bef
 abbrev pub ReadCounts : Kind → List ℕ → ℕ → Flat → ℕ → Type 0
 ReadCounts k bytes n before reads = reads ≡ readCount k bytes n before
 
--- slices that are zeros in the kind's lengths
-pub record BlankFor (k : Kind) (head macroblocks levels : List ℕ) : Type 0 where
-  pub head-blank : head ≡ replicate (headLengthOf k) 0
-  pub ms-blank : macroblocks ≡ replicate (macroblocksLengthOf k) 0
-  pub ls-blank : levels ≡ replicate (levelsLengthOf k) 0
-
--- arrays of these lengths have room for them
+-- arrays of these lengths have room for a description of the kind
 pub record RoomIn (head macroblocks levels : ℕ) (k : Kind) : Type 0 where
   pub head-room : headLengthOf k ≤ head
   pub macroblocks-room : macroblocksLengthOf k ≤ macroblocks
@@ -77,6 +71,12 @@ bytesIn bits = bytesOf (startedBytes (length bits)) bits
 -- "and touches nothing after"; a picture above the limit touches nothing at all
 abbrev pub outputWith : Size → List Bit → List ℕ → List ℕ
 outputWith size bits out = limitedOutput (limit size) bits out
+
+-- a valid description, and scratch and an output of the named length
+pub record Writing (k : Kind) (d : Flat) (scratch out : ℕ) : Type 0 where
+  pub valid-is : codingOf k .valid d ≡ true
+  pub scratch-long : scratch ≡ outputLength (kindSize k)
+  pub out-long : out ≡ outputLength (kindSize k)
 
 -- a valid description, and an output of its named length
 pub record Writable (k : Kind) (d : Flat) (out : List ℕ) : Type 0 where

@@ -1,15 +1,13 @@
 -- H.261 as a coding: the grammar, the layout, the writer, the refresh rule and the samples of the crates below. Assumes nothing.
 use Prim.Native.Nat.{ℕ}
 use lib.ListN.{getD}
-use Rattle.laws.specs.Choice.{either}
 use Rattle.h261_groups.specs.declared.Format.{Format}
-use Rattle.h261_groups.specs.declared.Format.the-variants.{Qcif, Cif}
 use Rattle.h261_groups.specs.Format.{sizeOf}
 use Rattle.layout.specs.Flat.{Flat}
-use Rattle.h261_description.specs.Valid.{lengthsOf, valid}
+use Rattle.h261_description.specs.Valid.{oneFormat, valid}
 use Rattle.h261_description.specs.Fields.{refresh}
 use Rattle.h261_reader.specs.Described.{described}
-use Rattle.h261_writer.specs.Output.{pictureBits}
+use Rattle.h261_writer.specs.Write.{pictureBits}
 use Rattle.h261_render.specs.Sample.{rendered}
 use Rattle.fields.specs.Answer.{found}
 use Rattle.coding.specs.Coding.{Coding}
@@ -23,7 +21,7 @@ trOf d = getD (d .head) 0 0
 abbrev pub h261 : Format → Coding Flat
 h261 f = record {
   read = λ bytes n. found (described f bytes n);
-  named = λ d. either (lengthsOf Qcif d) (lengthsOf Cif d);
+  named = oneFormat;
   valid = valid f;
   refresh = refresh f;
   written = pictureBits f;

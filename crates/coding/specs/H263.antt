@@ -2,10 +2,10 @@
 use Rattle.size.specs.declared.Size.{Size}
 use Rattle.layout.specs.Flat.{Flat}
 use Rattle.fields.specs.Answer.{found}
-use Rattle.h263_description.specs.Valid.{valid}
+use Rattle.h263_description.specs.Valid.{oneSize, valid}
 use Rattle.h263_description.specs.Fields.{refresh}
 use Rattle.h263_reader.specs.Described.{described}
-use Rattle.h263_writer.specs.Output.{pictureBits, oneSize}
+use Rattle.h263_writer.specs.Write.{pictureBits}
 use Rattle.h263_render.specs.Sample.{rendered}
 use Rattle.coding.specs.Coding.{Coding}
 use Rattle.coding.specs.Lawful.{Lawful}

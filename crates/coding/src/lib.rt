@@ -1,6 +1,8 @@
 // What a clip is opened with, and what is done by it: a picture read, judged, written and drawn.
 use fields::PictureRead;
 use h261_groups::Format;
+use refusals::Reason;
+use refusals::Refusal;
 use refusals::Verdict;
 use refusals::Written;
 use size::Size;
@@ -9,9 +11,11 @@ ghost use mathlib.Core.Path.{_≡_};
 ghost use mathlib.Core.Bool.{true};
 ghost use lib.ListN.{length};
 ghost use Rattle.refusals.specs.Told.{toldVerdict, verdictOn, foundOr};
-ghost use Rattle.layout.specs.Flat.{flat};
-ghost use Rattle.coding.specs.Kind.{kindSize, kindStandard, kindIn, headLengthOf, macroblocksLengthOf, levelsLengthOf, codingOf, readsOf};
-ghost use Rattle.coding.specs.Described.{ReadSays, ReadLeaves, ReadCounts, WriteSays, WriteLeaves, BlankFor, outputWith, Writable, Drawable};
+ghost use Rattle.bits.specs.Appended.{WroteBits};
+ghost use Rattle.layout.specs.Flat.{flat, zeros};
+ghost use Rattle.layout.specs.Valid.{hasLengths, Lengths};
+ghost use Rattle.coding.specs.Kind.{kindSize, kindStandard, kindIn, shapeOf, headLengthOf, macroblocksLengthOf, levelsLengthOf, codingOf, readsOf};
+ghost use Rattle.coding.specs.Described.{ReadSays, ReadLeaves, ReadCounts, RoomIn, WriteSays, WriteLeaves, outputWith, Writing, Writable, Drawable};
 
 // A standard, with the size of its pictures.
 pub enum Kind {
@@ -88,30 +92,7 @@ pub fn levels_length(kind: Kind) -> usize
 
 // ---- a picture's bits to its description
 
-// The verdict of the rules. On acceptance the slices, lent as zeros, hold the description; on a refusal they are as they were.
-pub fn parse(
-    kind: Kind,
-    bytes: &[u8],
-    count: usize,
-    head: &mut [u8],
-    macroblocks: &mut [u8],
-    levels: &mut [u8],
-) -> Verdict
-    requires { ⌜ BlankFor kind (now head) (now macroblocks) (now levels) ⌝ }
-    ensures verdict { λ r. ⌜ toldVerdict r ≡ verdictOn (codingOf kind .read (now (bytes .entry)) count) ⌝ }
-    ensures buffers { λ _. ⌜ flat (now (head .exit)) (now (macroblocks .exit)) (now (levels .exit)) ≡ foundOr (flat (now (head .entry)) (now (macroblocks .entry)) (now (levels .entry))) (codingOf kind .read (now (bytes .entry)) count) ⌝ }
-{
-    match kind {
-        Kind::H261(format) => {
-            h261_reader::parse::parse(bytes, count, format, head, macroblocks, levels)
-        }
-        Kind::H263(size) => {
-            h263_reader::parse::parse(bytes, count, size, head, macroblocks, levels)
-        }
-    }
-}
-
-// The same, with how many fields and codewords were read.
+// The verdict of the rules, and how many fields and codewords were read. On acceptance the slices, lent as zeros, hold the description; on a refusal they are as they were.
 pub fn parse_counted(
     kind: Kind,
     bytes: &[u8],
@@ -120,22 +101,146 @@ pub fn parse_counted(
     macroblocks: &mut [u8],
     levels: &mut [u8],
 ) -> PictureRead
-    requires { ⌜ BlankFor kind (now head) (now macroblocks) (now levels) ⌝ }
+    requires { ⌜ flat (now head) (now macroblocks) (now levels) ≡ zeros (shapeOf kind) ⌝ }
     ensures verdict { λ r. ⌜ toldVerdict (r .verdict) ≡ verdictOn (codingOf kind .read (now (bytes .entry)) count) ⌝ }
     ensures buffers { λ _. ⌜ flat (now (head .exit)) (now (macroblocks .exit)) (now (levels .exit)) ≡ foundOr (flat (now (head .entry)) (now (macroblocks .entry)) (now (levels .entry))) (codingOf kind .read (now (bytes .entry)) count) ⌝ }
     ensures reads { λ r. ⌜ r .reads ≡ readsOf kind (now (bytes .entry)) count ⌝ }
 {
     match kind {
         Kind::H261(format) => {
-            h261_reader::parse::parse_counted(bytes, count, format, head, macroblocks, levels)
+            h261_reader::parse_counted(bytes, count, format, head, macroblocks, levels)
         }
         Kind::H263(size) => {
-            h263_reader::parse::parse_counted(bytes, count, size, head, macroblocks, levels)
+            h263_reader::parse_counted(bytes, count, size, head, macroblocks, levels)
         }
     }
 }
 
-// The same into buffers that hold anything: nothing is asked of them, and a refusal leaves them as they were.
+// The verdict alone.
+pub fn parse(
+    kind: Kind,
+    bytes: &[u8],
+    count: usize,
+    head: &mut [u8],
+    macroblocks: &mut [u8],
+    levels: &mut [u8],
+) -> Verdict
+    requires { ⌜ flat (now head) (now macroblocks) (now levels) ≡ zeros (shapeOf kind) ⌝ }
+    ensures verdict { λ r. ⌜ toldVerdict r ≡ verdictOn (codingOf kind .read (now (bytes .entry)) count) ⌝ }
+    ensures buffers { λ _. ⌜ flat (now (head .exit)) (now (macroblocks .exit)) (now (levels .exit)) ≡ foundOr (flat (now (head .entry)) (now (macroblocks .entry)) (now (levels .entry))) (codingOf kind .read (now (bytes .entry)) count) ⌝ }
+{
+    let read = parse_counted(kind, bytes, count, head, macroblocks, levels);
+    read.verdict
+}
+
+// ---- the same into buffers that hold anything: parsed in scratch, and copied once it is accepted
+
+fn read_in(
+    kind: Kind,
+    bytes: &[u8],
+    count: usize,
+    header: &mut [u8],
+    fields: &mut [u8],
+    coefficients: &mut [u8],
+    head: &mut [u8],
+    macroblocks: &mut [u8],
+    levels: &mut [u8],
+) -> PictureRead
+    requires { ⌜ (flat (now header) (now fields) (now coefficients) ≡ zeros (shapeOf kind)) × (Lengths (shapeOf kind) (flat (now head) (now macroblocks) (now levels))) ⌝ }
+    ensures verdict { λ r. ⌜ toldVerdict (r .verdict) ≡ verdictOn (codingOf kind .read (now (bytes .entry)) count) ⌝ }
+    ensures buffers { λ _. ⌜ flat (now (head .exit)) (now (macroblocks .exit)) (now (levels .exit)) ≡ foundOr (flat (now (head .entry)) (now (macroblocks .entry)) (now (levels .entry))) (codingOf kind .read (now (bytes .entry)) count) ⌝ }
+    ensures reads { λ r. ⌜ r .reads ≡ readsOf kind (now (bytes .entry)) count ⌝ }
+{
+    let read = parse_counted(kind, bytes, count, header, fields, coefficients);
+    let verdict = read.verdict;
+    match verdict {
+        Verdict::Refused(_) => read,
+        Verdict::Accepted => {
+            bytes::copy(header, head);
+            bytes::copy(fields, macroblocks);
+            bytes::copy(coefficients, levels);
+            read
+        }
+    }
+}
+
+// Scratch for QCIF and smaller.
+fn read_small(
+    kind: Kind,
+    bytes: &[u8],
+    count: usize,
+    head: &mut [u8],
+    macroblocks: &mut [u8],
+    levels: &mut [u8],
+) -> PictureRead
+    requires { ⌜ (RoomIn 14 396 38016 kind) × (Lengths (shapeOf kind) (flat (now head) (now macroblocks) (now levels))) ⌝ }
+    ensures verdict { λ r. ⌜ toldVerdict (r .verdict) ≡ verdictOn (codingOf kind .read (now (bytes .entry)) count) ⌝ }
+    ensures buffers { λ _. ⌜ flat (now (head .exit)) (now (macroblocks .exit)) (now (levels .exit)) ≡ foundOr (flat (now (head .entry)) (now (macroblocks .entry)) (now (levels .entry))) (codingOf kind .read (now (bytes .entry)) count) ⌝ }
+    ensures reads { λ r. ⌜ r .reads ≡ readsOf kind (now (bytes .entry)) count ⌝ }
+{
+    let mut header = [0u8; 14];
+    let mut fields = [0u8; 396];
+    let mut coefficients = [0u8; 38016];
+    let heads = head_length(kind);
+    let fours = macroblocks_length(kind);
+    let numbers = levels_length(kind);
+    read_in(
+        kind,
+        bytes,
+        count,
+        &mut header[..heads],
+        &mut fields[..fours],
+        &mut coefficients[..numbers],
+        head,
+        macroblocks,
+        levels,
+    )
+}
+
+// And for CIF, which has room for any size.
+fn read_large(
+    kind: Kind,
+    bytes: &[u8],
+    count: usize,
+    head: &mut [u8],
+    macroblocks: &mut [u8],
+    levels: &mut [u8],
+) -> PictureRead
+    requires { ⌜ (RoomIn 23 1584 152064 kind) × (Lengths (shapeOf kind) (flat (now head) (now macroblocks) (now levels))) ⌝ }
+    ensures verdict { λ r. ⌜ toldVerdict (r .verdict) ≡ verdictOn (codingOf kind .read (now (bytes .entry)) count) ⌝ }
+    ensures buffers { λ _. ⌜ flat (now (head .exit)) (now (macroblocks .exit)) (now (levels .exit)) ≡ foundOr (flat (now (head .entry)) (now (macroblocks .entry)) (now (levels .entry))) (codingOf kind .read (now (bytes .entry)) count) ⌝ }
+    ensures reads { λ r. ⌜ r .reads ≡ readsOf kind (now (bytes .entry)) count ⌝ }
+{
+    let mut header = [0u8; 23];
+    let mut fields = [0u8; 1584];
+    let mut coefficients = [0u8; 152064];
+    let heads = head_length(kind);
+    let fours = macroblocks_length(kind);
+    let numbers = levels_length(kind);
+    read_in(
+        kind,
+        bytes,
+        count,
+        &mut header[..heads],
+        &mut fields[..fours],
+        &mut coefficients[..numbers],
+        head,
+        macroblocks,
+        levels,
+    )
+}
+
+// Whether the three slices have the lengths of the kind's descriptions.
+fn has_lengths(kind: Kind, head: &[u8], macroblocks: &[u8], levels: &[u8]) -> bool
+    ensures { λ r. ⌜ r ≡ hasLengths (shapeOf kind) (flat (now (head .entry)) (now (macroblocks .entry)) (now (levels .entry))) ⌝ }
+{
+    match kind {
+        Kind::H261(format) => h261_validity::lengths(head, macroblocks, levels, format),
+        Kind::H263(size) => h263_validity::lengths(head, macroblocks, levels, size),
+    }
+}
+
+// Nothing is asked of the buffers, and a refusal leaves them as they were.
 pub fn read(
     kind: Kind,
     bytes: &[u8],
@@ -148,9 +253,20 @@ pub fn read(
     ensures buffers { λ _. ⌜ ReadLeaves kind (now (bytes .entry)) count (flat (now (head .entry)) (now (macroblocks .entry)) (now (levels .entry))) (flat (now (head .exit)) (now (macroblocks .exit)) (now (levels .exit))) ⌝ }
     ensures reads { λ r. ⌜ ReadCounts kind (now (bytes .entry)) count (flat (now (head .entry)) (now (macroblocks .entry)) (now (levels .entry))) (r .reads) ⌝ }
 {
-    match kind {
-        Kind::H261(format) => h261_reader::read(bytes, count, format, head, macroblocks, levels),
-        Kind::H263(size) => h263_reader::read(bytes, count, size, head, macroblocks, levels),
+    if !has_lengths(kind, head, macroblocks, levels) {
+        return PictureRead {
+            verdict: Verdict::Refused(Refusal {
+                reason: Reason::Length,
+                place: 0,
+            }),
+            reads: 0,
+        };
+    }
+    let size = size_of(kind);
+    match size {
+        Size::SubQcif => read_small(kind, bytes, count, head, macroblocks, levels),
+        Size::Qcif => read_small(kind, bytes, count, head, macroblocks, levels),
+        Size::Cif => read_large(kind, bytes, count, head, macroblocks, levels),
     }
 }
 
@@ -161,8 +277,8 @@ pub fn named(kind: Kind, head: &[u8], macroblocks: &[u8], levels: &[u8]) -> bool
     ensures { λ r. ⌜ r ≡ codingOf kind .named (flat (now (head .entry)) (now (macroblocks .entry)) (now (levels .entry))) ⌝ }
 {
     match kind {
-        Kind::H261(_) => h261_writer::one_format(head, macroblocks, levels),
-        Kind::H263(_) => h263_writer::one_size(head, macroblocks, levels),
+        Kind::H261(_) => h261_validity::one_format(head, macroblocks, levels),
+        Kind::H263(_) => h263_validity::one_size(head, macroblocks, levels),
     }
 }
 
@@ -210,21 +326,79 @@ pub fn modulus(kind: Kind) -> u32
 
 // ---- a description written and drawn
 
-// How many bits a valid description's picture has. They are in the output, unless they are above the limit.
-pub fn write_valid(
+// The bits of a valid description's picture from the output's first on, as far as it has room for them, and how many they are.
+pub fn append_picture(
     kind: Kind,
     head: &[u8],
     macroblocks: &[u8],
     levels: &[u8],
     out: &mut [u8],
 ) -> usize
+    requires { ⌜ codingOf kind .valid (flat (now head) (now macroblocks) (now levels)) ≡ true ⌝ }
+    ensures { λ r. ⌜ WroteBits (codingOf kind .written (flat (now (head .entry)) (now (macroblocks .entry)) (now (levels .entry)))) (now (out .entry)) 0 (now (out .exit)) r ⌝ }
+{
+    match kind {
+        Kind::H261(format) => h261_writer::append_picture(head, macroblocks, levels, format, out),
+        Kind::H263(size) => h263_writer::append_picture(head, macroblocks, levels, size, out),
+    }
+}
+
+// They are made in scratch that has room for the limit, and counted on where it ends, so that a picture above the limit touches nothing. Of a copied one the last started byte is
+// filled with zeros, and nothing after it is touched.
+fn write_in(
+    kind: Kind,
+    head: &[u8],
+    macroblocks: &[u8],
+    levels: &[u8],
+    scratch: &mut [u8],
+    out: &mut [u8],
+) -> usize
+    requires { ⌜ Writing kind (flat (now head) (now macroblocks) (now levels)) (length (now scratch)) (length (now out)) ⌝ }
+    ensures count { λ r. ⌜ r ≡ length (codingOf kind .written (flat (now (head .entry)) (now (macroblocks .entry)) (now (levels .entry)))) ⌝ }
+    ensures bytes { λ _. ⌜ now (out .exit) ≡ outputWith (kindSize kind) (codingOf kind .written (flat (now (head .entry)) (now (macroblocks .entry)) (now (levels .entry)))) (now (out .entry)) ⌝ }
+{
+    let count = append_picture(kind, head, macroblocks, levels, scratch);
+    let size = size_of(kind);
+    let most = size::limit(size);
+    if most < count {
+        return count;
+    }
+    let started = (count + 7) / 8;
+    bytes::copy(&scratch[..started], out);
+    count
+}
+
+// Scratch for QCIF and smaller.
+fn write_small(kind: Kind, head: &[u8], macroblocks: &[u8], levels: &[u8], out: &mut [u8]) -> usize
+    requires { ⌜ Writing kind (flat (now head) (now macroblocks) (now levels)) 8192 (length (now out)) ⌝ }
+    ensures count { λ r. ⌜ r ≡ length (codingOf kind .written (flat (now (head .entry)) (now (macroblocks .entry)) (now (levels .entry)))) ⌝ }
+    ensures bytes { λ _. ⌜ now (out .exit) ≡ outputWith (kindSize kind) (codingOf kind .written (flat (now (head .entry)) (now (macroblocks .entry)) (now (levels .entry)))) (now (out .entry)) ⌝ }
+{
+    let mut scratch = [0u8; 8192];
+    write_in(kind, head, macroblocks, levels, &mut scratch, out)
+}
+
+// And for CIF.
+fn write_large(kind: Kind, head: &[u8], macroblocks: &[u8], levels: &[u8], out: &mut [u8]) -> usize
+    requires { ⌜ Writing kind (flat (now head) (now macroblocks) (now levels)) 32768 (length (now out)) ⌝ }
+    ensures count { λ r. ⌜ r ≡ length (codingOf kind .written (flat (now (head .entry)) (now (macroblocks .entry)) (now (levels .entry)))) ⌝ }
+    ensures bytes { λ _. ⌜ now (out .exit) ≡ outputWith (kindSize kind) (codingOf kind .written (flat (now (head .entry)) (now (macroblocks .entry)) (now (levels .entry)))) (now (out .entry)) ⌝ }
+{
+    let mut scratch = [0u8; 32768];
+    write_in(kind, head, macroblocks, levels, &mut scratch, out)
+}
+
+// How many bits a valid description's picture has. They are in the output, unless they are above the limit.
+fn write_valid(kind: Kind, head: &[u8], macroblocks: &[u8], levels: &[u8], out: &mut [u8]) -> usize
     requires { ⌜ Writable kind (flat (now head) (now macroblocks) (now levels)) (now out) ⌝ }
     ensures count { λ r. ⌜ r ≡ length (codingOf kind .written (flat (now (head .entry)) (now (macroblocks .entry)) (now (levels .entry)))) ⌝ }
     ensures bytes { λ _. ⌜ now (out .exit) ≡ outputWith (kindSize kind) (codingOf kind .written (flat (now (head .entry)) (now (macroblocks .entry)) (now (levels .entry)))) (now (out .entry)) ⌝ }
 {
-    match kind {
-        Kind::H261(format) => h261_writer::write_valid(head, macroblocks, levels, format, out),
-        Kind::H263(size) => h263_writer::write_valid(head, macroblocks, levels, size, out),
+    let size = size_of(kind);
+    match size {
+        Size::SubQcif => write_small(kind, head, macroblocks, levels, out),
+        Size::Qcif => write_small(kind, head, macroblocks, levels, out),
+        Size::Cif => write_large(kind, head, macroblocks, levels, out),
     }
 }
 
@@ -233,10 +407,21 @@ pub fn write(kind: Kind, head: &[u8], macroblocks: &[u8], levels: &[u8], out: &m
     ensures { λ r. ⌜ WriteSays kind (flat (now (head .entry)) (now (macroblocks .entry)) (now (levels .entry))) (now (out .entry)) r ⌝ }
     ensures { λ r. ⌜ WriteLeaves kind (flat (now (head .entry)) (now (macroblocks .entry)) (now (levels .entry))) (now (out .entry)) (now (out .exit)) ⌝ }
 {
-    match kind {
-        Kind::H261(format) => h261_writer::write(head, macroblocks, levels, format, out),
-        Kind::H263(size) => h263_writer::write(head, macroblocks, levels, size, out),
+    let size = size_of(kind);
+    if !named(kind, head, macroblocks, levels) {
+        return refusals::not_written(Reason::Length);
     }
+    if out.len() != size::output_length(size) {
+        return refusals::not_written(Reason::Length);
+    }
+    if !valid(kind, head, macroblocks, levels) {
+        return refusals::not_written(Reason::Invalid);
+    }
+    let count = write_valid(kind, head, macroblocks, levels, out);
+    if size::limit(size) < count {
+        return refusals::not_written(Reason::AboveLimit);
+    }
+    Written::Bits(count)
 }
 
 // Every sample of the store is the one that the description gives over the reference.

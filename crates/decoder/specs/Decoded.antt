@@ -9,11 +9,10 @@ use Rattle.laws.specs.Choice.{pick, both, alike}
 use Rattle.size.specs.Size.{storeLength}
 use Rattle.refusals.specs.declared.Verdict.{Verdict}
 use Rattle.refusals.specs.Told.{numbersOf, Told, accepted, refusedBy, refused, toldVerdict, verdictOn, foundOr}
-use Rattle.layout.specs.Flat.{Flat}
+use Rattle.layout.specs.Flat.{Flat, flat, zeros}
 use Rattle.coding.specs.declared.Kind.{Kind}
 use Rattle.coding.specs.Coding.{Coding}
-use Rattle.coding.specs.Kind.{kindSize, codingOf}
-use Rattle.coding.specs.Described.{BlankFor}
+use Rattle.coding.specs.Kind.{kindSize, shapeOf, codingOf}
 use Rattle.decoder.specs.declared.Mark.{Mark}
 use Rattle.decoder.specs.declared.Mark.the-variants.{Absent, Refresh}
 use Rattle.decoder.specs.declared.Drawn.{Drawn}
@@ -81,5 +80,5 @@ pub record Drawing (k : Kind) (reference store : List ℕ) : Type 0 where
 
 -- and scratch for the description
 pub record Decodable (k : Kind) (head macroblocks levels reference store : List ℕ) : Type 0 where
-  pub blank : BlankFor k head macroblocks levels
+  pub blank : flat head macroblocks levels ≡ zeros (shapeOf k)
   pub drawing : Drawing k reference store

@@ -127,7 +127,7 @@ fn draw_large(
     reference: &[u8],
     store: &mut [u8],
 ) -> Drawn
-    requires { ⌜ Drawing kind (now reference) (now store) ⌝ }
+    requires { ⌜ (RoomIn 23 1584 152064 kind) × (Drawing kind (now reference) (now store)) ⌝ }
     ensures answer { λ r. ⌜ toldDrawn r ≡ markedTr kind mark (now (bytes .entry)) count ⌝ }
     ensures samples { λ _. ⌜ now (store .exit) ≡ foundOr (now (store .entry)) (markedStore kind mark (now (bytes .entry)) count (now (reference .entry))) ⌝ }
 {

@@ -14,7 +14,8 @@ use Rattle.bits.specs.Read.{fieldFrom}
 use Rattle.h261_groups.specs.declared.Format.the-variants.{Qcif}
 use Rattle.coding.specs.declared.Kind.{Kind}
 use Rattle.coding.specs.declared.Kind.the-variants.{H261}
-use Rattle.h261_reader.specs.Described.{zeros}
+use Rattle.layout.specs.Flat.{zeros}
+use Rattle.h261_description.specs.Value.{shape}
 use Rattle.h261_layers.specs.Grammar.{header, picture}
 use Rattle.demand1.specs.Order.{firstOf}
 use Rattle.demand1.specs.Rules.{readRules}
@@ -29,11 +30,11 @@ misnumbered-wrong p k bytes n before due numbers is says apart d = apart (same-n
 abbrev qcif : Kind
 qcif = H261 Qcif
 
-no-bits : firstOf (readRules qcif [] 0 (zeros Qcif)) ≡ refused 3 0
+no-bits : firstOf (readRules qcif [] 0 (zeros (shape Qcif))) ≡ refused 3 0
 unfolding picture header fieldFrom bitsIn number readTable
 no-bits = refl
 
-too-many : firstOf (readRules qcif [] 1 (zeros Qcif)) ≡ refused 2 0
+too-many : firstOf (readRules qcif [] 1 (zeros (shape Qcif))) ≡ refused 2 0
 too-many = refl
 
 renamed-number : (reason : Reason) (v : Verdict) (numbers : Numbers) → toldVerdict v ≡ refusedBy numbers
@@ -43,11 +44,11 @@ renamed-number reason (Refused why) numbers e = ap (λ (x : Numbers). refusedBy 
 
 module _ (p : Programs) (keeps : Keeps p) (reason : Reason) (d : Demand1 (namingOne reason p)) where
   -- where a refusal is due, its number is this one's
-  named : (n : ℕ) (numbers : Numbers) → firstOf (readRules qcif [] n (zeros Qcif)) ≡ refusedBy numbers → number reason ≡ numbers .number
+  named : (n : ℕ) (numbers : Numbers) → firstOf (readRules qcif [] n (zeros (shape Qcif))) ≡ refusedBy numbers → number reason ≡ numbers .number
   named n numbers due =
       ap (λ (x : Numbers). x .number) (same-numbers
-      (sym (renamed-number reason (p .read qcif [] n (zeros Qcif) .answer) numbers (keeps .read-says qcif [] n (zeros Qcif) ∙ reader-due qcif [] n (zeros Qcif) ∙ due))
-      ∙ d .reads qcif [] n (zeros Qcif) .due ∙ due))
+      (sym (renamed-number reason (p .read qcif [] n (zeros (shape Qcif)) .answer) numbers (keeps .read-says qcif [] n (zeros (shape Qcif)) ∙ reader-due qcif [] n (zeros (shape Qcif)) ∙ due))
+      ∙ d .reads qcif [] n (zeros (shape Qcif)) .due ∙ due))
 
 pub naming-one-wrong : NamingOneWrong
 naming-one-wrong p keeps reason d = let z : _≡_ {A = ℕ} 3 2 = sym (named p keeps reason d 0 (untabled 3 0) no-bits) ∙ named p keeps reason d 1 (untabled 2 0) too-many in omega arith

@@ -6,14 +6,9 @@ use Prim.Native.Nat.{ℕ, _+_, _*_, _/_, _%_, _≤_, _<_}
 use native.Mathlib.Omega.{arith}
 use borrow.Author.Tests.{lt-ltb, le-ltb, ltb-false}
 use lib.Dec.{T, ltb}
-use denote.Enum.Declared.{tagOf}
 use Rattle.laws.specs.Choice.{either}
-use Rattle.refusals.specs.declared.Refusal.{Refusal}
-use Rattle.refusals.specs.declared.Verdict.{Verdict}
-use Rattle.refusals.specs.declared.Verdict.the-variants.{Accepted, Refused}
-use Rattle.refusals.proofs.Verdict.{the-type as verdict-type}
+use Rattle.refusals.specs.declared.Verdict.the-variants.{Accepted}
 use Rattle.refusals.specs.Told.{toldVerdict, verdictOn, foundOr}
-use Rattle.refusals.proofs.Told.{told-apart}
 use Rattle.bits.specs.Bits.{bitsLeft}
 use Rattle.bits.specs.Places.{counted}
 use Rattle.bits.specs.Read.{ReadIn, Read, got, refused, endless}
@@ -61,29 +56,3 @@ module _ {A : Type 0} (z : A) {x : ReadIn counted A} {y : Read A} {k : ℕ} (is 
 
   pub answers-laid : (s : List ℕ) (n : ℕ) (r : PlaceRead) (d : A) → leaving s n r d ≡ x → (p : Place) → r ≡ At p → Answers z y k (record { verdict = Accepted; reads = p .reads }) d
   answers-laid s n r d v p e = answers (record { verdict = Accepted; reads = p .reads }) d (got d (bitsLeft s n (p .bit)) p) (sym (is-place s n d r p v e)) refl refl refl
-
--- ---- copied on acceptance alone
-pub accepted-tag : (v : Verdict) → tagOf verdict-type v ≡ 0 → v ≡ Accepted
-accepted-tag Accepted t = refl
-accepted-tag (Refused r) t = absurd (omega arith)
-
-module _ {A : Type 0} (y : Read A) (v : Verdict) (w : toldVerdict v ≡ verdictOn (found y)) where
-  pub accepted-found : (z before d : A) → v ≡ Accepted → d ≡ foundOr z (found y) → d ≡ foundOr before (found y)
-  accepted-found z before d a b = by y w b
-    where
-      by : (y : Read A) → toldVerdict v ≡ verdictOn (found y) → d ≡ foundOr z (found y) → d ≡ foundOr before (found y)
-      by (got e bs at) w b = b
-      by (refused r) w b = absurd (told-apart (sym (ap toldVerdict a) ∙ w))
-      by endless w b = absurd (told-apart (sym (ap toldVerdict a) ∙ w))
-
-  pub refused-found : (before : A) → tagOf verdict-type v ≡ 1 → before ≡ foundOr before (found y)
-  refused-found before t = on v t refl
-    where
-      by : (r : Refusal) → v ≡ Refused r → (y : Read A) → toldVerdict v ≡ verdictOn (found y) → before ≡ foundOr before (found y)
-      by r a (got e bs at) w = absurd (told-apart (sym w ∙ ap toldVerdict a))
-      by r a (refused q) w = refl
-      by r a endless w = refl
-
-      on : (u : Verdict) → tagOf verdict-type u ≡ 1 → v ≡ u → before ≡ foundOr before (found y)
-      on Accepted t a = absurd (omega arith)
-      on (Refused r) t a = by r a y w

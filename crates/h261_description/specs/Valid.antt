@@ -5,7 +5,7 @@ use mathlib.Core.Bool.{Bool}
 use mathlib.Core.List.{List}
 use lib.Dec.{leb, eqb}
 use lib.ListN.{getD, drop}
-use Rattle.laws.specs.Choice.{pick, both, opposite}
+use Rattle.laws.specs.Choice.{pick, both, either, opposite}
 use Rattle.h261_words.specs.Words.{isIntra, isMC, hasMQUANT, hasCBP}
 use Rattle.h261_groups.specs.Format.{formatBit, groupNumbers}
 use Rattle.h261_description.specs.Vector.{inRange, inPicture}
@@ -14,6 +14,7 @@ use Rattle.layout.specs.Numbers.{all, isZero, isQuantiser, isLevel, codesFirst}
 use Rattle.layout.specs.Valid.{everyMacroblock, everyGroup, hasLengths}
 use Rattle.h261_description.specs.Value.{shape}
 use Rattle.h261_groups.specs.declared.Format.{Format}
+use Rattle.h261_groups.specs.declared.Format.the-variants.{Qcif, Cif}
 
 -- the vector rules: both components in -15..15, and the samples in the picture. What precedes it doesn't matter: every such vector can be sent
 abbrev pub validVector : Format → ℕ → ℕ → List ℕ → Bool
@@ -45,6 +46,10 @@ validGroups f = everyGroup 33 (validMacroblock f)
 -- the lengths of a format's description
 abbrev pub lengthsOf : Format → Flat → Bool
 lengthsOf f = hasLengths (shape f)
+
+-- those of one format's or the other's
+abbrev pub oneFormat : Flat → Bool
+oneFormat d = either (lengthsOf Qcif d) (lengthsOf Cif d)
 
 -- "A description has TR, PTYPE bits 1 to 3, the format, GQUANTs"
 abbrev pub validHead : Format → List ℕ → Bool

@@ -14,8 +14,7 @@ use Rattle.h261_description.specs.Value.{laidPicture, pictureIn}
 use Rattle.h261_description.proofs.Pictured.{picture-proper}
 use Rattle.h261_description.proofs.Relaid.{laid-back}
 use Rattle.h261_layers.specs.Grammar.{picture, reading}
-use Rattle.h261_writer.specs.Write.{pictureOf}
-use Rattle.h261_writer.specs.Output.{pictureBits}
+use Rattle.h261_writer.specs.Write.{pictureOf, pictureBits}
 use Rattle.h261_readback.proofs.Pictures.{back-picture}
 use Rattle.h261_readback.specs.ReadBack.{PictureReadBack, ReadsBack, WrittenOnce}
 

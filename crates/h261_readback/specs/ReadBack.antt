@@ -13,8 +13,7 @@ use Rattle.layout.specs.Flat.{Flat}
 use Rattle.h261_description.specs.Valid.{valid}
 use Rattle.h261_description.specs.Proper.{Proper}
 use Rattle.h261_layers.specs.Grammar.{reading}
-use Rattle.h261_writer.specs.Write.{pictureOf}
-use Rattle.h261_writer.specs.Output.{pictureBits}
+use Rattle.h261_writer.specs.Write.{pictureOf, pictureBits}
 use Rattle.bits.specs.Write.{Holds}
 
 abbrev pub PictureReadBack : Type 0

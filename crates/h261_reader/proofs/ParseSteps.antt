@@ -20,14 +20,14 @@ use Rattle.size.specs.Size.{limit}
 use Rattle.h261_groups.specs.Format.{formatBit, groupCount, groupNumbers, sizeOf}
 use Rattle.h261_groups.specs.declared.Format.{Format}
 use Rattle.h261_groups.specs.declared.Format.the-variants.{Qcif, Cif}
-use Rattle.layout.specs.Flat.{Flat, putGroups, flat}
+use Rattle.layout.specs.Flat.{Flat, putGroups, flat, zeros}
 use Rattle.h261_description.specs.Value.{laidPicture, shape}
 use Rattle.fields.specs.Answer.{mapRead, leaving, placeOf, pairStopped, refusedPicture}
 use Rattle.fields.specs.declared.PictureRead.{PictureRead}
 use Rattle.fields.proofs.PictureAnswer.{Answers, not-above, answers-refused, answers-laid}
 use Rattle.h261_layers.specs.Answer.{asHeader}
 use Rattle.h261_layers.specs.Grammar.{header, groupsRead, picture, readWidths}
-use Rattle.h261_reader.specs.Described.{Blank, described, zeros}
+use Rattle.h261_reader.specs.Described.{described}
 use Rattle.h261_reader.proofs.Counted.{describedCounted, described-uncounted, described-count-is}
 use Rattle.fields.specs.declared.PairRead.{PairRead}
 use Rattle.fields.specs.declared.PairRead.the-variants.{Got, Refused as NoHeader}
@@ -81,22 +81,22 @@ module _ (f : Format) (s : List ℕ) (n : ℕ) (a : Bool) (w : a ≡ either (ltb
         described-bits e ∙ rw (header-is tr ptype p d)
         (map-done (laidPicture f) (λ gs. record { tr = tr; ptype = ptype; groups = gs }) (groupsRead f (groupNumbers f) (bitsLeft s n (p .bit)) p))
 
-    pub groups-described : {tr ptype : ℕ} {p : Place} {bit : ℕ} {c m l : List ℕ} {x : ReadIn counted Flat} → h ≡ Got tr ptype p → bit ≡ formatBit f → Blank f c m l
+    pub groups-described : {tr ptype : ℕ} {p : Place} {bit : ℕ} {c m l : List ℕ} {x : ReadIn counted Flat} → h ≡ Got tr ptype p → bit ≡ formatBit f → flat c m l ≡ zeros (shape f)
         → x ≡ mapRead (putGroups (shape f) 0 (flat (set (set (set c 0 tr) 1 ptype) 2 bit) m l)) (groupsRead f (groupNumbers f) (bitsLeft s n (p .bit)) p) → x ≡ describedCounted f s n
     groups-described {tr} {ptype} {p} {bit} {c} d b blank z =
         let hd : set (set (set c 0 tr) 1 ptype) 2 bit ≡ tr ∷ ptype ∷ formatBit f ∷ replicate (groupCount f) 0
-        = cleared (groupCount f) tr ptype bit c (blank .head-blank) ∙ ap (λ (y : ℕ). tr ∷ ptype ∷ y ∷ replicate (groupCount f) 0) b in
-        z ∙ (λ i. mapRead (putGroups (shape f) 0 (flat (hd i) (blank .ms-blank i) (blank .ls-blank i))) (groupsRead f (groupNumbers f) (bitsLeft s n (p .bit)) p))
+        = cleared (groupCount f) tr ptype bit c (ap (λ (d : Flat). d .head) blank) ∙ ap (λ (y : ℕ). tr ∷ ptype ∷ y ∷ replicate (groupCount f) 0) b in
+        z ∙ (λ i. mapRead (putGroups (shape f) 0 (flat (hd i) (blank i .macroblocks) (blank i .levels))) (groupsRead f (groupNumbers f) (bitsLeft s n (p .bit)) p))
         ∙ sym (described-groups tr ptype p d)
 
 -- ---- the answers
 module _ (f : Format) (s : List ℕ) (n : ℕ) where
   -- refused, with the buffers as they were or cleared
-  pub refused-blank : {x : Stopped} {r : PictureRead} {a b c : List ℕ} → describedCounted f s n ≡ refused x → r ≡ refusedPicture x → Blank f a b c
-      → Answers (zeros f) (described f s n) (length (readWidths f s n)) r (flat a b c)
-  refused-blank e d blank = answers-refused (zeros f) (described-uncounted f s n) (described-count-is f s n) e d (λ i. flat (blank .head-blank i) (blank .ms-blank i) (blank .ls-blank i))
+  pub refused-blank : {x : Stopped} {r : PictureRead} {a b c : List ℕ} → describedCounted f s n ≡ refused x → r ≡ refusedPicture x → flat a b c ≡ zeros (shape f)
+      → Answers (zeros (shape f)) (described f s n) (length (readWidths f s n)) r (flat a b c)
+  refused-blank e d blank = answers-refused (zeros (shape f)) (described-uncounted f s n) (described-count-is f s n) e d blank
 
   -- accepted, and laid out
   pub read-laid : (r : PlaceRead) (d : Flat) → leaving s n r d ≡ describedCounted f s n → (p : Place) → r ≡ At p
-      → Answers (zeros f) (described f s n) (length (readWidths f s n)) (record { verdict = Accepted; reads = p .reads }) d
-  read-laid r d v p e = answers-laid (zeros f) (described-uncounted f s n) (described-count-is f s n) s n r d v p e
+      → Answers (zeros (shape f)) (described f s n) (length (readWidths f s n)) (record { verdict = Accepted; reads = p .reads }) d
+  read-laid r d v p e = answers-laid (zeros (shape f)) (described-uncounted f s n) (described-count-is f s n) s n r d v p e

@@ -51,7 +51,7 @@ use Rattle.fields.proofs.Meaning.{was-got, onward}
 use Rattle.fields.proofs.Told.{within-next}
 use Rattle.h261_layers.proofs.MacroblockWhole.{vector-kept}
 use Rattle.h261_layers.proofs.MacroblockSteps.{opened}
-use Rattle.h261_reader.specs.Described.{Lengths}
+use Rattle.layout.specs.Valid.{Lengths}
 use Rattle.h261_reader.proofs.MacroblocksTurn.{MacroblocksSoFar, macroblocks-first, macroblocks-refused, macroblocks-ended, macroblocks-stuffed, macroblocks-inside, macroblocks-more}
 use Rattle.h261_reader.proofs.GroupsTurn.{macroblocksAt, quantised, GroupsSoFar, groups-done, groups-head, groups-inside, groups-more}
 
@@ -276,13 +276,13 @@ left-as {s = s} {n} h a b c d e = record {
   yes = λ l. (λ i. got (flat (a i) (b i) (c i)) (bitsLeft s n (d i .bit)) (d i)) ∙ h .yes l;
 }
 
-module _ {start : ReadIn counted Flat} {s : List ℕ} {n : ℕ} {f : Format} {head₀ ms₀ ls₀ head ms ls : List ℕ} {g : ℕ} {p : Place} (lengths : Lengths f head₀ ms₀ ls₀) (h : PictureSoFar start s n f head ms ls g p) where
+module _ {start : ReadIn counted Flat} {s : List ℕ} {n : ℕ} {f : Format} {head₀ ms₀ ls₀ head ms ls : List ℕ} {g : ℕ} {p : Place} (lengths : Lengths (shape f) (flat head₀ ms₀ ls₀)) (h : PictureSoFar start s n f head ms ls g p) where
   out-refused : (head′ ms′ ls′ : List ℕ) (z : Place) (r : Stopped) → g < groupCount f → length head′ ≡ length head → length ms′ ≡ length ms → length ls′ ≡ length ls → refused r ≡ start
       → Left start s n (groupCount f) g head₀ ms₀ ls₀ head′ ms′ ls′ z r
   out-refused head′ ms′ ls′ z r l a b c e = record {
-    head-long = a ∙ h .head-long ∙ sym (lengths .head-long);
-    ms-long = b ∙ h .ms-long ∙ sym (lengths .ms-long);
-    ls-long = c ∙ h .ls-long ∙ sym (lengths .ls-long);
+    head-long = a ∙ h .head-long ∙ sym (lengths .head-length);
+    ms-long = b ∙ h .ms-long ∙ sym (lengths .macroblocks-length);
+    ls-long = c ∙ h .ls-long ∙ sym (lengths .levels-length);
     no = λ m. e;
     yes = λ m. absurd (omega arith);
   }
@@ -302,9 +302,9 @@ module _ {start : ReadIn counted Flat} {s : List ℕ} {n : ℕ} {f : Format} {he
   -- after the last group
   pub out-done : (r : Stopped) → groupCount f ≤ g → Left start s n (groupCount f) g head₀ ms₀ ls₀ head ms ls p r
   out-done r l = record {
-    head-long = h .head-long ∙ sym (lengths .head-long);
-    ms-long = h .ms-long ∙ sym (lengths .ms-long);
-    ls-long = h .ls-long ∙ sym (lengths .ls-long);
+    head-long = h .head-long ∙ sym (lengths .head-length);
+    ms-long = h .ms-long ∙ sym (lengths .macroblocks-length);
+    ls-long = h .ls-long ∙ sym (lengths .levels-length);
     no = λ m. absurd (omega arith);
     yes = λ m. picture-done h l;
   }

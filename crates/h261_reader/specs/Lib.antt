@@ -1,4 +1,3 @@
 pub mod Described
-pub mod ReadOf
 pub mod Verdict
 pub mod ListOfReads

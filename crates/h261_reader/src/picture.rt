@@ -23,7 +23,7 @@ ghost use Rattle.fields.specs.Answer.{mapRead, leaving};
 ghost use Rattle.h261_description.specs.Value.{shape};
 ghost use Rattle.h261_layers.specs.Ready.{Reading};
 ghost use Rattle.h261_layers.specs.Grammar.{groupsRead};
-ghost use Rattle.h261_reader.specs.Described.{Lengths};
+ghost use Rattle.layout.specs.Valid.{Lengths};
 
 // The groups of a picture from the first one's GN on. The first refusal ends the whole picture, from inside any group.
 pub fn groups(
@@ -36,7 +36,7 @@ pub fn groups(
     macroblocks: &mut [u8],
     levels: &mut [u8],
 ) -> PlaceRead
-    requires { ⌜ (Reading (now tables) (now bytes) count at) × (Lengths format (now head) (now macroblocks) (now levels)) ⌝ }
+    requires { ⌜ (Reading (now tables) (now bytes) count at) × (Lengths (shape format) (flat (now head) (now macroblocks) (now levels))) ⌝ }
     ensures { λ r. ⌜ leaving (now (bytes .entry)) count r (flat (now (head .exit)) (now (macroblocks .exit)) (now (levels .exit))) ≡ mapRead (putGroups (shape format) 0 (flat (now (head .entry)) (now (macroblocks .entry)) (now (levels .entry)))) (groupsRead format (groupNumbers format) (bitsLeft (now (bytes .entry)) count (at .bit)) at) ⌝ }
 {
     let all = h261_groups::order::group_count(format);

@@ -5,7 +5,7 @@ ghost use Prim.Native.Nat.{_+_, _*_, _≤_};
 ghost use lib.ListN.{length, drop};
 ghost use Rattle.h261_groups.specs.Format.{macroblocksLength, levelsLength, groupNumbers};
 ghost use Rattle.layout.specs.Numbers.{all, isQuantiser};
-ghost use Rattle.h261_description.specs.Valid.{lengthsOf, validHead, validMacroblocks, validGroups, valid as isValid};
+ghost use Rattle.h261_description.specs.Valid.{lengthsOf, oneFormat, validHead, validMacroblocks, validGroups, valid as isValid};
 ghost use Rattle.layout.specs.Flat.{flat};
 ghost use Rattle.h261_validity.specs.Ready.{GroupReady};
 
@@ -23,6 +23,16 @@ pub fn lengths(head: &[u8], macroblocks: &[u8], levels: &[u8], format: Format) -
         return false;
     }
     levels.len() == h261_groups::levels_length(format)
+}
+
+// Whether the three slices have the lengths of one format's description.
+pub fn one_format(head: &[u8], macroblocks: &[u8], levels: &[u8]) -> bool
+    ensures { λ r. ⌜ r ≡ oneFormat (flat (now (head .entry)) (now (macroblocks .entry)) (now (levels .entry))) ⌝ }
+{
+    if lengths(head, macroblocks, levels, Format::Qcif) {
+        return true;
+    }
+    lengths(head, macroblocks, levels, Format::Cif)
 }
 
 // Whether every byte from the third on is a quantiser.

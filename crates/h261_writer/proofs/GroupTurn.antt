@@ -10,7 +10,6 @@ use lib.Seq.{drop-drop, getD-drop, getD-take}
 use Rattle.laws.specs.Choice.{both}
 use Rattle.laws.proofs.Choice.{both-left, both-right}
 use Rattle.laws.proofs.Lists.{drop-on}
-use Rattle.h261_writer.specs.Output.{pictureBits}
 use Rattle.bits.specs.Bits.{Bit, bitsOf}
 use Rattle.bits.specs.Appended.{FieldFits, WroteBits, CountablePlace}
 use Rattle.bits.proofs.Appended.{wrote-none, wrote-as, wrote-then, next-countable, CountableParts}
@@ -27,7 +26,7 @@ use Rattle.layout.specs.Numbers.{all, isQuantiser}
 use Rattle.layout.specs.Valid.{everyMacroblock, everyGroup}
 use Rattle.h261_description.specs.Valid.{validMacroblock, validMacroblocks, validGroups, lengthsOf, validHead, valid}
 use Rattle.layout.proofs.Levels.{all-index, gathers-take}
-use Rattle.h261_writer.specs.Write.{macroblockOf, macroblocksOf, groupOf, groupsOf, pictureOf}
+use Rattle.h261_writer.specs.Write.{macroblockOf, macroblocksOf, groupOf, groupsOf, pictureOf, pictureBits}
 use Rattle.h261_writer.specs.Sound.{NearComponent, SoundMacroblock, SoundGroup, beforeIn, groupIn}
 use Rattle.h261_writer.specs.Asked.{MacroblockAsked, MacroblocksAsked, GroupAsked}
 use Rattle.layout.proofs.Turns.{part-rest, part-length, piece-length}

@@ -2,4 +2,3 @@ pub mod Longest
 pub mod BlockTurn
 pub mod MacroblockSteps
 pub mod GroupTurn
-pub mod WriteSteps

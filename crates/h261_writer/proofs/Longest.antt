@@ -26,9 +26,8 @@ use Rattle.h261_description.specs.Vector.{Before, preceding, atStart}
 use Rattle.h261_description.specs.Value.{pictureIn, beforeNext}
 use Rattle.bits.specs.Write.{bitsIf}
 use Rattle.layout.specs.Pattern.{patternOf}
-use Rattle.h261_writer.specs.Write.{coefficientsOf, blockOf, blocksOf, componentBits, vectorBits, macroblockOf, macroblocksOf, groupOf, groupsOf, pictureOf}
+use Rattle.h261_writer.specs.Write.{coefficientsOf, blockOf, blocksOf, componentBits, vectorBits, macroblockOf, macroblocksOf, groupOf, groupsOf, pictureOf, pictureBits}
 use Rattle.h261_writer.specs.Sound.{groupIn}
-use Rattle.h261_writer.specs.Output.{pictureBits}
 
 -- ---- each table's codewords are short
 short₁ : T (shortWords (table1 .entries))

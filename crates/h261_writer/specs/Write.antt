@@ -12,9 +12,10 @@ use Rattle.h261_words.specs.Tables.{table1, table2, table3, table4, endOfBlock,
 use Rattle.h261_words.specs.Words.{isIntra, isMC, hasMQUANT, hasCBP, tcoeffOf}
 use Rattle.h261_groups.specs.Format.{formatBit, groupNumbers}
 use Rattle.layout.specs.Value.{Vector, Block, Macroblock, Group}
+use Rattle.layout.specs.Flat.{Flat}
 use Rattle.layout.specs.Pattern.{patternOf}
 use Rattle.h261_description.specs.Vector.{Before, atStart, preceding}
-use Rattle.h261_description.specs.Value.{Picture, beforeNext}
+use Rattle.h261_description.specs.Value.{Picture, beforeNext, pictureIn}
 use Rattle.h261_groups.specs.declared.Format.{Format}
 
 -- ---- blocks
@@ -70,3 +71,7 @@ pictureOf f p =
     ++ (bitsOf 5 (p .tr)
     ++ (bitsOf 6 (p .ptype * 8 + formatBit f * 4 + 0b11)
     ++ (bitsOf 1 0 ++ groupsOf (groupNumbers f) (p .groups))))
+
+-- the bits of the picture that a description describes
+unfoldable pub pictureBits : Format → Flat → List Bit
+pictureBits f d = pictureOf f (pictureIn d)

@@ -9,8 +9,7 @@ ghost use Rattle.h261_groups.specs.Format.{groupNumbers};
 ghost use Rattle.h261_words.specs.Lookup.{Tables};
 ghost use Rattle.layout.specs.Flat.{groupsIn, flat};
 ghost use Rattle.h261_description.specs.Valid.{valid as isValid};
-ghost use Rattle.h261_writer.specs.Write.{groupsOf};
-ghost use Rattle.h261_writer.specs.Output.{pictureBits};
+ghost use Rattle.h261_writer.specs.Write.{groupsOf, pictureBits};
 ghost use Rattle.h261_writer.specs.Asked.{GroupsAsked};
 
 fn groups(

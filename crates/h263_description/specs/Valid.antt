@@ -6,9 +6,10 @@ use mathlib.Core.Bool.{Bool}
 use mathlib.Core.List.{List}
 use lib.Dec.{leb, eqb}
 use lib.ListN.{getD, drop}
-use Rattle.laws.specs.Choice.{pick, both}
+use Rattle.laws.specs.Choice.{pick, both, either}
 use Rattle.size.specs.Place.{macroblocksAcross}
 use Rattle.size.specs.declared.Size.{Size}
+use Rattle.size.specs.declared.Size.the-variants.{SubQcif, Qcif, Cif}
 use Rattle.h263_words.specs.Words.{isIntra, isInter, hasDQUANT, isDQUANT}
 use Rattle.layout.specs.Flat.{Flat, vectorIn}
 use Rattle.layout.specs.Numbers.{all, within, isZero, isQuantiser, isLevel, codesFirst}
@@ -52,6 +53,10 @@ validGroups size intra = everyGroup (macroblocksAcross size) (validMacroblock si
 -- the lengths of a size's description
 abbrev pub lengthsOf : Size → Flat → Bool
 lengthsOf size = hasLengths (shape size)
+
+-- those of one of the three sizes
+abbrev pub oneSize : Flat → Bool
+oneSize d = either (lengthsOf SubQcif d) (either (lengthsOf Qcif d) (lengthsOf Cif d))
 
 -- "GQUANT, 1..31 where a header stands and 0 where none does. The first group's is always 0."
 abbrev pub validGquants : List ℕ → Bool

@@ -13,8 +13,7 @@ use Rattle.h263_description.specs.Value.{Picture, laidPicture, pictureIn}
 use Rattle.h263_description.proofs.Pictured.{picture-proper}
 use Rattle.h263_description.proofs.Relaid.{laid-back}
 use Rattle.h263_layers.specs.Grammar.{ended, picture, reading}
-use Rattle.h263_writer.specs.Write.{pictureOf}
-use Rattle.h263_writer.specs.Output.{pictureBits}
+use Rattle.h263_writer.specs.Write.{pictureOf, pictureBits}
 use Rattle.h263_readback.specs.ReadBack.{PictureReadBack, ReadsBack, WrittenOnce}
 use Rattle.h263_readback.proofs.Pictures.{picture-back}
 

@@ -15,8 +15,7 @@ use Rattle.h263_description.specs.Value.{Picture, laidPicture, pictureIn}
 use Rattle.h263_description.specs.Valid.{valid}
 use Rattle.h263_description.specs.Proper.{Proper}
 use Rattle.h263_layers.specs.Grammar.{ended, picture, reading}
-use Rattle.h263_writer.specs.Write.{pictureOf}
-use Rattle.h263_writer.specs.Output.{pictureBits}
+use Rattle.h263_writer.specs.Write.{pictureOf, pictureBits}
 
 -- ---- a picture
 -- from any place, whatever follows: the picture that was written, and then the end, or 13 there

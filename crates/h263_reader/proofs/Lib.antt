@@ -2,6 +2,4 @@ pub mod Vectors
 pub mod RowTurn
 pub mod PictureTurn
 pub mod Counted
-pub mod Blank
 pub mod ParseSteps
-pub mod ReadSteps

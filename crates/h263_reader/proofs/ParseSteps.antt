@@ -32,7 +32,7 @@ use Rattle.size.specs.declared.Size.the-variants.{SubQcif, Qcif, Cif}
 use Rattle.size.specs.Size.{limit}
 use Rattle.size.specs.Place.{macroblocksDown}
 use Rattle.layout.specs.Value.{Group}
-use Rattle.layout.specs.Flat.{Flat, flat, putGroups}
+use Rattle.layout.specs.Flat.{Flat, flat, putGroups, zeros}
 use Rattle.h263_description.specs.Value.{Picture, formatNumber, shape, groupNumbers, laidPicture}
 use Rattle.h263_description.specs.Fields.{isIntraType}
 use Rattle.h263_layers.specs.declared.Header as D
@@ -41,8 +41,8 @@ use Rattle.h263_layers.specs.declared.HeaderRead.the-variants.{Got, Refused as 
 use Rattle.h263_layers.specs.Answer.{headerIn, asHeader}
 use Rattle.h263_layers.specs.Grammar.{Header, header, groupsRead, ended, picture, readWidths}
 use Rattle.h263_layers.proofs.HeaderReads.{HeaderCounts, header-counts}
-use Rattle.h263_reader.specs.Described.{Blank, afterHeader, described, zeros}
-use Rattle.h263_reader.specs.ReadOf.{endedAt}
+use Rattle.h263_reader.specs.Described.{afterHeader, described}
+use Rattle.h263_reader.specs.Described.{endedAt}
 use Rattle.h263_reader.proofs.Counted.{describedCounted, described-uncounted, described-count-is}
 
 -- ---- N
@@ -94,14 +94,14 @@ module _ (size : Size) (h : Header) where
   abbrev cover : Flat → Flat
   cover d = flat (h .tr ∷ h .ptype ∷ formatNumber size ∷ h .type ∷ h .pquant ∷ replicate (macroblocksDown size) 0) (d .macroblocks) (d .levels)
 
-  groups-ended : (x : ReadIn counted (List Group)) → next (mapRead (putGroups (shape size) 0 (cover (zeros size))) x) ended ≡ mapRead (laidPicture size) (next x (λ groups. ended (whole groups)))
+  groups-ended : (x : ReadIn counted (List Group)) → next (mapRead (putGroups (shape size) 0 (cover (zeros (shape size)))) x) ended ≡ mapRead (laidPicture size) (next x (λ groups. ended (whole groups)))
   unfolding laidPicture
   groups-ended (got groups [] p) = refl
   groups-ended (got groups (b ∷ bs) p) = refl
   groups-ended (refused r) = refl
   groups-ended endless = refl
 
-  pub picture-laid : (s : List ℕ) (n : ℕ) (at : Place) (r x : PlaceRead) (number : ℕ) {a b c : List ℕ} (a′ b′ c′ : List ℕ) → x ≡ endedAt n r → number ≡ formatNumber size → Blank size a b c
+  pub picture-laid : (s : List ℕ) (n : ℕ) (at : Place) (r x : PlaceRead) (number : ℕ) {a b c : List ℕ} (a′ b′ c′ : List ℕ) → x ≡ endedAt n r → number ≡ formatNumber size → flat a b c ≡ zeros (shape size)
       → leaving s n r (flat a′ b′ c′)
       ≡ mapRead (putGroups (shape size) 0 (flat (set (set (set (set (set a 0 (h .tr)) 1 (h .ptype)) 2 number) 3 (h .type)) 4 (h .pquant)) b c))
       (groupsRead size (isIntraType (h .type)) (groupNumbers size) [] (bitsLeft s n (at .bit)) at)
@@ -109,11 +109,11 @@ module _ (size : Size) (h : Header) where
   picture-laid s n at r x number {a} {b} {c} a′ b′ c′ is e blank w =
       let groups = groupsRead {P = counted} size (isIntraType (h .type)) (groupNumbers size) [] (bitsLeft s n (at .bit)) at in
       let head : set (set (set (set (set a 0 (h .tr)) 1 (h .ptype)) 2 number) 3 (h .type)) 4 (h .pquant) ≡ h .tr ∷ h .ptype ∷ formatNumber size ∷ h .type ∷ h .pquant ∷ replicate (macroblocksDown size) 0
-      = cleared (macroblocksDown size) (h .tr) (h .ptype) number (h .type) (h .pquant) a (blank .head-blank)
+      = cleared (macroblocksDown size) (h .tr) (h .ptype) number (h .type) (h .pquant) a (ap (λ (d : Flat). d .head) blank)
       ∙ ap (λ (y : ℕ). h .tr ∷ h .ptype ∷ y ∷ h .type ∷ h .pquant ∷ replicate (macroblocksDown size) 0) e in
       ap (λ (y : PlaceRead). leaving s n y (flat a′ b′ c′)) is
       ∙ leaving-ended s n r (flat a′ b′ c′)
-      ∙ ap (λ (x : ReadIn counted Flat). next x ended) (w ∙ (λ i. mapRead (putGroups (shape size) 0 (flat (head i) (blank .ms-blank i) (blank .ls-blank i))) groups))
+      ∙ ap (λ (x : ReadIn counted Flat). next x ended) (w ∙ (λ i. mapRead (putGroups (shape size) 0 (flat (head i) (blank i .macroblocks) (blank i .levels))) groups))
       ∙ groups-ended groups
 
 -- ---- the header
@@ -158,12 +158,12 @@ module _ (size : Size) (s : List ℕ) (n : ℕ) (a : Bool) (w : a ≡ either (lt
 -- ---- the answers
 module _ (size : Size) (s : List ℕ) (n : ℕ) where
   -- refused, with the buffers as they were or cleared
-  pub refused-blank : {x : Stopped} {r : PictureRead} {a b c : List ℕ} → describedCounted size s n ≡ refused x → r ≡ refusedPicture x → Blank size a b c
-      → Answers (zeros size) (described size s n) (length (readWidths size s n)) r (flat a b c)
+  pub refused-blank : {x : Stopped} {r : PictureRead} {a b c : List ℕ} → describedCounted size s n ≡ refused x → r ≡ refusedPicture x → flat a b c ≡ zeros (shape size)
+      → Answers (zeros (shape size)) (described size s n) (length (readWidths size s n)) r (flat a b c)
   refused-blank e d blank =
-      answers-refused (zeros size) (described-uncounted size s n) (described-count-is size s n) e d (λ i. flat (blank .head-blank i) (blank .ms-blank i) (blank .ls-blank i))
+      answers-refused (zeros (shape size)) (described-uncounted size s n) (described-count-is size s n) e d blank
 
   -- accepted, and laid out
   pub read-laid : (r : PlaceRead) (d : Flat) → leaving s n r d ≡ describedCounted size s n → (p : Place) → r ≡ At p
-      → Answers (zeros size) (described size s n) (length (readWidths size s n)) (record { verdict = Accepted; reads = p .reads }) d
-  read-laid r d v p e = answers-laid (zeros size) (described-uncounted size s n) (described-count-is size s n) s n r d v p e
+      → Answers (zeros (shape size)) (described size s n) (length (readWidths size s n)) (record { verdict = Accepted; reads = p .reads }) d
+  read-laid r d v p e = answers-laid (zeros (shape size)) (described-uncounted size s n) (described-count-is size s n) s n r d v p e

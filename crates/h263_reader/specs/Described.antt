@@ -2,29 +2,23 @@
 use Prim.Native.Nat.{ℕ}
 use mathlib.Core.Path.{_≡_}
 use mathlib.Core.List.{List, []}
+use lib.Dec.{ltb}
 use lib.ListN.{length, replicate}
-use Rattle.bits.specs.Places.{Places}
+use Rattle.laws.specs.Choice.{pick}
+use Rattle.refusals.specs.Number.{refusal}
+use Rattle.refusals.specs.declared.Reason.the-variants.{AfterLast}
+use Rattle.bits.specs.Places.{Places, counted, stopIn}
 use Rattle.bits.specs.Read.{Read, ReaderIn, _>>=_}
 use Rattle.bits.specs.declared.Place.{Place}
 use Rattle.fields.specs.Answer.{mapRead}
+use Rattle.fields.specs.declared.PlaceRead.{PlaceRead}
+use Rattle.fields.specs.declared.PlaceRead.the-variants.{At, Refused as NoPlace}
 use Rattle.size.specs.declared.Size.{Size}
-use Rattle.layout.specs.Flat.{Flat, flat}
+use Rattle.layout.specs.Flat.{Flat}
 use Rattle.h263_description.specs.Value.{Picture, headLength, macroblocksLength, levelsLength, groupNumbers, laidPicture}
 use Rattle.h263_description.specs.Fields.{isIntraType}
 use Rattle.h263_layers.specs.Grammar.{Header, groupsRead, ended, reading}
 use Rattle.h263_layers.specs.Ready.{Reading}
-
--- the three slices have the lengths of the size
-pub record Lengths (size : Size) (head macroblocks levels : List ℕ) : Type 0 where
-  pub head-long : length head ≡ headLength size
-  pub ms-long : length macroblocks ≡ macroblocksLength size
-  pub ls-long : length levels ≡ levelsLength size
-
--- the three slices are zeros in the lengths of the size
-pub record Blank (size : Size) (head macroblocks levels : List ℕ) : Type 0 where
-  pub head-blank : head ≡ replicate (headLength size) 0
-  pub ms-blank : macroblocks ≡ replicate (macroblocksLength size) 0
-  pub ls-blank : levels ≡ replicate (levelsLength size) 0
 
 -- what the groups are read with: no macroblock says a vector yet
 pub record GroupsReady (tables bytes : List ℕ) (count : ℕ) (at : Place) (size : Size) (head macroblocks levels : List ℕ) : Type 0 where
@@ -39,10 +33,11 @@ afterHeader size head =
     groupsRead size (isIntraType (head .type)) (groupNumbers size) []
     >>= λ groups. ended (record { tr = head .tr; ptype = head .ptype; type = head .type; pquant = head .pquant; groups = groups })
 
+-- refusal 13: "bits left there are 13 at that place": where the groups ended, if the bits end there
+abbrev pub endedAt : ℕ → PlaceRead → PlaceRead
+endedAt n (At p) = pick (ltb (p .bit) n) (NoPlace (stopIn counted (refusal AfterLast (p .bit)) p)) (At p)
+endedAt n (NoPlace r) = NoPlace r
+
 -- the description of the picture that N bits of a slice are
 unfoldable pub described : Size → List ℕ → ℕ → Read Flat
 described size bytes n = mapRead (laidPicture size) (reading size bytes n)
-
--- zeros in the size's lengths
-abbrev pub zeros : Size → Flat
-zeros size = flat (replicate (headLength size) 0) (replicate (macroblocksLength size) 0) (replicate (levelsLength size) 0)

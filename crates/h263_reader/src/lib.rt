@@ -1,5 +1,15 @@
 // A picture's bits to its description, or the refusal: the picture and its groups, over the layers below.
+use bits::Place;
+use bits::Stopped;
 use fields::PictureRead;
+use fields::PlaceRead;
+use fields::count_above;
+use fields::place_stopped;
+use fields::refused_picture;
+use h263_layers::Header;
+use h263_layers::HeaderRead;
+use h263_layers::head::header;
+use levels::clear;
 use refusals::Reason;
 use refusals::Refusal;
 use refusals::Verdict;
@@ -7,158 +17,109 @@ use size::Size;
 ghost use mathlib.Core.Path.{_≡_};
 ghost use lib.ListN.{length};
 ghost use Rattle.refusals.specs.Told.{toldVerdict, verdictOn, foundOr};
-ghost use Rattle.fields.specs.Answer.{found};
-ghost use Rattle.size.specs.declared.Size.the-variants.{SubQcif, Qcif, Cif};
-ghost use Rattle.layout.specs.Flat.{flat};
+ghost use Rattle.bits.specs.Bits.{bitsLeft};
+ghost use Rattle.bits.specs.Answer.{Placed};
+ghost use Rattle.fields.specs.Answer.{found, mapRead, leaving};
+ghost use Rattle.layout.specs.Flat.{flat, zeros};
+ghost use Rattle.h263_description.specs.Value.{shape, laidPicture};
+ghost use Rattle.h263_layers.specs.Answer.{headerIn};
 ghost use Rattle.h263_layers.specs.Grammar.{readWidths};
-ghost use Rattle.h263_reader.specs.Described.{Lengths, Blank, described};
-ghost use Rattle.h263_reader.specs.ReadOf.{ReadSays, ReadLeaves, ReadCounts};
+ghost use Rattle.h263_reader.specs.Described.{afterHeader, endedAt, described};
 
-pub mod parse;
 mod picture;
 
-// The description is parsed into lent scratch, and copied once it is accepted.
-fn read_in(
+// Bits that are left after the last macroblock are 13, whatever they are. Looking for them is no read.
+fn ended(read: PlaceRead, count: usize) -> PlaceRead
+    ensures { λ r. ⌜ r ≡ endedAt count read ⌝ }
+{
+    let PlaceRead::At(end) = read else {
+        return read;
+    };
+    if end.bit < count {
+        return PlaceRead::Refused(Stopped {
+            refusal: Refusal {
+                reason: Reason::AfterLast,
+                place: end.bit,
+            },
+            reads: end.reads,
+        });
+    }
+    PlaceRead::At(end)
+}
+
+// The picture from after its header on, laid out: what the header says, and the groups, after which the bits end.
+fn laid(
+    bytes: &[u8],
+    count: usize,
+    said: Header,
+    at: Place,
+    size: Size,
+    head: &mut [u8],
+    macroblocks: &mut [u8],
+    levels: &mut [u8],
+) -> PlaceRead
+    requires { ⌜ (Placed (now bytes) count at) × (flat (now head) (now macroblocks) (now levels) ≡ zeros (shape size)) ⌝ }
+    ensures { λ r. ⌜ leaving (now (bytes .entry)) count r (flat (now (head .exit)) (now (macroblocks .exit)) (now (levels .exit))) ≡ mapRead (laidPicture size) (afterHeader size (headerIn said) (bitsLeft (now (bytes .entry)) count (at .bit)) at) ⌝ }
+{
+    head[0] = said.tr;
+    head[1] = said.ptype;
+    head[2] = h263_description::format_number(size);
+    head[3] = said.kind;
+    head[4] = said.pquant;
+    let tables = h263_words::tables();
+    let read = picture::groups(
+        &tables,
+        bytes,
+        count,
+        at,
+        size,
+        said.kind == 0,
+        head,
+        macroblocks,
+        levels,
+    );
+    ended(read, count)
+}
+
+// The verdict of the rules, and how many fields and codewords were read. The buffers are lent as zeros in the size's lengths: on acceptance they hold the description,
+// on a refusal zeros.
+pub fn parse_counted(
     bytes: &[u8],
     count: usize,
     size: Size,
-    header: &mut [u8],
-    fields: &mut [u8],
-    coefficients: &mut [u8],
     head: &mut [u8],
     macroblocks: &mut [u8],
     levels: &mut [u8],
 ) -> PictureRead
-    requires { ⌜ (Blank size (now header) (now fields) (now coefficients)) × (Lengths size (now head) (now macroblocks) (now levels)) ⌝ }
+    requires { ⌜ flat (now head) (now macroblocks) (now levels) ≡ zeros (shape size) ⌝ }
     ensures verdict { λ r. ⌜ toldVerdict (r .verdict) ≡ verdictOn (found (described size (now (bytes .entry)) count)) ⌝ }
-    ensures buffers { λ _. ⌜ flat (now (head .exit)) (now (macroblocks .exit)) (now (levels .exit)) ≡ foundOr (flat (now (head .entry)) (now (macroblocks .entry)) (now (levels .entry))) (found (described size (now (bytes .entry)) count)) ⌝ }
+    ensures buffers { λ _. ⌜ flat (now (head .exit)) (now (macroblocks .exit)) (now (levels .exit)) ≡ foundOr (zeros (shape size)) (found (described size (now (bytes .entry)) count)) ⌝ }
     ensures reads { λ r. ⌜ r .reads ≡ length (readWidths size (now (bytes .entry)) count) ⌝ }
 {
-    let read = parse::parse_counted(bytes, count, size, header, fields, coefficients);
-    let verdict = read.verdict;
-    match verdict {
-        Verdict::Refused(_) => read,
-        Verdict::Accepted => {
-            bytes::copy(header, head);
-            bytes::copy(fields, macroblocks);
-            bytes::copy(coefficients, levels);
-            read
-        }
-    }
-}
-
-// ---- scratch in the size's own lengths
-
-fn read_sub_qcif(
-    bytes: &[u8],
-    count: usize,
-    head: &mut [u8],
-    macroblocks: &mut [u8],
-    levels: &mut [u8],
-) -> PictureRead
-    requires { ⌜ Lengths SubQcif (now head) (now macroblocks) (now levels) ⌝ }
-    ensures verdict { λ r. ⌜ toldVerdict (r .verdict) ≡ verdictOn (found (described SubQcif (now (bytes .entry)) count)) ⌝ }
-    ensures buffers { λ _. ⌜ flat (now (head .exit)) (now (macroblocks .exit)) (now (levels .exit)) ≡ foundOr (flat (now (head .entry)) (now (macroblocks .entry)) (now (levels .entry))) (found (described SubQcif (now (bytes .entry)) count)) ⌝ }
-    ensures reads { λ r. ⌜ r .reads ≡ length (readWidths SubQcif (now (bytes .entry)) count) ⌝ }
-{
-    let mut header = [0u8; 11];
-    let mut fields = [0u8; 192];
-    let mut coefficients = [0u8; 18432];
-    read_in(
-        bytes,
-        count,
-        Size::SubQcif,
-        &mut header,
-        &mut fields,
-        &mut coefficients,
-        head,
-        macroblocks,
-        levels,
-    )
-}
-
-fn read_qcif(
-    bytes: &[u8],
-    count: usize,
-    head: &mut [u8],
-    macroblocks: &mut [u8],
-    levels: &mut [u8],
-) -> PictureRead
-    requires { ⌜ Lengths Qcif (now head) (now macroblocks) (now levels) ⌝ }
-    ensures verdict { λ r. ⌜ toldVerdict (r .verdict) ≡ verdictOn (found (described Qcif (now (bytes .entry)) count)) ⌝ }
-    ensures buffers { λ _. ⌜ flat (now (head .exit)) (now (macroblocks .exit)) (now (levels .exit)) ≡ foundOr (flat (now (head .entry)) (now (macroblocks .entry)) (now (levels .entry))) (found (described Qcif (now (bytes .entry)) count)) ⌝ }
-    ensures reads { λ r. ⌜ r .reads ≡ length (readWidths Qcif (now (bytes .entry)) count) ⌝ }
-{
-    let mut header = [0u8; 14];
-    let mut fields = [0u8; 396];
-    let mut coefficients = [0u8; 38016];
-    read_in(
-        bytes,
-        count,
-        Size::Qcif,
-        &mut header,
-        &mut fields,
-        &mut coefficients,
-        head,
-        macroblocks,
-        levels,
-    )
-}
-
-fn read_cif(
-    bytes: &[u8],
-    count: usize,
-    head: &mut [u8],
-    macroblocks: &mut [u8],
-    levels: &mut [u8],
-) -> PictureRead
-    requires { ⌜ Lengths Cif (now head) (now macroblocks) (now levels) ⌝ }
-    ensures verdict { λ r. ⌜ toldVerdict (r .verdict) ≡ verdictOn (found (described Cif (now (bytes .entry)) count)) ⌝ }
-    ensures buffers { λ _. ⌜ flat (now (head .exit)) (now (macroblocks .exit)) (now (levels .exit)) ≡ foundOr (flat (now (head .entry)) (now (macroblocks .entry)) (now (levels .entry))) (found (described Cif (now (bytes .entry)) count)) ⌝ }
-    ensures reads { λ r. ⌜ r .reads ≡ length (readWidths Cif (now (bytes .entry)) count) ⌝ }
-{
-    let mut header = [0u8; 23];
-    let mut fields = [0u8; 1584];
-    let mut coefficients = [0u8; 152064];
-    read_in(
-        bytes,
-        count,
-        Size::Cif,
-        &mut header,
-        &mut fields,
-        &mut coefficients,
-        head,
-        macroblocks,
-        levels,
-    )
-}
-
-// The verdict of the rules, and how many fields and codewords were read. On acceptance the three buffers hold the description; on a refusal they are
-// unchanged.
-pub fn read(
-    bytes: &[u8],
-    count: usize,
-    size: Size,
-    head: &mut [u8],
-    macroblocks: &mut [u8],
-    levels: &mut [u8],
-) -> PictureRead
-    ensures verdict { λ r. ⌜ ReadSays size (now (bytes .entry)) count (flat (now (head .entry)) (now (macroblocks .entry)) (now (levels .entry))) (r .verdict) ⌝ }
-    ensures buffers { λ _. ⌜ ReadLeaves size (now (bytes .entry)) count (flat (now (head .entry)) (now (macroblocks .entry)) (now (levels .entry))) (flat (now (head .exit)) (now (macroblocks .exit)) (now (levels .exit))) ⌝ }
-    ensures reads { λ r. ⌜ ReadCounts size (now (bytes .entry)) count (flat (now (head .entry)) (now (macroblocks .entry)) (now (levels .entry))) (r .reads) ⌝ }
-{
-    if !h263_validity::lengths(head, macroblocks, levels, size) {
+    if count_above(bytes.len(), count, size::limit(size)) {
         return PictureRead {
             verdict: Verdict::Refused(Refusal {
-                reason: Reason::Length,
+                reason: Reason::Count,
                 place: 0,
             }),
             reads: 0,
         };
     }
-    match size {
-        Size::SubQcif => read_sub_qcif(bytes, count, head, macroblocks, levels),
-        Size::Qcif => read_qcif(bytes, count, head, macroblocks, levels),
-        Size::Cif => read_cif(bytes, count, head, macroblocks, levels),
+    let opened = header(bytes, count, 0, size);
+    match opened {
+        HeaderRead::Refused(stopped) => refused_picture(stopped),
+        HeaderRead::Got(said, next) => {
+            let read = laid(bytes, count, said, next, size, head, macroblocks, levels);
+            let PlaceRead::At(end) = read else {
+                clear(head);
+                clear(macroblocks);
+                clear(levels);
+                return refused_picture(place_stopped(read));
+            };
+            PictureRead {
+                verdict: Verdict::Accepted,
+                reads: end.reads,
+            }
+        }
     }
 }

@@ -17,7 +17,8 @@ use Rattle.size.specs.declared.Size.the-variants.{SubQcif, Qcif, Cif}
 use Rattle.size.specs.Size.{limit}
 use Rattle.layout.specs.Flat.{Flat}
 use Rattle.h263_reader.specs.Described.{described}
-use Rattle.h263_reader.specs.ReadOf.{readOf}
+use Rattle.coding.specs.declared.Kind.the-variants.{H263}
+use Rattle.coding.specs.Described.{readOf}
 use Rattle.h263_stream.specs.Filled.{fillsFrom, endsAfter, endsWithin, roomOf, allBits, bitsBy, pictureBits, pictureRead}
 
 -- ---- zeros
@@ -114,9 +115,9 @@ bits-by size bytes count {all} {most} {seen} {v} a m s e =
 
 -- the picture of those bits
 pub read-bits : (size : Size) (bytes : List ℕ) (count : ℕ) (before : Flat) {n : ℕ} {v : Told (Unit {0})} {left : Flat} → n ≡ pictureBits size bytes count
-    → v ≡ verdictOn (readOf size bytes n before) → left ≡ foundOr before (readOf size bytes n before)
+    → v ≡ verdictOn (readOf (H263 size) bytes n before) → left ≡ foundOr before (readOf (H263 size) bytes n before)
     → (v ≡ verdictOn (pictureRead size bytes count before)) × (left ≡ foundOr before (pictureRead size bytes count before))
 read-bits size bytes count before e v l = (
-  v ∙ ap (λ (k : ℕ). verdictOn (readOf size bytes k before)) e,
-  l ∙ ap (λ (k : ℕ). foundOr before (readOf size bytes k before)) e,
+  v ∙ ap (λ (k : ℕ). verdictOn (readOf (H263 size) bytes k before)) e,
+  l ∙ ap (λ (k : ℕ). foundOr before (readOf (H263 size) bytes k before)) e,
 )

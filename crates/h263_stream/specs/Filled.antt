@@ -13,7 +13,8 @@ use Rattle.size.specs.declared.Size.the-variants.{SubQcif, Qcif, Cif}
 use Rattle.size.specs.Size.{limit}
 use Rattle.layout.specs.Flat.{Flat}
 use Rattle.h263_reader.specs.Described.{described}
-use Rattle.h263_reader.specs.ReadOf.{readOf}
+use Rattle.coding.specs.declared.Kind.the-variants.{H263}
+use Rattle.coding.specs.Described.{readOf}
 
 -- ---- what is dropped: of bits that end at `all`, those from a place on
 -- less than eight zeros
@@ -61,4 +62,4 @@ pictureBits size bytes count =
 
 -- the picture of those bits
 abbrev pub pictureRead : Size → List ℕ → ℕ → Flat → Told Flat
-pictureRead size bytes count before = readOf size bytes (pictureBits size bytes count) before
+pictureRead size bytes count before = readOf (H263 size) bytes (pictureBits size bytes count) before

@@ -1,5 +1,5 @@
 // A raw H.263 stream, byte by byte: its pictures begin at bytes, at their start codes, and end before the next start code or end code at a byte.
-use h263_reader::parse::parse;
+use coding::Kind;
 use refusals::Refusal;
 use refusals::Verdict;
 use size::Size;
@@ -318,14 +318,15 @@ fn judge_sub_qcif(bytes: &[u8], count: usize) -> Verdict
     let mut head = [0u8; 11];
     let mut macroblocks = [0u8; 192];
     let mut levels = [0u8; 18432];
-    parse(
+    let read = h263_reader::parse_counted(
         bytes,
         count,
         Size::SubQcif,
         &mut head,
         &mut macroblocks,
         &mut levels,
-    )
+    );
+    read.verdict
 }
 
 fn judge_qcif(bytes: &[u8], count: usize) -> Verdict
@@ -334,14 +335,15 @@ fn judge_qcif(bytes: &[u8], count: usize) -> Verdict
     let mut head = [0u8; 14];
     let mut macroblocks = [0u8; 396];
     let mut levels = [0u8; 38016];
-    parse(
+    let read = h263_reader::parse_counted(
         bytes,
         count,
         Size::Qcif,
         &mut head,
         &mut macroblocks,
         &mut levels,
-    )
+    );
+    read.verdict
 }
 
 fn judge_cif(bytes: &[u8], count: usize) -> Verdict
@@ -350,14 +352,15 @@ fn judge_cif(bytes: &[u8], count: usize) -> Verdict
     let mut head = [0u8; 23];
     let mut macroblocks = [0u8; 1584];
     let mut levels = [0u8; 152064];
-    parse(
+    let read = h263_reader::parse_counted(
         bytes,
         count,
         Size::Cif,
         &mut head,
         &mut macroblocks,
         &mut levels,
-    )
+    );
+    read.verdict
 }
 
 fn judge(size: Size, bytes: &[u8], count: usize) -> Verdict
@@ -396,6 +399,6 @@ pub fn read(
     ensures buffers { λ _. ⌜ flat (now (head .exit)) (now (macroblocks .exit)) (now (levels .exit)) ≡ foundOr (flat (now (head .entry)) (now (macroblocks .entry)) (now (levels .entry))) (pictureRead size (now (bytes .entry)) count (flat (now (head .entry)) (now (macroblocks .entry)) (now (levels .entry)))) ⌝ }
 {
     let bits = picture_bits(size, bytes, count);
-    let read = h263_reader::read(bytes, bits, size, head, macroblocks, levels);
+    let read = coding::read(Kind::H263(size), bytes, bits, head, macroblocks, levels);
     read.verdict
 }

@@ -18,8 +18,8 @@ use Rattle.size.specs.Size.{width, height}
 use Rattle.size.specs.Place.{macroblocksAcross, macroblocksDown}
 use Rattle.layout.specs.Flat.{numberOf, flat}
 use Rattle.layout.specs.Numbers.{all, within, isZero, isLevel, codesFirst}
-use Rattle.layout.specs.Valid.{everyMacroblock}
-use Rattle.layout.proofs.LaidOut.{Lengths, has-lengths}
+use Rattle.layout.specs.Valid.{everyMacroblock, Lengths}
+use Rattle.layout.proofs.LaidOut.{has-lengths}
 use Rattle.layout.proofs.Turns.{group-part, GroupWithin, group-within}
 use Rattle.h263_words.specs.Words.{isIntra, isInter, hasDQUANT, isDQUANT}
 use Rattle.h263_description.specs.Vector.{between, inRange, inside, row, column}

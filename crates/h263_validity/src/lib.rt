@@ -10,7 +10,7 @@ ghost use Rattle.layout.specs.Flat.{flat};
 ghost use Rattle.layout.specs.Numbers.{all, within};
 ghost use Rattle.h263_description.specs.Value.{groupNumbers, macroblocksLength, levelsLength};
 ghost use Rattle.h263_description.specs.Fields.{refresh};
-ghost use Rattle.h263_description.specs.Valid.{lengthsOf, validGquants, validHead, validMacroblocks, validGroups, valid as isValid};
+ghost use Rattle.h263_description.specs.Valid.{lengthsOf, oneSize, validGquants, validHead, validMacroblocks, validGroups, valid as isValid};
 ghost use Rattle.h263_validity.specs.Ready.{GroupReady};
 
 mod macroblock;
@@ -26,6 +26,19 @@ pub fn lengths(head: &[u8], macroblocks: &[u8], levels: &[u8], size: Size) -> bo
         return false;
     }
     levels.len() == h263_description::levels_length(size)
+}
+
+// Whether the three slices have the lengths of one size's description.
+pub fn one_size(head: &[u8], macroblocks: &[u8], levels: &[u8]) -> bool
+    ensures { λ r. ⌜ r ≡ oneSize (flat (now (head .entry)) (now (macroblocks .entry)) (now (levels .entry))) ⌝ }
+{
+    if lengths(head, macroblocks, levels, Size::SubQcif) {
+        return true;
+    }
+    if lengths(head, macroblocks, levels, Size::Qcif) {
+        return true;
+    }
+    lengths(head, macroblocks, levels, Size::Cif)
 }
 
 // Whether every byte from the fifth on is at most 31.

@@ -32,10 +32,9 @@ use Rattle.h263_description.specs.Kept.{vectorsIn, firstVectors, BytesNear}
 use Rattle.h263_description.proofs.Groups.{numbers-count, numbers-at, some-across, down-most}
 use Rattle.h263_description.proofs.Parts.{ValidLists, valid-lists}
 use Rattle.h263_description.proofs.ValidAt.{gquant-at, type-is, quant-is, Fine, fine-at, still-vector}
-use Rattle.h263_writer.specs.Write.{rowOf, rowVectors, headOf, groupsOf, ptypeOf, pictureOf}
+use Rattle.h263_writer.specs.Write.{rowOf, rowVectors, headOf, groupsOf, ptypeOf, pictureOf, pictureBits}
 use Rattle.h263_writer.specs.Sound.{SoundMacroblock, SoundPicture, rowBits, groupBits, groupsBits}
 use Rattle.h263_writer.specs.Asked.{RowAsked, GroupAsked, GroupsAsked}
-use Rattle.h263_writer.specs.Output.{pictureBits}
 use Rattle.h263_writer.proofs.RowTurn.{row-vectors}
 use Rattle.h263_writer.proofs.Longest.{picture-counts}
 

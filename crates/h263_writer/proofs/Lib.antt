@@ -3,4 +3,3 @@ pub mod BlockTurn
 pub mod MacroblockSteps
 pub mod RowTurn
 pub mod GroupTurn
-pub mod WriteSteps

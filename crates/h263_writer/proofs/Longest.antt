@@ -26,8 +26,7 @@ use Rattle.h263_description.specs.Vector.{vectorsOf, predictor}
 use Rattle.h263_description.specs.Value.{groupNumbers, pictureIn}
 use Rattle.h263_description.specs.Fields.{stands, isIntraType}
 use Rattle.h263_description.proofs.Groups.{groups-listed, across-most, down-most}
-use Rattle.h263_writer.specs.Write.{eventsOf, eventsIn, dcOf, blockOf, blocksOf, patternOf, componentBits, vectorBits, mcbpcOf, macroblockOf, vectorAtHead, afterHead, bitsAtHead, rowOf, rowVectors, headOf, groupsOf, ptypeOf, pictureOf}
-use Rattle.h263_writer.specs.Output.{pictureBits}
+use Rattle.h263_writer.specs.Write.{eventsOf, eventsIn, dcOf, blockOf, blocksOf, patternOf, componentBits, vectorBits, mcbpcOf, macroblockOf, vectorAtHead, afterHead, bitsAtHead, rowOf, rowVectors, headOf, groupsOf, ptypeOf, pictureOf, pictureBits}
 
 -- ---- each table's codewords are short
 intra-short : T (shortWords (mcbpcIntra .entries))

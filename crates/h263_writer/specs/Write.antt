@@ -14,10 +14,11 @@ use Rattle.size.specs.declared.Size.{Size}
 use Rattle.size.specs.Place.{macroblocksAcross}
 use Rattle.layout.specs.Value.{Vector, zeroVector, Block, Macroblock, Group}
 use Rattle.layout.specs.Pattern.{presenceOf}
+use Rattle.layout.specs.Flat.{Flat}
 use Rattle.h263_words.specs.Tables.{kind, mcbpcIntra, mcbpcInter, cbpy, mvd}
 use Rattle.h263_words.specs.Words.{isIntra, isInter, hasDQUANT, turned, dquantField, tcoefOf}
 use Rattle.h263_description.specs.Vector.{vectorsOf, predictor}
-use Rattle.h263_description.specs.Value.{Picture, groupNumbers, formatCode}
+use Rattle.h263_description.specs.Value.{Picture, groupNumbers, formatCode, pictureIn}
 use Rattle.h263_description.specs.Fields.{stands, isIntraType}
 
 -- ---- blocks
@@ -122,3 +123,7 @@ pictureOf size p =
     ++ (bitsOf 5 (p .pquant)
     ++ (bitsOf 1 0
     ++ (bitsOf 1 0 ++ groupsOf (macroblocksAcross size) (isIntraType (p .type)) (groupNumbers size) [] (p .groups))))))
+
+-- the bits of the picture that a description describes
+unfoldable pub pictureBits : Size → Flat → List Bit
+pictureBits size d = pictureOf size (pictureIn size d)

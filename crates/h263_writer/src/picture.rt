@@ -8,7 +8,7 @@ ghost use Rattle.layout.specs.Flat.{flat};
 ghost use Rattle.h263_words.specs.Lookup.{Tables};
 ghost use Rattle.h263_description.specs.Valid.{valid as isValid};
 ghost use Rattle.h263_writer.specs.Sound.{groupsBits};
-ghost use Rattle.h263_writer.specs.Output.{pictureBits};
+ghost use Rattle.h263_writer.specs.Write.{pictureBits};
 ghost use Rattle.h263_writer.specs.Asked.{GroupsAsked};
 
 // All groups, in order: each a row of so many macroblocks.

@@ -23,8 +23,7 @@ use Rattle.h261_description.specs.Value.{pictureIn}
 use Rattle.h261_description.specs.Vector.{Before, atStart}
 use Rattle.h261_description.specs.Valid.{validMacroblock, lengthsOf, validHead, valid}
 use Rattle.h261_description.specs.Fields.{refresh}
-use Rattle.h261_writer.specs.Write.{coefficientsOf, blocksOf, macroblockOf, macroblocksOf, groupOf, groupsOf, pictureOf}
-use Rattle.h261_writer.specs.Output.{pictureBits}
+use Rattle.h261_writer.specs.Write.{coefficientsOf, blocksOf, macroblockOf, macroblocksOf, groupOf, groupsOf, pictureOf, pictureBits}
 use Rattle.coding.specs.declared.Kind.the-variants.{H261}
 use Rattle.instances.specs.Uniform.{repeated, uniformHead, uniform, unsent, intra, greyLevels, heavyLevels, still, grey, heavy}
 use Rattle.instances.proofs.Repeated.{repeated-long, unrolled, grouped, ungrouped, others, every-group}

@@ -23,8 +23,7 @@ use Rattle.h263_description.specs.Value.{groupNumbers, pictureIn}
 use Rattle.h263_description.specs.Vector.{vectorsOf, predictor}
 use Rattle.h263_description.specs.Fields.{isIntraType, refresh}
 use Rattle.h263_description.specs.Valid.{validMacroblock, lengthsOf, validHead, valid}
-use Rattle.h263_writer.specs.Write.{eventsOf, blocksOf, patternOf, macroblockOf, rowOf, rowVectors, groupsOf, pictureOf}
-use Rattle.h263_writer.specs.Output.{pictureBits}
+use Rattle.h263_writer.specs.Write.{eventsOf, blocksOf, patternOf, macroblockOf, rowOf, rowVectors, groupsOf, pictureOf, pictureBits}
 use Rattle.coding.specs.declared.Kind.the-variants.{H263}
 use Rattle.instances.specs.Uniform.{repeated, uniformHead, uniform, unsent, intra, greyLevels, heavyLevels, still, grey, heavy}
 use Rattle.instances.proofs.Repeated.{repeated-long, unrolled, grouped, ungrouped, others, every-group}

@@ -13,7 +13,7 @@ use Rattle.laws.proofs.Choice.{both-left, both-right, both-make, T-true, true-T
 use Rattle.laws.proofs.Zeros.{zeros, length-zeros}
 use Rattle.layout.specs.Value.{Macroblock, Group, Picture}
 use Rattle.layout.specs.Flat.{Flat, Shape, fieldsOf}
-use Rattle.layout.specs.Valid.{everyMacroblock, everyGroup, hasLengths}
+use Rattle.layout.specs.Valid.{everyMacroblock, everyGroup, hasLengths, Lengths}
 use Rattle.layout.specs.Proper.{Numbered, Storable, RisingTo, GoodGroup, StorableGroup, StorablePicture}
 use Rattle.layout.proofs.Walk.{walk-none, walk-more}
 use Rattle.layout.proofs.Pictured.{rising-all}
@@ -106,11 +106,6 @@ lengths-pass s p h =
     (both-make (eqb (length fields) (s .groups * (s .each * 4))) _ (yes-eqb ms) (yes-eqb ls))
 
 -- and what the test says
-pub record Lengths (s : Shape) (d : Flat) : Type 0 where
-  pub head-length : length (d .head) ≡ s .fixed + s .groups
-  pub macroblocks-length : length (d .macroblocks) ≡ s .groups * (s .each * 4)
-  pub levels-length : length (d .levels) ≡ s .groups * (s .each * 384)
-
 pub has-lengths : (s : Shape) (d : Flat) → T (hasLengths s d) → Lengths s d
 has-lengths s d t =
     let a = eqb (length (d .head)) (s .fixed + s .groups) in

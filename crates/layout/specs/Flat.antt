@@ -85,6 +85,10 @@ blank s fields = record {
   levels = replicate (s .groups * (s .each * 384)) 0;
 }
 
+-- zeros in a shape's lengths
+abbrev pub zeros : Shape → Flat
+zeros s = flat (replicate (s .fixed + s .groups) 0) (replicate (s .groups * (s .each * 4)) 0) (replicate (s .groups * (s .each * 384)) 0)
+
 abbrev pub laidOut : Shape → Picture → Flat
 laidOut s p = putGroups s 0 (blank s (p .fields)) (p .groups)
 

@@ -1,5 +1,6 @@
 -- A test of every macroblock of a description, group by group, and of its lengths: what a standard's validity is made of. Assumes nothing.
 use Prim.Native.Nat.{ℕ, zero, suc, _+_, _*_}
+use mathlib.Core.Path.{_≡_}
 use mathlib.Core.Bool.{Bool, true}
 use mathlib.Core.List.{List, [], _∷_}
 use lib.Dec.{eqb}
@@ -24,3 +25,9 @@ abbrev pub hasLengths : Shape → Flat → Bool
 hasLengths s d =
     both (eqb (length (d .head)) (s .fixed + s .groups))
     (both (eqb (length (d .macroblocks)) (s .groups * (s .each * 4))) (eqb (length (d .levels)) (s .groups * (s .each * 384))))
+
+-- and these lengths as facts
+pub record Lengths (s : Shape) (d : Flat) : Type 0 where
+  pub head-length : length (d .head) ≡ s .fixed + s .groups
+  pub macroblocks-length : length (d .macroblocks) ≡ s .groups * (s .each * 4)
+  pub levels-length : length (d .levels) ≡ s .groups * (s .each * 384)

@@ -2,11 +2,13 @@
 use mathlib.Core.Path.{_≡_, refl, sym, ap, subst, _∙_}
 use mathlib.Core.List.{List, _∷_, _++_, append-nil}
 use mathlib.Core.Logic.{_⊎_, inl, inr}
-use Prim.Native.Nat.{ℕ, zero, suc, _+_, _≤_, _<_}
+use Prim.Native.Nat.{ℕ, zero, suc, _+_, _*_, _≤_, _<_}
 use native.Mathlib.Nat.{eq-or-lt-of-le, le-of-suc-le-suc, not-suc-le-zero}
 use native.Mathlib.Omega.{arith}
 use lib.ListN.{length, getD, set, replicate, take, drop, length-set, length-replicate, getD-replicate, drop-of-length-le}
 use lib.Seq.{getD-set-same, getD-set-other, ext-getD, take-length}
+use Rattle.layout.specs.Flat.{Shape, Flat, flat, zeros}
+use Rattle.layout.specs.Valid.{Lengths}
 
 -- zeros stored up to i
 pub record Zeroed (l₀ l : List ℕ) (i : ℕ) : Type 0 where
@@ -37,9 +39,6 @@ zeroed-all l₀ l i h m =
     up : (k m : ℕ) → k < m → m ≤ i → k < i
     up k m q l = omega arith
 
-pub cleared-as : (m k : ℕ) (x : List ℕ) → x ≡ replicate m 0 → m ≡ k → x ≡ replicate k 0
-cleared-as m k x e d = e ∙ ap (λ (j : ℕ). replicate j 0) d
-
 -- ---- zeros lent
 pub zeros-long : (l : List ℕ) (k : ℕ) → l ≡ replicate k 0 → length l ≡ k
 zeros-long l k e = ap length e ∙ length-replicate k 0
@@ -52,6 +51,21 @@ zeros-first (suc m) (suc n) h = ap (λ (l : List ℕ). 0 ∷ l) (zeros-first m n
 
 pub zeros-part : (m : ℕ) {n k : ℕ} → n ≤ m → n ≡ k → take {A = ℕ} n (replicate m 0) ≡ replicate k 0
 zeros-part m {n} h e = zeros-first m n h ∙ ap (λ (j : ℕ). replicate j 0) e
+
+-- ---- a description's three slices, all zeros
+zeros-as : (m k : ℕ) (x : List ℕ) → x ≡ replicate m 0 → m ≡ k → x ≡ replicate k 0
+zeros-as m k x e d = e ∙ ap (λ (j : ℕ). replicate j 0) d
+
+pub zeros-flat : (s : Shape) {a b c : List ℕ} {h m l : ℕ} → a ≡ replicate h 0 → h ≡ s .fixed + s .groups → b ≡ replicate m 0 → m ≡ s .groups * (s .each * 4) → c ≡ replicate l 0 → l ≡ s .groups * (s .each * 384)
+    → flat a b c ≡ zeros s
+zeros-flat s {a} {b} {c} {h} {m} {l} ea eh eb em ec el = λ i. flat (zeros-as h _ a ea eh i) (zeros-as m _ b eb em i) (zeros-as l _ c ec el i)
+
+pub zeros-lengths : (s : Shape) {d : Flat} → d ≡ zeros s → Lengths s d
+zeros-lengths s {d} e = record {
+  head-length = zeros-long (d .head) _ (ap (λ (x : Flat). x .head) e);
+  macroblocks-length = zeros-long (d .macroblocks) _ (ap (λ (x : Flat). x .macroblocks) e);
+  levels-length = zeros-long (d .levels) _ (ap (λ (x : Flat). x .levels) e);
+}
 
 -- ---- a whole slice copied over another of its length
 pub copied : (from to out : List ℕ) → length from ≡ length to → out ≡ take (length from) from ++ drop (length from) to → out ≡ from

@@ -225,7 +225,9 @@ fn finish_large(
     picture: &[u8],
     first: &mut [u8],
     second: &mut [u8],
-) -> Recording {
+) -> Recording
+    requires { ⌜ RoomIn 23 1584 152064 kind ⌝ }
+{
     let mut head = [0u8; 23];
     let mut macroblocks = [0u8; 1584];
     let mut levels = [0u8; 152064];

@@ -166,7 +166,7 @@ fn send_in(
     ensures { λ r. ⌜ SendDoes sender (flat (now (head .entry)) (now (macroblocks .entry)) (now (levels .entry))) (buffers (now (out .entry)) (now (first .entry)) (now (second .entry))) r (buffers (now (out .exit)) (now (first .exit)) (now (second .exit))) ⌝ }
 {
     let kind = sender.kind;
-    let count = coding::write_valid(kind, head, macroblocks, levels, scratch);
+    let count = coding::append_picture(kind, head, macroblocks, levels, scratch);
     let size = coding::size_of(kind);
     if size::limit(size) < count {
         return refused(sender, Reason::AboveLimit);

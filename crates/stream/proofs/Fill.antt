@@ -34,7 +34,9 @@ use Rattle.h261_description.specs.Value.{Picture, beforeNext, laidPicture}
 use Rattle.h261_description.specs.Valid.{lengthsOf}
 use Rattle.h261_layers.specs.Grammar.{Mba, step, stuffed, ended, mbaOf, mba, macroblocksAfter, macroblocksFrom, group, groupsRead, picture, reading}
 use Rattle.h261_reader.specs.Described.{described}
-use Rattle.h261_reader.specs.ReadOf.{readOf}
+use Rattle.coding.specs.declared.Kind.the-variants.{H261}
+use Rattle.coding.specs.Kind.{codingOf}
+use Rattle.coding.specs.Described.{readOf}
 use Rattle.h261_reader.proofs.Verdicts.{all-read}
 use Rattle.h261_readback.proofs.Extends.{Goes, Extends, ext-mba-word, ext-macroblock, ext-head, ext-group, ext-header}
 use Rattle.h261_readback.proofs.Macroblocks.{not-ended}
@@ -186,8 +188,8 @@ module _ (f : Format) (bytes : List ℕ) (n k : ℕ) (few : 1 ≤ k) (most : k �
   abbrev told : Bool → Read Picture → Told Flat
   told b x = pick b (found (mapRead (laidPicture f) x)) (toldRefused 1 0)
 
-  filled-read : (before d : Flat) → readOf f bytes n before ≡ accepted d → readOf f bytes (n + k) before ≡ toldRefused 3 n
-  unfolding readOf described number readTable
+  filled-read : (before d : Flat) → readOf (H261 f) bytes n before ≡ accepted d → readOf (H261 f) bytes (n + k) before ≡ toldRefused 3 n
+  unfolding readOf codingOf described number readTable
   filled-read before d e = by (lengthsOf f before) refl (reading f bytes n) refl
     where
       by : (b : Bool) → lengthsOf f before ≡ b → (x : Read Picture) → reading f bytes n ≡ x → told (lengthsOf f before) (reading f bytes (n + k)) ≡ toldRefused 3 n
@@ -228,22 +230,22 @@ module _ {f : Format} {bytes : List ℕ} {count ones : ℕ} (h : ShortFill f byt
   counted : countOf f count ones ≡ count
   counted = omega (arith, h .low)
 
-  once : (d : Flat) → readOf f bytes whole before ≡ accepted d → filledRead f bytes count ones before ≡ accepted d
+  once : (d : Flat) → readOf (H261 f) bytes whole before ≡ accepted d → filledRead f bytes count ones before ≡ accepted d
   unfolding filledRead unfilled
   once d e =
-      let first : readOf f bytes count before ≡ toldRefused 3 whole =
-      ap (λ (m : ℕ). readOf f bytes m before) (sym all-bits)
+      let first : readOf (H261 f) bytes count before ≡ toldRefused 3 whole =
+      ap (λ (m : ℕ). readOf (H261 f) bytes m before) (sym all-bits)
       ∙ filled-read f bytes whole fill (omega (arith, h .some)) (omega (arith, h .few)) (omega (arith, h .lent, h .some)) (omega (arith, h .low, h .some)) (h .none) before d e in
-      ap (λ (m : ℕ). byFirst f bytes ones before (readOf f bytes m before)) counted
+      ap (λ (m : ℕ). byFirst f bytes ones before (readOf (H261 f) bytes m before)) counted
       ∙ ap (byFirst f bytes ones before) first
-      ∙ ap (λ (t : Bool). pick t (orElse (untabled 3 whole) (readOf f bytes whole before)) (toldRefused 3 whole)) (le-leb ones whole (omega arith))
+      ∙ ap (λ (t : Bool). pick t (orElse (untabled 3 whole) (readOf (H261 f) bytes whole before)) (toldRefused 3 whole)) (le-leb ones whole (omega arith))
       ∙ ap (orElse (untabled 3 whole)) e
 
-  module _ {v : Told (Unit {0})} {left : Flat} (s : Says v before left (readOf f bytes whole before)) where
+  module _ {v : Told (Unit {0})} {left : Flat} (s : Says v before left (readOf (H261 f) bytes whole before)) where
     pub filled-once : v ≡ accepted tt → Says (accepted tt) before left (filledRead f bytes count ones before)
-    filled-once a = go (readOf f bytes whole before) refl
+    filled-once a = go (readOf (H261 f) bytes whole before) refl
       where
-        go : (x : Told Flat) → readOf f bytes whole before ≡ x → Says (accepted tt) before left (filledRead f bytes count ones before)
+        go : (x : Told Flat) → readOf (H261 f) bytes whole before ≡ x → Says (accepted tt) before left (filledRead f bytes count ones before)
         go (accepted d) e = (sym (ap verdictOn (once d e)), s .1 ∙ ap (foundOr before) (e ∙ sym (once d e)))
         go (refusedBy numbers) e = absurd (told-apart (sym a ∙ s .0 ∙ ap verdictOn e))
 
@@ -252,9 +254,9 @@ module _ {f : Format} {bytes : List ℕ} {count ones : ℕ} (h : ShortFill f byt
         → Says r left last (filledRead f bytes count ones left) → Says r before last (filledRead f bytes count ones before)
     filled-again {r = r} {last} a u = subst (λ (d : Flat). Says r d last (filledRead f bytes count ones d)) kept u
       where
-        go : (x : Told Flat) → readOf f bytes whole before ≡ x → left ≡ before
+        go : (x : Told Flat) → readOf (H261 f) bytes whole before ≡ x → left ≡ before
         go (accepted d) e = absurd (told-apart (sym (sym a ∙ s .0 ∙ ap verdictOn e)))
         go (refusedBy others) e = s .1 ∙ ap (foundOr before) e
 
         kept : left ≡ before
-        kept = go (readOf f bytes whole before) refl
+        kept = go (readOf (H261 f) bytes whole before) refl

@@ -14,7 +14,8 @@ use Rattle.refusals.specs.Told.{Numbers, Told, accepted, refusedBy, verdictOn, 
 use Rattle.refusals.proofs.Told.{told-apart, same-numbers}
 use Rattle.h261_groups.specs.declared.Format.{Format}
 use Rattle.layout.specs.Flat.{Flat}
-use Rattle.h261_reader.specs.ReadOf.{readOf}
+use Rattle.coding.specs.declared.Kind.the-variants.{H261}
+use Rattle.coding.specs.Described.{readOf}
 use Rattle.stream.specs.Filled.{countOf, amongZeros, orElse, unfilled, byFirst, filledRead}
 
 -- ---- a refusal among the zeros
@@ -43,7 +44,7 @@ module _ (f : Format) (bytes : List ℕ) (ones : ℕ) (before : Flat) where
   -- ---- without fill
   module _ (numbers : Numbers) where
     abbrev second : Told Flat
-    second = orElse numbers (readOf f bytes (numbers .place) before)
+    second = orElse numbers (readOf (H261 f) bytes (numbers .place) before)
 
     pub stays : {b : Bool} → b ≡ amongZeros (numbers .number) (numbers .place) ones → b ≡ false → Says (refusedBy numbers) before before (unfilled f bytes ones before numbers)
     unfolding unfilled
@@ -64,15 +65,15 @@ module _ (f : Format) (bytes : List ℕ) (ones : ℕ) (before : Flat) where
     broken-is (refusedBy others) e = (refl, refl)
 
     pub whole : {b : Bool} {v : Told (Unit {0})} {left : Flat} → b ≡ amongZeros (numbers .number) (numbers .place) ones → b ≡ true
-        → Says v before left (readOf f bytes (numbers .place) before) → v ≡ accepted tt → Says (accepted tt) before left (unfilled f bytes ones before numbers)
+        → Says v before left (readOf (H261 f) bytes (numbers .place) before) → v ≡ accepted tt → Says (accepted tt) before left (unfilled f bytes ones before numbers)
     whole e l s a =
-        let said = whole-is (readOf f bytes (numbers .place) before) (sym a ∙ s .0) in
+        let said = whole-is (readOf (H261 f) bytes (numbers .place) before) (sym a ∙ s .0) in
         (said .0 ∙ ap verdictOn (tried e l), s .1 ∙ said .1 ∙ ap (foundOr before) (tried e l))
 
     pub broken : {b : Bool} {v : Told (Unit {0})} {left : Flat} {others : Numbers} → b ≡ amongZeros (numbers .number) (numbers .place) ones → b ≡ true
-        → Says v before left (readOf f bytes (numbers .place) before) → v ≡ refusedBy others → Says (refusedBy numbers) before left (unfilled f bytes ones before numbers)
+        → Says v before left (readOf (H261 f) bytes (numbers .place) before) → v ≡ refusedBy others → Says (refusedBy numbers) before left (unfilled f bytes ones before numbers)
     broken e l s a =
-        let said = broken-is (readOf f bytes (numbers .place) before) (sym a ∙ s .0) in
+        let said = broken-is (readOf (H261 f) bytes (numbers .place) before) (sym a ∙ s .0) in
         (said .0 ∙ ap verdictOn (tried e l), s .1 ∙ said .1 ∙ ap (foundOr before) (tried e l))
 
   -- ---- all of it
@@ -87,22 +88,22 @@ module _ (f : Format) (bytes : List ℕ) (ones : ℕ) (before : Flat) where
       let same : numbers ≡ others = same-numbers e in
       (refl, (ap (λ (x : Numbers). verdictOn (unfilled f bytes ones before x)) same, ap (λ (x : Numbers). foundOr before (unfilled f bytes ones before x)) same))
 
-  module _ (count : ℕ) {k : ℕ} (c : k ≡ countOf f count ones) {v : Told (Unit {0})} {left : Flat} (s : Says v before left (readOf f bytes k before)) where
+  module _ (count : ℕ) {k : ℕ} (c : k ≡ countOf f count ones) {v : Told (Unit {0})} {left : Flat} (s : Says v before left (readOf (H261 f) bytes k before)) where
     pub at-once : v ≡ accepted tt → Says (accepted tt) before left (filledRead f bytes count ones before)
     unfolding filledRead
     at-once a =
-        let said = first-whole (readOf f bytes k before) (sym a ∙ s .0) in
-        let is = ap (λ (m : ℕ). byFirst f bytes ones before (readOf f bytes m before)) c in
+        let said = first-whole (readOf (H261 f) bytes k before) (sym a ∙ s .0) in
+        let is = ap (λ (m : ℕ). byFirst f bytes ones before (readOf (H261 f) bytes m before)) c in
         (said .0 ∙ ap verdictOn is, s .1 ∙ said .1 ∙ ap (foundOr before) is)
 
     pub kept : {numbers : Numbers} → v ≡ refusedBy numbers → left ≡ before
-    kept a = s .1 ∙ first-broken (readOf f bytes k before) (sym a ∙ s .0) .0
+    kept a = s .1 ∙ first-broken (readOf (H261 f) bytes k before) (sym a ∙ s .0) .0
 
     pub again : {numbers : Numbers} {r : Told (Unit {0})} {last : Flat} → v ≡ refusedBy numbers
         → Says r left last (unfilled f bytes ones left numbers) → Says r before last (filledRead f bytes count ones before)
     unfolding filledRead
     again {numbers} {r} {last} a u =
-        let two = first-broken (readOf f bytes k before) (sym a ∙ s .0) in
-        let is = ap (λ (m : ℕ). byFirst f bytes ones before (readOf f bytes m before)) c in
+        let two = first-broken (readOf (H261 f) bytes k before) (sym a ∙ s .0) in
+        let is = ap (λ (m : ℕ). byFirst f bytes ones before (readOf (H261 f) bytes m before)) c in
         let w : Says r before last (unfilled f bytes ones before numbers) = subst (λ (d : Flat). Says r d last (unfilled f bytes ones d numbers)) (kept a) u in
         (w .0 ∙ two .1 .0 ∙ ap verdictOn is, w .1 ∙ two .1 .1 ∙ ap (foundOr before) is)

@@ -10,7 +10,8 @@ use Rattle.h261_groups.specs.declared.Format.{Format}
 use Rattle.h261_groups.specs.Format.{sizeOf}
 use Rattle.size.specs.Size.{limit}
 use Rattle.layout.specs.Flat.{Flat}
-use Rattle.h261_reader.specs.ReadOf.{readOf}
+use Rattle.coding.specs.declared.Kind.the-variants.{H261}
+use Rattle.coding.specs.Described.{readOf}
 
 -- N: all bits, but of the zeros after the last one only those up to the limit
 abbrev pub countOf : Format → ℕ → ℕ → ℕ
@@ -27,11 +28,11 @@ orElse numbers (refusedBy others) = refusedBy numbers
 
 unfoldable pub unfilled : Format → List ℕ → ℕ → Flat → Numbers → Told Flat
 unfilled f bytes ones before numbers =
-    pick (amongZeros (numbers .number) (numbers .place) ones) (orElse numbers (readOf f bytes (numbers .place) before)) (refusedBy numbers)
+    pick (amongZeros (numbers .number) (numbers .place) ones) (orElse numbers (readOf (H261 f) bytes (numbers .place) before)) (refusedBy numbers)
 
 abbrev pub byFirst : Format → List ℕ → ℕ → Flat → Told Flat → Told Flat
 byFirst f bytes ones before (accepted d) = accepted d
 byFirst f bytes ones before (refusedBy numbers) = unfilled f bytes ones before numbers
 
 unfoldable pub filledRead : Format → List ℕ → ℕ → ℕ → Flat → Told Flat
-filledRead f bytes count ones before = byFirst f bytes ones before (readOf f bytes (countOf f count ones) before)
+filledRead f bytes count ones before = byFirst f bytes ones before (readOf (H261 f) bytes (countOf f count ones) before)

@@ -1,5 +1,6 @@
 // A raw H.261 stream, bit by bit: its pictures, at any bit, with fill of zeros between. What a bit comes to is said and proved of one bit; where no start code can end within
 // the next eight, they are taken at once.
+use coding::Kind;
 use h261_groups::Format;
 use refusals::Refusal;
 use refusals::Verdict;
@@ -375,7 +376,8 @@ fn read_unfilled(
     if !among_zeros(why, ones) {
         return Verdict::Refused(why);
     }
-    let read = h261_reader::read(bytes, why.place, format, head, macroblocks, levels);
+    let kind = Kind::H261(format);
+    let read = coding::read(kind, bytes, why.place, head, macroblocks, levels);
     let verdict = read.verdict;
     match verdict {
         Verdict::Accepted => Verdict::Accepted,
@@ -398,7 +400,8 @@ fn read_whole(
 {
     let most = larger(h261_groups::limit(format), ones);
     let first = smaller(count, most);
-    let read = h261_reader::read(bytes, first, format, head, macroblocks, levels);
+    let kind = Kind::H261(format);
+    let read = coding::read(kind, bytes, first, head, macroblocks, levels);
     let verdict = read.verdict;
     match verdict {
         Verdict::Accepted => Verdict::Accepted,
@@ -446,7 +449,8 @@ pub fn read(
     if !ends_filled(format, bytes, count, ones) {
         return read_whole(format, bytes, count, ones, head, macroblocks, levels);
     }
-    let read = h261_reader::read(bytes, ones + 1, format, head, macroblocks, levels);
+    let kind = Kind::H261(format);
+    let read = coding::read(kind, bytes, ones + 1, head, macroblocks, levels);
     let verdict = read.verdict;
     match verdict {
         Verdict::Accepted => Verdict::Accepted,

@@ -37,7 +37,7 @@ use Rattle.h261_layers.specs.Grammar.{picture, reading}
 use Rattle.h261_reader.specs.Described.{described}
 use Rattle.h261_reader.proofs.Verdicts.{accepted-described}
 use Rattle.bits.specs.Output.{filledOutput, outputLeft}
-use Rattle.h261_writer.specs.Output.{pictureBits}
+use Rattle.h261_writer.specs.Write.{pictureBits}
 use Rattle.h261_readback.proofs.Exactly.{Unread, fewer-bits, more-bits}
 use Rattle.coding.specs.declared.Kind.{Kind}
 use Rattle.coding.specs.declared.Kind.the-variants.{H261, H263}

@@ -29,8 +29,7 @@ use Rattle.fields.specs.Answer.{mapRead}
 use Rattle.h261_layers.specs.Grammar.{mba, macroblocksFrom, groupHead, group, groupsRead, header, picture, reading}
 use Rattle.h261_reader.specs.Described.{described}
 use Rattle.h261_reader.proofs.Verdicts.{accepted-valid, accepted-described}
-use Rattle.h261_writer.specs.Write.{macroblocksOf, groupOf, groupsOf, pictureOf}
-use Rattle.h261_writer.specs.Output.{pictureBits}
+use Rattle.h261_writer.specs.Write.{macroblocksOf, groupOf, groupsOf, pictureOf, pictureBits}
 use Rattle.demand2.proofs.WrittenBack.{writes, written-back}
 use Rattle.sheet.specs.Sheet.{picture1, bytes1, P1}
 use Rattle.sheet.proofs.Sheet.{shown}

@@ -1,41 +1,64 @@
--- `coding::read` meets its contract: what its standard's reader says, leaves and counts. Assumes nothing.
+-- `coding::read` meets its contract: by the lengths, then by the size, whose scratch has room for the kind. Assumes nothing.
 use borrow.Author.Needs.{needs}
-use mathlib.Core.Path.{sym, ap, _∙_}
-use Rattle.refusals.specs.Told.{verdictOn, foundOr}
-use Rattle.layout.specs.Flat.{flat}
-use Rattle.coding.specs.declared.Kind.{Kind}
-use Rattle.coding.specs.Kind.{codingOf, readsOf}
-use Rattle.coding.specs.Described.{readOf, readCount}
-use Rattle.h261_reader.specs.ReadOf as R261
-use Rattle.h263_reader.specs.ReadOf as R263
+use borrow.Author.Tests.{not-true, not-false}
+use mathlib.Core.Path.{ap}
+use native.Mathlib.Omega.{arith}
+use Rattle.size.specs.Size.{limit}
+use Rattle.layout.specs.Flat.{Flat, flat}
+use Rattle.layout.specs.Valid.{Lengths}
+use Rattle.coding.specs.Kind.{shapeOf}
+use Rattle.coding.proofs.Scratch.{room-small, room-large}
+use Rattle.coding.proofs.ReadSteps.{unfit, lengths-are, fit}
 use Rattle.coding.proofs.read.Statement.{statement}
 use Rattle.coding.proofs.read.Tie as tie
 
+abbrev buffers : tie.Start → Flat
+buffers s = flat (s .args .head .now) (s .args .macroblocks .now) (s .args .levels .now)
+
 returns : tie.Need-returns
-unfolding readOf readCount codingOf readsOf R261.readOf R261.readCount
 returns c =
-    let start = c .before .before .before .before .before .before .before .before .before .before .before .before .before .before .before .before .before in
-    let bytes = start .args .bytes .now in
-    let n = start .args .count in
-    let before = flat (start .args .head .now) (start .args .macroblocks .now) (start .args .levels .now) in
-    let is = sym (c .before .before .before .before .before .before .before .before .before .before .before .kind .given .1) in
-    let given = c .before .before .before .before .before .before .read .ensures in (
-      given .0 ∙ ap (λ (k : Kind). verdictOn (readOf k bytes n before)) is,
-      (given .1 .0 ∙ ap (λ (k : Kind). foundOr before (readOf k bytes n before)) is, given .1 .1 ∙ ap (λ (k : Kind). readCount k bytes n before) is),
-    )
+    let s = c .before .before .before .before .before .before .before .before .before in
+    unfit (s .args .kind) (s .args .bytes .now) (s .args .count) (buffers s) (c .before .has-lengths .ensures) (not-true _ (c .if1 .taken))
+
+-- the buffers have their lengths
+abbrev start : tie.Else1 → tie.Start
+start e = e .before .before .before .before .before .before .before .before .before
+
+lengths : (e : tie.Else1) → Lengths (shapeOf (start e .args .kind)) (buffers (start e))
+lengths e = let s = start e in lengths-are (s .args .kind) (s .args .bytes .now) (s .args .count) (buffers s) (e .before .has-lengths .ensures) (not-false _ (e .if1 .left))
+
+read-small-requires : tie.Need-read-small-requires
+read-small-requires c κs =
+    let e = c .before .before .before .before .before .before in
+    (room-small (start e .args .kind) (c .before .before .before .before .before .size-of .ensures) (omega (arith, ap limit (c .before .before .before .enum-told .given .1))), lengths e)
+
+read-small-requires-2 : tie.Need-read-small-requires-2
+read-small-requires-2 c κs =
+    let e = c .before .before .before .before .before .before in
+    (room-small (start e .args .kind) (c .before .before .before .before .before .size-of .ensures) (omega (arith, ap limit (c .before .before .before .enum-told2 .given .1))), lengths e)
+
+read-large-requires : tie.Need-read-large-requires
+read-large-requires c κs = let e = c .before .before .before .before .before .before in (room-large (start e .args .kind), lengths e)
 
 returns-2 : tie.Need-returns-2
-unfolding readOf readCount codingOf readsOf R263.readOf R263.readCount
 returns-2 c =
-    let start = c .before .before .before .before .before .before .before .before .before .before .before .before .before .before .before .before .before in
-    let bytes = start .args .bytes .now in
-    let n = start .args .count in
-    let before = flat (start .args .head .now) (start .args .macroblocks .now) (start .args .levels .now) in
-    let is = sym (c .before .before .before .before .before .before .before .before .before .before .before .kind2 .given .1) in
-    let given = c .before .before .before .before .before .before .read2 .ensures in (
-      given .0 ∙ ap (λ (k : Kind). verdictOn (readOf k bytes n before)) is,
-      (given .1 .0 ∙ ap (λ (k : Kind). foundOr before (readOf k bytes n before)) is, given .1 .1 ∙ ap (λ (k : Kind). readCount k bytes n before) is),
-    )
+    let e = c .before .before .before .before .before .before .before .before .before .before .before .before .before in let s = start e in let call = c .before .before .before .before .before .before .read-small in
+    fit (s .args .kind) (s .args .bytes .now) (s .args .count) (buffers s) (e .before .has-lengths .ensures) (not-false _ (e .if1 .left)) (call .result .verdict) (call .ensures .0) (call .ensures .1 .0) (call .ensures .1 .1)
+
+returns-3 : tie.Need-returns-3
+returns-3 c =
+    let e = c .before .before .before .before .before .before .before .before .before .before .before .before .before in let s = start e in let call = c .before .before .before .before .before .before .read-small2 in
+    fit (s .args .kind) (s .args .bytes .now) (s .args .count) (buffers s) (e .before .has-lengths .ensures) (not-false _ (e .if1 .left)) (call .result .verdict) (call .ensures .0) (call .ensures .1 .0) (call .ensures .1 .1)
+
+returns-4 : tie.Need-returns-4
+returns-4 c =
+    let e = c .before .before .before .before .before .before .before .before .before .before .before .before .before in let s = start e in let call = c .before .before .before .before .before .before .read-large in
+    fit (s .args .kind) (s .args .bytes .now) (s .args .count) (buffers s) (e .before .has-lengths .ensures) (not-false _ (e .if1 .left)) (call .result .verdict) (call .ensures .0) (call .ensures .1 .0) (call .ensures .1 .1)
 
 pub read-spec : {M : Type 1} → statement M
-read-spec = tie.close (tie.spec (λ c. search needs) (λ c κs. search needs) (λ c. search needs) (λ c κs. search needs) (λ c. search needs) (λ c. search needs) (λ c. search needs) returns (λ c. search needs) (λ c. search needs) (λ c. search needs) returns-2)
+read-spec =
+    tie.close
+    (tie.spec (λ c κs. search needs) (λ c. search needs) (λ c. search needs) (λ c. search needs) returns (λ c κs. search needs) (λ c. search needs)
+    read-small-requires (λ c. search needs) read-small-requires-2 (λ c. search needs) read-large-requires
+    (λ c. search needs) (λ c. search needs) (λ c. search needs) returns-2 (λ c. search needs) (λ c. search needs) (λ c. search needs) returns-3
+    (λ c. search needs) (λ c. search needs) (λ c. search needs) returns-4)

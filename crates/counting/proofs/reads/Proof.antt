@@ -2,7 +2,7 @@
 use borrow.Author.Needs.{needs}
 use native.Mathlib.Omega.{arith}
 use Rattle.size.proofs.Room.{part-long}
-use Rattle.coding.proofs.Scratch.{room-large, scratch-blank}
+use Rattle.coding.proofs.Scratch.{room-large, scratch-zeros}
 use Rattle.counting.proofs.reads.Statement.{statement}
 use Rattle.counting.proofs.reads.Tie as tie
 
@@ -25,7 +25,7 @@ slice-aggregate-parse-counted-3 : tie.Need-slice-aggregate-parse-counted-3
 slice-aggregate-parse-counted-3 c = part-long _ (array-borrow-prefix-levels (c .before))
 
 parse-counted-requires : tie.Need-parse-counted-requires
-parse-counted-requires c κs = scratch-blank (c .before .before .before .before .before .before .before .args .kind) (room-large (c .before .before .before .before .before .before .before .args .kind)) (c .before .before .before .before .before .head-length .ensures) (c .before .before .before .before .macroblocks-length .ensures) (c .before .before .before .levels-length .ensures)
+parse-counted-requires c κs = scratch-zeros (c .before .before .before .before .before .before .before .args .kind) (room-large (c .before .before .before .before .before .before .before .args .kind)) (c .before .before .before .before .before .head-length .ensures) (c .before .before .before .before .macroblocks-length .ensures) (c .before .before .before .levels-length .ensures)
 
 pub reads-spec : {M : Type 1} → statement M
 reads-spec =

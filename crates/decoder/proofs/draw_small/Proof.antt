@@ -1,34 +1,24 @@
 -- `decoder::draw_small` meets its contract: the scratch has room for the kind. Assumes nothing.
 use borrow.Author.Needs.{needs}
-use native.Mathlib.Omega.{arith}
 use Rattle.size.proofs.Room.{part-long}
-use Rattle.coding.proofs.Scratch.{scratch-blank}
+use Rattle.coding.proofs.Scratch.{scratch-zeros}
 use Rattle.decoder.proofs.draw_small.Statement.{statement}
 use Rattle.decoder.proofs.draw_small.Tie as tie
 
 array-borrow-prefix-head : tie.Need-array-borrow-prefix-head
-array-borrow-prefix-head c =
-    let at-head-length = c .before .before in
-    let start = at-head-length .before .before .before .before in
-    omega (arith, at-head-length .head-length .ensures, (start .pre .0) .head-room)
+array-borrow-prefix-head c = search needs
 
 slice-aggregate-draw-in : tie.Need-slice-aggregate-draw-in
 slice-aggregate-draw-in c = part-long _ (array-borrow-prefix-head (c .before))
 
 array-borrow-prefix-macroblocks : tie.Need-array-borrow-prefix-macroblocks
-array-borrow-prefix-macroblocks c =
-    let at-macroblocks-length = c .before .before in
-    let start = at-macroblocks-length .before .before .before .before .before in
-    omega (arith, at-macroblocks-length .macroblocks-length .ensures, (start .pre .0) .macroblocks-room)
+array-borrow-prefix-macroblocks c = search needs
 
 slice-aggregate-draw-in-2 : tie.Need-slice-aggregate-draw-in-2
 slice-aggregate-draw-in-2 c = part-long _ (array-borrow-prefix-macroblocks (c .before))
 
 array-borrow-prefix-levels : tie.Need-array-borrow-prefix-levels
-array-borrow-prefix-levels c =
-    let at-levels-length = c .before .before in
-    let start = at-levels-length .before .before .before .before .before .before in
-    omega (arith, at-levels-length .levels-length .ensures, (start .pre .0) .levels-room)
+array-borrow-prefix-levels c = search needs
 
 slice-aggregate-draw-in-3 : tie.Need-slice-aggregate-draw-in-3
 slice-aggregate-draw-in-3 c = part-long _ (array-borrow-prefix-levels (c .before))
@@ -40,7 +30,7 @@ draw-in-requires c κs =
     let at-head-length = at-macroblocks-length .before in
     let start = at-head-length .before .before .before .before in
     record {
-      blank = scratch-blank (start .args .kind) (start .pre .0) (at-head-length .head-length .ensures) (at-macroblocks-length .macroblocks-length .ensures) (at-levels-length .levels-length .ensures);
+      blank = scratch-zeros (start .args .kind) (start .pre .0) (at-head-length .head-length .ensures) (at-macroblocks-length .macroblocks-length .ensures) (at-levels-length .levels-length .ensures);
       drawing = start .pre .1;
     }
 

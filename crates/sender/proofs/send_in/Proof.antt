@@ -6,11 +6,6 @@ use Rattle.sender.proofs.Steps.{count-fits, bytes-fit, bytes-long, is-e
 use Rattle.sender.proofs.send_in.Statement.{statement}
 use Rattle.sender.proofs.send_in.Tie as tie
 
-write-valid-requires : tie.Need-write-valid-requires
-write-valid-requires c κs =
-    let start = c .before .before .before .before .before .before .before .before in
-    record { valid-is = start .pre .0 .valid-is; out-long = start .pre .1 }
-
 returns : tie.Need-returns
 unfolding number readTable
 returns c =
@@ -19,7 +14,7 @@ returns c =
     let at-size-of = at-limit .before in
     let at-write = at-size-of .before .before .before in
     let start = at-write .before .before .before .before .before .before .before .before .before in
-    above-comes (start .pre .0) (at-size-of .size-of .ensures) (at-limit .limit .ensures) (at-write .write-valid .ensures .0) (at-if1 .if1 .taken) (c .refused .ensures)
+    above-comes (start .pre .0) (at-size-of .size-of .ensures) (at-limit .limit .ensures) (start .args .scratch .now) (at-write .append-picture .ensures) (at-if1 .if1 .taken) (c .refused .ensures)
 
 add-bytes : tie.Need-add-bytes
 add-bytes c =
@@ -27,7 +22,7 @@ add-bytes c =
     let at-size-of = at-limit .before in
     let at-write = at-size-of .before .before .before in
     let start = at-write .before .before .before .before .before .before .before .before .before in
-    omega (arith, count-fits (start .pre .0) (at-size-of .size-of .ensures) (at-limit .limit .ensures) (at-write .write-valid .ensures .0) (c .if1 .left))
+    omega (arith, count-fits (start .pre .0) (at-size-of .size-of .ensures) (at-limit .limit .ensures) (start .args .scratch .now) (at-write .append-picture .ensures) (c .if1 .left))
 
 slice-reshare-prefix-put : tie.Need-slice-reshare-prefix-put
 slice-reshare-prefix-put c =
@@ -35,7 +30,7 @@ slice-reshare-prefix-put c =
     let at-size-of = at-limit .before in
     let at-write = at-size-of .before .before .before in
     let start = at-write .before .before .before .before .before .before .before .before .before in
-    bytes-fit (start .pre .0) (at-size-of .size-of .ensures) (at-limit .limit .ensures) (at-write .write-valid .ensures .0) (c .if1 .left) (start .args .scratch .now) (start .pre .1) (at-write .write-valid .kept .1 .1 .1 .1 .0) (at-write .write-valid .ensures .1)
+    bytes-fit (start .pre .0) (at-size-of .size-of .ensures) (at-limit .limit .ensures) (start .args .scratch .now) (at-write .append-picture .ensures) (c .if1 .left) (start .pre .1)
 
 slice-aggregate-put : tie.Need-slice-aggregate-put
 slice-aggregate-put c =
@@ -44,7 +39,7 @@ slice-aggregate-put c =
     let at-size-of = at-limit .before in
     let at-write = at-size-of .before .before .before in
     let start = at-write .before .before .before .before .before .before .before .before .before in
-    bytes-long (start .pre .0) (at-size-of .size-of .ensures) (at-limit .limit .ensures) (at-write .write-valid .ensures .0) (at-if1 .if1 .left) (start .args .scratch .now) (start .pre .1) (at-write .write-valid .kept .1 .1 .1 .1 .0) (at-write .write-valid .ensures .1)
+    bytes-long (start .pre .0) (at-size-of .size-of .ensures) (at-limit .limit .ensures) (start .args .scratch .now) (at-write .append-picture .ensures) (at-if1 .if1 .left) (start .pre .1)
 
 put-requires : tie.Need-put-requires
 put-requires c κs =
@@ -53,7 +48,7 @@ put-requires c κs =
     let at-size-of = at-limit .before in
     let at-write = at-size-of .before .before .before in
     let start = at-write .before .before .before .before .before .before .before .before .before in
-    is-encoded (start .pre .0) (at-size-of .size-of .ensures) (at-limit .limit .ensures) (at-write .write-valid .ensures .0) (at-if1 .if1 .left) (start .args .scratch .now) (start .pre .1) (at-write .write-valid .kept .1 .1 .1 .1 .0) (at-write .write-valid .ensures .1)
+    is-encoded (start .pre .0) (at-size-of .size-of .ensures) (at-limit .limit .ensures) (start .args .scratch .now) (at-write .append-picture .ensures) (at-if1 .if1 .left) (start .pre .1)
 
 returns-2 : tie.Need-returns-2
 returns-2 c =
@@ -63,11 +58,11 @@ returns-2 c =
     let at-size-of = at-limit .before in
     let at-write = at-size-of .before .before .before in
     let start = at-write .before .before .before .before .before .before .before .before .before in
-    sent-comes (start .pre .0) (at-size-of .size-of .ensures) (at-limit .limit .ensures) (at-write .write-valid .ensures .0) (at-if1 .if1 .left) (at-put .put .ensures)
+    sent-comes (start .pre .0) (at-size-of .size-of .ensures) (at-limit .limit .ensures) (start .args .scratch .now) (at-write .append-picture .ensures) (at-if1 .if1 .left) (at-put .put .ensures)
 
 pub send-in-spec : {M : Type 1} → statement M
 send-in-spec =
     tie.close
-    (tie.spec write-valid-requires (λ c κs. search needs) (λ c κs. search needs) (λ c κs. search needs) (λ c. search needs) returns add-bytes
+    (tie.spec (λ c κs. search needs) (λ c κs. search needs) (λ c κs. search needs) (λ c κs. search needs) (λ c. search needs) returns add-bytes
     slice-reshare-prefix-put slice-aggregate-put put-requires (λ c. search needs) (λ c. search needs) (λ c. search needs)
     (λ c. search needs) returns-2)

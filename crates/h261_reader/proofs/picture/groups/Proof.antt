@@ -68,7 +68,7 @@ module _ (c : tie.After-mba Inv-group μ-group Inv-picture μ-picture) where
 picture-holds : tie.Need-picture-holds Inv-group μ-group Inv-picture μ-picture
 picture-holds c =
     let start = c .before .before .before .before .before in
-    picture-first _ _ _ _ _ _ _ (start .pre .0 .placed) (start .pre .1 .head-long) (start .pre .1 .ms-long) (start .pre .1 .ls-long)
+    picture-first _ _ _ _ _ _ _ (start .pre .0 .placed) (start .pre .1 .head-length) (start .pre .1 .macroblocks-length) (start .pre .1 .levels-length)
 
 group-number-requires : tie.Need-group-number-requires Inv-group μ-group Inv-picture μ-picture
 group-number-requires c κs = to-come c

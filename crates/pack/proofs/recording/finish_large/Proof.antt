@@ -1,31 +1,23 @@
--- `pack::recording::finish_large` meets its contract: the scratch has room for any kind. Assumes nothing.
+-- `pack::recording::finish_large` meets its contract: the scratch has room for the kind. Assumes nothing.
 use borrow.Author.Needs.{needs}
-use native.Mathlib.Omega.{arith}
 use Rattle.size.proofs.Room.{part-long}
-use Rattle.coding.proofs.Scratch.{room-large}
 use Rattle.pack.proofs.recording.finish_large.Statement.{statement}
 use Rattle.pack.proofs.recording.finish_large.Tie as tie
 
 array-borrow-prefix-head : tie.Need-array-borrow-prefix-head
-array-borrow-prefix-head c =
-    let at-head-length = c .before .before in
-    omega (arith, at-head-length .head-length .ensures, room-large (at-head-length .before .before .before .before .args .kind) .head-room)
+array-borrow-prefix-head c = search needs
 
 slice-aggregate-finish-in : tie.Need-slice-aggregate-finish-in
 slice-aggregate-finish-in c = part-long _ (array-borrow-prefix-head (c .before))
 
 array-borrow-prefix-macroblocks : tie.Need-array-borrow-prefix-macroblocks
-array-borrow-prefix-macroblocks c =
-    let at-macroblocks-length = c .before .before in
-    omega (arith, at-macroblocks-length .macroblocks-length .ensures, room-large (at-macroblocks-length .before .before .before .before .before .args .kind) .macroblocks-room)
+array-borrow-prefix-macroblocks c = search needs
 
 slice-aggregate-finish-in-2 : tie.Need-slice-aggregate-finish-in-2
 slice-aggregate-finish-in-2 c = part-long _ (array-borrow-prefix-macroblocks (c .before))
 
 array-borrow-prefix-levels : tie.Need-array-borrow-prefix-levels
-array-borrow-prefix-levels c =
-    let at-levels-length = c .before .before in
-    omega (arith, at-levels-length .levels-length .ensures, room-large (at-levels-length .before .before .before .before .before .before .args .kind) .levels-room)
+array-borrow-prefix-levels c = search needs
 
 slice-aggregate-finish-in-3 : tie.Need-slice-aggregate-finish-in-3
 slice-aggregate-finish-in-3 c = part-long _ (array-borrow-prefix-levels (c .before))
