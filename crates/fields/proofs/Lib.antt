@@ -6,3 +6,4 @@ pub mod RuleReads
 pub mod Uncounted
 pub mod PictureAnswer
 pub mod HeaderRow
+pub mod Calls
