@@ -7,7 +7,7 @@ use crate::End;
 use standing::Answer;
 
 // How many pictures were finished; whether a picture has begun and isn't finished; whether something was cut.
-#[derive(Drop)]
+#[derive(Clone, Copy)]
 pub struct Met {
     pub pictures: u64,
     pub begun: bool,

@@ -3,7 +3,7 @@ ghost use Rattle.std.specs.Prelude.{◌≡◌};
 ghost use Rattle.account.specs.Going.{run_goes_on, going_after_write};
 
 // There is more to do; or the input has ended, it can't be read, or the output can't be written.
-#[derive(Drop)]
+#[derive(Clone, Copy)]
 pub enum Going {
     On,
     Ended,

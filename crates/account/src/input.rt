@@ -6,14 +6,14 @@ ghost use Rattle.account.specs.Input.{next_of};
 use libc::STDIN_FILENO;
 
 // How many bytes were read, and whether the read after them failed.
-#[derive(Drop)]
+#[derive(Clone, Copy)]
 pub struct Filled {
     pub count: usize,
     pub failed: bool,
 }
 
 // The input's next block, its end inside a block, its end, or a read that failed.
-#[derive(Drop)]
+#[derive(Clone, Copy)]
 pub enum Next {
     Block,
     Short,

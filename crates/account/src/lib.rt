@@ -12,7 +12,7 @@ pub mod remarks;
 
 // How a run ends: its words name nothing; the input can't be read; the output can't be written; or the input came to its end, with
 // whether something was cut, and how many pictures, or data bits, came out.
-#[derive(Drop)]
+#[derive(Clone, Copy)]
 pub enum End {
     Misnamed,
     Unread,

@@ -7,26 +7,26 @@ use size::Size;
 use text::same;
 use vault::Standard;
 
-#[derive(Drop)]
+#[derive(Clone, Copy)]
 pub enum SizeWord {
     Names(Size),
     Other,
 }
 
-#[derive(Drop)]
+#[derive(Clone, Copy)]
 pub enum KindWord {
     Names(Kind),
     Other,
 }
 
-#[derive(Drop)]
+#[derive(Clone, Copy)]
 pub enum ClipWord {
     Names(u16),
     Other,
 }
 
 // The words after the name of a program that takes a vault's blocks.
-#[derive(Drop)]
+#[derive(Clone, Copy)]
 pub enum VaultWords {
     Size(Size),
     Clip(Size, u16),

@@ -13,14 +13,14 @@ mod logs;
 mod steps;
 
 // Where a word is wrong.
-#[derive(Drop)]
+#[derive(Clone, Copy)]
 pub enum Places {
     Nowhere,
     One(usize),
     Two(usize, usize),
 }
 
-#[derive(Drop)]
+#[derive(Clone, Copy)]
 pub enum Mending {
     Mended,
     Unmended,

@@ -9,7 +9,7 @@ ghost use Rattle.bit_reader.specs.Reader.{reader_over, reader_bits, Inside, plac
 use bits::FieldRead;
 
 // The first `count` bits of `bytes`, at a place.
-#[derive(Drop)]
+#[derive(Clone, Copy)]
 pub struct BitReader<'a> {
     pub bytes: &'a [u8],
     pub count: usize,

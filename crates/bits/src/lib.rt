@@ -14,21 +14,21 @@ pub mod codeword;
 pub mod settled;
 
 // A place that counts: the number of a bit, and how many fields and codewords were read before it.
-#[derive(Drop)]
+#[derive(Clone, Copy)]
 pub struct Place {
     pub bit: usize,
     pub reads: usize,
 }
 
 // A refusal, and how many fields and codewords were read up to it, the failed one with them.
-#[derive(Drop)]
+#[derive(Clone, Copy)]
 pub struct Stopped {
     pub refusal: Refusal,
     pub reads: usize,
 }
 
 // "each read gives either a meaning with the next place or a refusal": a field's number, or what a codeword means.
-#[derive(Drop)]
+#[derive(Clone, Copy)]
 pub enum FieldRead {
     Got(u32, usize),
     Refused(Refusal),

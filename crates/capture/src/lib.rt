@@ -12,7 +12,7 @@ use refusals::{Reason, Refusal};
 
 // ---- lock
 
-#[derive(Drop)]
+#[derive(Clone, Copy)]
 pub enum LockFound {
     At(usize),
     Nowhere,
@@ -68,7 +68,7 @@ pub fn lock(capture: &[u8], count: usize, from: usize) -> LockFound
 
 // ---- a frame
 
-#[derive(Drop)]
+#[derive(Clone, Copy)]
 pub enum Came {
     Data,
     Fill,
@@ -137,7 +137,7 @@ pub fn step(steps: &[u32; 256], capture: &[u8], at: usize, out: &mut [u8], to: u
 // ---- a capture
 
 // How many data bits and how many places were written.
-#[derive(Drop)]
+#[derive(Clone, Copy)]
 pub struct Tally {
     pub bits: usize,
     pub places: usize,
@@ -167,7 +167,7 @@ fn counted(came: Came, at: usize, places: &mut [u64], tally: Tally) -> Tally
     }
 }
 
-#[derive(Drop)]
+#[derive(Clone, Copy)]
 pub enum Replayed {
     // The place of lock; how many data bits, and how many places, were written.
     Done(usize, usize, usize),

@@ -16,7 +16,7 @@ use size::Size;
 // ---- records
 
 // A description's lengths, head, macroblocks, levels; or the end of the input.
-#[derive(Drop)]
+#[derive(Clone, Copy)]
 pub enum Description {
     Lengths(usize, usize, usize),
     Ended,

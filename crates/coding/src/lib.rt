@@ -14,7 +14,7 @@ use size::Size;
 use vault::Standard;
 
 // A standard, with the size of its pictures.
-#[derive(Drop)]
+#[derive(Clone, Copy)]
 pub enum Kind {
     H261(Format),
     H263(Size),
@@ -39,7 +39,7 @@ pub fn standard_of(kind: Kind) -> Standard
 }
 
 // A standard's kind of this size, if it has one.
-#[derive(Drop)]
+#[derive(Clone, Copy)]
 pub enum KindFound {
     Kind(Kind),
     Absent,
@@ -154,9 +154,9 @@ fn read_in(
     match verdict {
         Verdict::Refused(_) => read,
         Verdict::Accepted => {
-            bytes::copy(header, head);
-            bytes::copy(fields, macroblocks);
-            bytes::copy(coefficients, levels);
+            head.copy_from_slice(header);
+            macroblocks.copy_from_slice(fields);
+            levels.copy_from_slice(coefficients);
             read
         }
     }
@@ -362,7 +362,7 @@ fn write_in(
         return count;
     }
     let started = (count + 7) / 8;
-    bytes::copy(&scratch[..started], out);
+    out.copy_from_slice(&scratch[..started]);
     count
 }
 

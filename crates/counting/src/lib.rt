@@ -16,7 +16,7 @@ use standing::{Answer, Line, Opened, Progress, Receiver};
 use vault::{Checked, Header};
 
 // Whether a block ended a picture, which was then read, and of how many bits.
-#[derive(Drop)]
+#[derive(Clone, Copy)]
 pub enum Ending {
     Nothing,
     Picture(usize),

@@ -12,14 +12,14 @@ use refusals::{Reason, Refusal, Verdict};
 use size::Size;
 
 // The refresh mark that a picture came with, if it came with one.
-#[derive(Drop)]
+#[derive(Clone, Copy)]
 pub enum Mark {
     Absent,
     Refresh(bool),
 }
 
 // What came of a picture that was to be drawn: it is, and this is its TR; or it is refused.
-#[derive(Drop)]
+#[derive(Clone, Copy)]
 pub enum Drawn {
     Picture(u32),
     Refused(Refusal),

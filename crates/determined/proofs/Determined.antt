@@ -46,7 +46,6 @@ use Rattle.h261_layers.specs.declared.Behind.{Behind}
 use Rattle.h261_layers.specs.declared.MacroblockRead.{MacroblockRead}
 use Rattle.fields.specs.declared.PlaceRead.{PlaceRead}
 use Rattle.fields.specs.declared.PairRead.{PairRead}
-use Rattle.fields.specs.declared.PlaceRead.{PlaceRead}
 use Rattle.bits.specs.declared.FieldRead.TheVariants as F
 use Rattle.h261_words.specs.declared.CoefficientRead.TheVariants as C
 use Rattle.h263_words.specs.declared.EventRead.TheVariants as E

@@ -13,7 +13,7 @@ use bits::{FieldRead, Place, Stopped, field, field_refusal};
 use refusals::{Reason, Refusal, Verdict};
 
 // A field's number, or what a codeword means, with the next place; or the refusal.
-#[derive(Drop)]
+#[derive(Clone, Copy)]
 pub enum NumberRead {
     Got(u32, Place),
     Refused(Stopped),
@@ -44,7 +44,7 @@ pub fn field_stopped(reads: usize, read: FieldRead) -> Stopped
 }
 
 // Where a layer ended, or the refusal.
-#[derive(Drop)]
+#[derive(Clone, Copy)]
 pub enum PlaceRead {
     At(Place),
     Refused(Stopped),
@@ -67,7 +67,7 @@ pub fn place_stopped(read: PlaceRead) -> Stopped
 }
 
 // Two small numbers, with the next place; or the refusal.
-#[derive(Drop)]
+#[derive(Clone, Copy)]
 pub enum PairRead {
     Got(u8, u8, Place),
     Refused(Stopped),
@@ -90,7 +90,7 @@ pub fn pair_stopped(read: PairRead) -> Stopped
 }
 
 // What reading a picture comes to: the verdict, and how many fields and codewords were read, up to a refusal if it was refused.
-#[derive(Drop)]
+#[derive(Clone, Copy)]
 pub struct PictureRead {
     pub verdict: Verdict,
     pub reads: usize,

@@ -26,7 +26,7 @@ use standing::{Answer, Received, Receiver};
 use ticks::Tick;
 
 // Whether there is a frame for each tick, and the frames that were written between pictures.
-#[derive(Drop)]
+#[derive(Clone, Copy)]
 struct Timing {
     timed: bool,
     repeated: u64,
@@ -34,14 +34,14 @@ struct Timing {
 }
 
 // After the frames between two pictures: whether all were written.
-#[derive(Drop)]
+#[derive(Clone, Copy)]
 struct Filled {
     timing: Timing,
     all: bool,
 }
 
 // After a turn: whether there is more to do, the clip, what was met so far, the blocks that led to no picture, and the frames between pictures.
-#[derive(Drop)]
+#[derive(Clone, Copy)]
 struct Turn {
     going: Going,
     clip: Clip,

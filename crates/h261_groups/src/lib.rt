@@ -7,7 +7,7 @@ use size::Size;
 
 pub mod order;
 
-#[derive(Drop)]
+#[derive(Clone, Copy)]
 pub enum Format {
     Qcif,
     Cif,

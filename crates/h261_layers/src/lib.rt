@@ -11,7 +11,7 @@ pub mod macroblock;
 pub mod vector;
 
 // What stands at an MBA place.
-#[derive(Drop)]
+#[derive(Clone, Copy)]
 pub enum MbaRead {
     Step(usize, Place),
     Stuffing(Place),
@@ -20,14 +20,14 @@ pub enum MbaRead {
 }
 
 // What the last macroblock of a group leaves behind: its address, 0 before the first, and its vector, zero where it isn't MC.
-#[derive(Drop)]
+#[derive(Clone, Copy)]
 pub struct Behind {
     pub address: usize,
     pub horizontal: u8,
     pub vertical: u8,
 }
 
-#[derive(Drop)]
+#[derive(Clone, Copy)]
 pub enum MacroblockRead {
     Got(Behind, Place),
     Refused(Stopped),

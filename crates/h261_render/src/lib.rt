@@ -17,7 +17,7 @@ mod block;
 mod macroblock;
 
 // What a macroblock that is sent is predicted from: nothing, the reference, or the reference filtered.
-#[derive(Drop)]
+#[derive(Clone, Copy)]
 pub enum Prediction {
     Intra,
     Inter,

@@ -6,7 +6,7 @@ ghost use Rattle.h263_description.specs.Landing.{residue_of};
 ghost use Rattle.h263_description.specs.Kept.{kept_vector, median_kept, vectors_in, BytesNear, PredictorAsked};
 
 // A vector, each component kept as 32 more than it is.
-#[derive(Drop)]
+#[derive(Clone, Copy)]
 pub struct Kept {
     pub horizontal: usize,
     pub vertical: usize,

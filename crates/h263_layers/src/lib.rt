@@ -8,7 +8,7 @@ pub mod start;
 pub mod vector;
 
 // What a picture's header says: TR, PTYPE bits 3 to 5, the type and PQUANT.
-#[derive(Drop)]
+#[derive(Clone, Copy)]
 pub struct Header {
     pub tr: u8,
     pub ptype: u8,
@@ -16,14 +16,14 @@ pub struct Header {
     pub pquant: u8,
 }
 
-#[derive(Drop)]
+#[derive(Clone, Copy)]
 pub enum HeaderRead {
     Got(Header, Place),
     Refused(Stopped),
 }
 
 // What stands where a macroblock is to begin: stuffing, a macroblock that isn't sent, or one with this MCBPC.
-#[derive(Drop)]
+#[derive(Clone, Copy)]
 pub enum FoundRead {
     Stuffed(Place),
     Unsent(Place),
@@ -32,7 +32,7 @@ pub enum FoundRead {
 }
 
 // A macroblock once its header, if one stood there, and stuffing are read: its group's GQUANT, 0 where no header stands, and its MCBPC, if it is sent.
-#[derive(Drop)]
+#[derive(Clone, Copy)]
 pub enum OpenedRead {
     Unsent(u32, Place),
     Coded(u32, u32, Place),

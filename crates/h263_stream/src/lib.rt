@@ -14,7 +14,7 @@ use refusals::{Refusal, Verdict};
 use size::Size;
 
 // What has gone by of a stream.
-#[derive(Drop)]
+#[derive(Clone, Copy)]
 pub struct Stream {
     // How many bytes, and the last two of them.
     pub place: usize,
@@ -181,7 +181,7 @@ pub fn completes(stream: Stream, byte: u8) -> bool
 }
 
 // What has gone by, and the place in the lent bytes of the next one.
-#[derive(Drop)]
+#[derive(Clone, Copy)]
 pub struct Passed {
     pub stream: Stream,
     pub at: usize,

@@ -14,7 +14,7 @@ use listing::Clip;
 use size::Size;
 
 // After a turn: whether there is more to do, the clip, and what was met so far.
-#[derive(Drop)]
+#[derive(Clone, Copy)]
 struct Turn {
     going: Going,
     clip: Clip,

@@ -18,14 +18,14 @@ use ticks::Tick;
 use vault::{Checked, Header};
 
 // The clip that is listed: any, or one that was asked for by its number, until its first good block; then its receiver.
-#[derive(Drop)]
+#[derive(Clone, Copy)]
 pub enum Clip {
     Unknown,
     Asked(u16),
     Known(Receiver),
 }
 
-#[derive(Drop)]
+#[derive(Clone, Copy)]
 pub struct Listed {
     pub answer: Answer,
     pub next: Clip,

@@ -6,7 +6,7 @@ use standing::{Last, Receiver, Standing};
 use ticks::Tick;
 
 // How many frames: the last picture again, or grey.
-#[derive(Drop)]
+#[derive(Clone, Copy)]
 pub enum Between {
     Repeated(u32),
     Grey(u32),

@@ -8,7 +8,7 @@ use h261_groups::Format;
 use stream::Stream;
 
 // What has gone by of the stream, and the recording so far.
-#[derive(Drop)]
+#[derive(Clone, Copy)]
 pub struct H261Pack {
     pub format: Format,
     pub stream: Stream,

@@ -6,7 +6,7 @@ use h263_stream::Stream;
 use size::Size;
 
 // What has gone by of the stream, and the recording so far.
-#[derive(Drop)]
+#[derive(Clone, Copy)]
 pub struct H263Pack {
     pub size: Size,
     pub stream: Stream,

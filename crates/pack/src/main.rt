@@ -20,14 +20,14 @@ mod h261;
 mod h263;
 mod recording;
 
-#[derive(Drop)]
+#[derive(Clone, Copy)]
 enum Pack {
     H261(H261Pack),
     H263(H263Pack),
 }
 
 // Whether there is more to read, whether it can be read, and what came of it so far.
-#[derive(Drop)]
+#[derive(Clone, Copy)]
 struct Turn {
     more: bool,
     reads: bool,

@@ -10,7 +10,7 @@ use sender::{Answer, Sender};
 use size::Size;
 
 // The sender so far; whether the blocks can still be written; whether something was cut; whether a terminal shows how far it has come.
-#[derive(Drop)]
+#[derive(Clone, Copy)]
 pub struct Recording {
     pub sender: Sender,
     pub writes: bool,
@@ -19,7 +19,7 @@ pub struct Recording {
 }
 
 // A picture that is whole: of H.261 so many bits, the last one of them before a place; of H.263 so many bytes.
-#[derive(Drop)]
+#[derive(Clone, Copy)]
 pub enum Whole {
     H261(Format, usize, usize),
     H263(Size, usize),

@@ -19,7 +19,7 @@ use size::Size;
 use standing::Answer;
 
 // After a turn: whether there is more to do, the clip, and what was met so far.
-#[derive(Drop)]
+#[derive(Clone, Copy)]
 struct Turn {
     going: Going,
     clip: Clip,

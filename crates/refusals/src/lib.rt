@@ -3,7 +3,7 @@ ghost use Rattle.std.specs.Prelude.{◌≡◌};
 ghost use Rattle.refusals.specs.Number.{number, table_number, read_table, refusal};
 
 // The table of codewords that was being read: H.261's Tables 1 to 5, then H.263's.
-#[derive(Drop)]
+#[derive(Clone, Copy)]
 pub enum Table {
     Mba,
     Mtype,
@@ -17,7 +17,7 @@ pub enum Table {
     Tcoef263,
 }
 
-#[derive(Drop)]
+#[derive(Clone, Copy)]
 pub enum Reason {
     Length,
     Count,
@@ -45,21 +45,21 @@ pub enum Reason {
     NoLock,
 }
 
-#[derive(Drop)]
+#[derive(Clone, Copy)]
 pub struct Refusal {
     pub reason: Reason,
     pub place: usize,
 }
 
 // The verdict of the rules on a picture.
-#[derive(Drop)]
+#[derive(Clone, Copy)]
 pub enum Verdict {
     Accepted,
     Refused(Refusal),
 }
 
 // What a writer answers: the number of bits, or the refusal.
-#[derive(Drop)]
+#[derive(Clone, Copy)]
 pub enum Written {
     Bits(usize),
     Refused(Refusal),

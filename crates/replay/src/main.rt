@@ -12,7 +12,7 @@ use account::input::Filled;
 use capture::{Came, LockFound};
 use libc::{STDERR_FILENO, STDOUT_FILENO};
 
-#[derive(Drop)]
+#[derive(Clone, Copy)]
 struct State {
     // The capture's bits before those of the buffer; the buffer's bytes; its next bit.
     gone: u64,

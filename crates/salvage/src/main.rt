@@ -36,13 +36,13 @@ fn follow(file: i32, ahead: i32) -> bool {
 // ---- looking ahead
 
 // What is looked for: any picture that is finished, or whether this one is.
-#[derive(Drop)]
+#[derive(Clone, Copy)]
 enum Sought {
     Any,
     Picture(u32),
 }
 
-#[derive(Drop)]
+#[derive(Clone, Copy)]
 enum Found {
     Open,
     Yes,
@@ -51,7 +51,7 @@ enum Found {
 }
 
 // How far a search has come.
-#[derive(Drop)]
+#[derive(Clone, Copy)]
 struct Search {
     receiver: Receiver,
     found: Found,
@@ -152,7 +152,7 @@ fn find(
 // ---- a picture's fate
 
 // What is known of the picture that is collected, and whether all could be read that had to be.
-#[derive(Drop)]
+#[derive(Clone, Copy)]
 struct Settled {
     fate: Fate,
     read: bool,
@@ -178,7 +178,7 @@ fn settled_by(picture: u32, found: Found) -> Settled {
 // The two are of one length, so that the test never fails.
 fn copy(from: &[u8], to: &mut [u8]) {
     if from.len() <= to.len() {
-        bytes::copy(from, to);
+        to.copy_from_slice(from);
     }
 }
 
@@ -264,7 +264,7 @@ fn say_all(entries: Entries) -> bool {
 // ---- a block
 
 // What the blocks so far have led to.
-#[derive(Drop)]
+#[derive(Clone, Copy)]
 struct State {
     receiver: Receiver,
     fate: Fate,
@@ -272,7 +272,7 @@ struct State {
     cut: bool,
 }
 
-#[derive(Drop)]
+#[derive(Clone, Copy)]
 struct Turn {
     going: Going,
     state: State,
@@ -573,7 +573,7 @@ fn run(kind: Kind, file: i32, ahead: i32, clip: u16, opened: Receiver) -> End {
 
 // ---- the list's length
 
-#[derive(Drop)]
+#[derive(Clone, Copy)]
 enum Length {
     Whole,
     Part,

@@ -26,7 +26,7 @@ use ticks::Tick;
 // ---- a block
 
 // How many pictures are kept so far, and the number after the last one's.
-#[derive(Drop)]
+#[derive(Clone, Copy)]
 pub struct Tally {
     pub pictures: u64,
     pub next: u64,
@@ -71,14 +71,14 @@ pub fn count(tally: Tally, answer: Answer) -> Tally
 // ---- its entries
 
 // A block is named by its number in the list. A kept picture's old number and its new one; the first and the last number of a run; a dropped block's answer.
-#[derive(Drop)]
+#[derive(Clone, Copy)]
 pub enum Entry {
     Kept(u64, u64, u64),
     Skipped(u64, u64, u64),
     Dropped(u64, Answer),
 }
 
-#[derive(Drop)]
+#[derive(Clone, Copy)]
 pub enum Entries {
     Nothing,
     One(Entry),
@@ -173,7 +173,7 @@ pub fn laid(entry: Entry) -> [u64; 5]
 // ---- the fate of a picture that is collected
 
 // Whether it is finished, where that is known.
-#[derive(Drop)]
+#[derive(Clone, Copy)]
 pub enum Fate {
     Unknown,
     Known(u32, bool),
@@ -198,7 +198,7 @@ pub fn is_kept(fate: Fate) -> bool
 }
 
 // The picture whose fate is to be found out.
-#[derive(Drop)]
+#[derive(Clone, Copy)]
 pub enum Asked {
     Nothing,
     Picture(u32),
@@ -235,7 +235,7 @@ pub fn still(fate: Fate, answer: Answer) -> Fate
 }
 
 // What a block ahead comes to for a picture that was collected.
-#[derive(Drop)]
+#[derive(Clone, Copy)]
 pub enum Sight {
     Finished,
     Gone,
@@ -438,9 +438,9 @@ fn settled(
     match asks(fate, answer) {
         Asked::Nothing => still(fate, answer),
         Asked::Picture(picture) => {
-            bytes::copy(collection, collection_ahead);
-            bytes::copy(first, first_ahead);
-            bytes::copy(second, second_ahead);
+            collection_ahead.copy_from_slice(collection);
+            first_ahead.copy_from_slice(first);
+            second_ahead.copy_from_slice(second);
             let kept = finishes(
                 receiver,
                 picture,
@@ -455,7 +455,7 @@ fn settled(
     }
 }
 
-#[derive(Drop)]
+#[derive(Clone, Copy)]
 pub enum Salvaged {
     // How many pictures, blocks and entries were written.
     Done(u64, usize, usize),

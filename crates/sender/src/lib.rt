@@ -15,7 +15,7 @@ use refusals::{Reason, Refusal};
 use size::Size;
 use standing::Holder;
 
-#[derive(Drop)]
+#[derive(Clone, Copy)]
 pub struct Sender {
     pub clip: u16,
     pub kind: Kind,
@@ -25,20 +25,20 @@ pub struct Sender {
     pub holder: Holder,
 }
 
-#[derive(Drop)]
+#[derive(Clone, Copy)]
 pub enum Opened {
     Open(Sender),
     Refused(Refusal),
 }
 
 // How many blocks were written, or the refusal.
-#[derive(Drop)]
+#[derive(Clone, Copy)]
 pub enum Answer {
     Blocks(usize),
     Refused(Refusal),
 }
 
-#[derive(Drop)]
+#[derive(Clone, Copy)]
 pub struct Sent {
     pub answer: Answer,
     pub next: Sender,

@@ -4,7 +4,7 @@ ghost use Rattle.size.specs.Size.{width, height, limit, store_length, output_len
 
 pub mod place;
 
-#[derive(Drop)]
+#[derive(Clone, Copy)]
 pub enum Size {
     SubQcif,
     Qcif,

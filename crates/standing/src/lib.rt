@@ -17,7 +17,7 @@ use ticks::Tick;
 use vault::Header;
 
 // Which store holds the last finished picture.
-#[derive(Drop)]
+#[derive(Clone, Copy)]
 pub enum Holder {
     Neither,
     First,
@@ -25,14 +25,14 @@ pub enum Holder {
 }
 
 // The part of a picture.
-#[derive(Drop)]
+#[derive(Clone, Copy)]
 pub struct Place {
     pub picture: u32,
     pub part: u8,
 }
 
 // How a receiver stands.
-#[derive(Drop)]
+#[derive(Clone, Copy)]
 pub enum Standing {
     Lost,
     Catching,
@@ -40,7 +40,7 @@ pub enum Standing {
 }
 
 // What a block changes.
-#[derive(Drop)]
+#[derive(Clone, Copy)]
 pub struct Progress {
     pub wanted: Place,
     pub standing: Standing,
@@ -49,14 +49,14 @@ pub struct Progress {
 }
 
 // What only a finished picture changes.
-#[derive(Drop)]
+#[derive(Clone, Copy)]
 pub struct Last {
     pub holder: Holder,
     pub picture: u32,
     pub tick: Tick,
 }
 
-#[derive(Drop)]
+#[derive(Clone, Copy)]
 pub struct Receiver {
     pub clip: u16,
     pub kind: Kind,
@@ -64,14 +64,14 @@ pub struct Receiver {
     pub last: Last,
 }
 
-#[derive(Drop)]
+#[derive(Clone, Copy)]
 pub enum Opened {
     Open(Receiver),
     Refused(Refusal),
 }
 
 // With the picture and the part; with the picture's number and its tick.
-#[derive(Drop)]
+#[derive(Clone, Copy)]
 pub enum Answer {
     Old(u32, u8),
     Taken(u32, u8),
@@ -80,14 +80,14 @@ pub enum Answer {
     Refused(Refusal),
 }
 
-#[derive(Drop)]
+#[derive(Clone, Copy)]
 pub struct Received {
     pub answer: Answer,
     pub next: Receiver,
 }
 
 // The first matching line of four.
-#[derive(Drop)]
+#[derive(Clone, Copy)]
 pub enum Line {
     Earlier,
     Next,

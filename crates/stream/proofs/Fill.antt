@@ -89,18 +89,18 @@ module _ (rest : List Bit) (reason : Reason) where
   last_ended address m = not_ended_by (eqb m stuffing) (eqb m start_code) (ltb 33 (address + m)) m _ _
 
   module _ (some : 1 ≤ length rest) (unread : (at : ℕ) → word table1 rest at ≡ bad reason at) where
-    module _ (f : Format) (number_of_lem : ℕ) (before : Before) (n m : ℕ) (on : (b : Before) → Ending (macroblocks_from n f true number_of_lem b) (macroblocks_from m f true number_of_lem b)) where
+    module _ (f : Format) (number_of : ℕ) (before : Before) (n m : ℕ) (on : (b : Before) → Ending (macroblocks_from n f true number_of b) (macroblocks_from m f true number_of b)) where
       abbrev less : Mba → Reader (List Macroblock)
-      less = macroblocks_after (macroblocks_from n f true number_of_lem) f number_of_lem before
+      less = macroblocks_after (macroblocks_from n f true number_of) f number_of before
 
       abbrev more : Mba → Reader (List Macroblock)
-      more = macroblocks_after (macroblocks_from m f true number_of_lem) f number_of_lem before
+      more = macroblocks_after (macroblocks_from m f true number_of) f number_of before
 
       abbrev mba_read : Reader Mba
       mba_read = judged_read (word table1) (mba_of true before.address)
 
       by_judged : (at : ℕ) (j : Judged Mba) → NotEnded j → (left : List Bit) (p : ℕ) → Ends (next (settle at j left p) less) (next (settle at j (left ++ rest) p) more)
-      by_judged at (fine (step s)) t left p = (end_then (ext_macroblock f number_of_lem before s) (λ x. end_map (λ (xs : List Macroblock). x ∷ xs) (on (before_next x)))).goes left p
+      by_judged at (fine (step s)) t left p = (end_then (ext_macroblock f number_of before s) (λ x. end_map (λ (xs : List Macroblock). x ∷ xs) (on (before_next x)))).goes left p
       by_judged at (fine stuffed) t left p = (on before).goes left p
       by_judged at (fine ended) t left p = absurd t
       by_judged at (against r) t left p = tt
@@ -118,23 +118,23 @@ module _ (rest : List Bit) (reason : Reason) where
           ap (λ (x : Read Mba). next x more) (not-ended ended mba_read rest at some ∙ ap (λ (x : Read ℕ). next x (λ a. settle at (mba_of true before.address a))) (unread at))
       turn_ends (b ∷ bs) at = by_word at (word table1 (b ∷ bs) at) (word table1 (b ∷ (bs ++ rest)) at) (ext_mba_word.goes (b ∷ bs) at rest)
 
-    end_macroblocks : (n m : ℕ) → n ≤ m → (f : Format) (number_of_lem : ℕ) (before : Before) → Ending (macroblocks_from n f true number_of_lem before) (macroblocks_from m f true number_of_lem before)
+    end_macroblocks : (n m : ℕ) → n ≤ m → (f : Format) (number_of : ℕ) (before : Before) → Ending (macroblocks_from n f true number_of before) (macroblocks_from m f true number_of before)
     unfolding macroblocks_from mba
-    end_macroblocks zero m l f number_of_lem before = record { goes = λ bs at. tt }
-    end_macroblocks (suc n) zero l f number_of_lem before = absurd (not-suc-le-zero l)
-    end_macroblocks (suc n) (suc m) l f number_of_lem before =
-        record { goes = λ bs at. turn_ends f number_of_lem before n m (λ b. end_macroblocks n m (le_of_suc-le-suc l) f number_of_lem b) bs at }
+    end_macroblocks zero m l f number_of before = record { goes = λ bs at. tt }
+    end_macroblocks (suc n) zero l f number_of before = absurd (not-suc-le-zero l)
+    end_macroblocks (suc n) (suc m) l f number_of before =
+        record { goes = λ bs at. turn_ends f number_of before n m (λ b. end_macroblocks n m (le_of_suc-le-suc l) f number_of b) bs at }
 
-    end_group : (f : Format) (number_of_lem : ℕ) → Ending (group f true number_of_lem) (group f true number_of_lem)
+    end_group : (f : Format) (number_of : ℕ) → Ending (group f true number_of) (group f true number_of)
     unfolding group
-    end_group f number_of_lem =
-        end_then (ext_head number_of_lem)
-        (λ q. end_map (λ (ms : List Macroblock). record { gquant = q; macroblocks = ms }) (end_loop (λ turns. macroblocks_from turns f true number_of_lem at_start) (λ n m l. end_macroblocks n m l f number_of_lem at_start)))
+    end_group f number_of =
+        end_then (ext_head number_of)
+        (λ q. end_map (λ (ms : List Macroblock). record { gquant = q; macroblocks = ms }) (end_loop (λ turns. macroblocks_from turns f true number_of at_start) (λ n m l. end_macroblocks n m l f number_of at_start)))
 
-    end_groups : (f : Format) (number_of_lem : ℕ) (numbers : List ℕ) → Ending (groups_read f (number_of_lem ∷ numbers)) (groups_read f (number_of_lem ∷ numbers))
+    end_groups : (f : Format) (number_of : ℕ) (numbers : List ℕ) → Ending (groups_read f (number_of ∷ numbers)) (groups_read f (number_of ∷ numbers))
     unfolding groups_read
-    end_groups f number_of_lem [] = end_map (λ (x : Group). x ∷ []) (end_group f number_of_lem)
-    end_groups f number_of_lem (second ∷ numbers) = end_then (ext_group f number_of_lem) (λ x. end_map (λ (xs : List Group). x ∷ xs) (end_groups f second numbers))
+    end_groups f number_of [] = end_map (λ (x : Group). x ∷ []) (end_group f number_of)
+    end_groups f number_of (second ∷ numbers) = end_then (ext_group f number_of) (λ x. end_map (λ (xs : List Group). x ∷ xs) (end_groups f second numbers))
 
     end_all : (f : Format) → Ending (groups_read f (group_numbers f)) (groups_read f (group_numbers f))
     end_all Qcif = end_groups Qcif 1 (3 ∷ 5 ∷ [])

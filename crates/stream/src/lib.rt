@@ -16,7 +16,7 @@ use h261_groups::Format;
 use refusals::{Refusal, Verdict};
 
 // What has gone by of a stream.
-#[derive(Drop)]
+#[derive(Clone, Copy)]
 pub struct Stream {
     // How many bits.
     pub place: usize,
@@ -248,7 +248,7 @@ fn smaller(a: usize, b: usize) -> usize
 }
 
 // What has gone by, and the place in the lent bytes of the next bit.
-#[derive(Drop)]
+#[derive(Clone, Copy)]
 pub struct Passed {
     pub stream: Stream,
     pub at: usize,

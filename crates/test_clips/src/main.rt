@@ -15,7 +15,7 @@ use standing::Receiver;
 mod deliver;
 mod send;
 
-#[derive(Drop)]
+#[derive(Clone, Copy)]
 enum Case {
     Send,
     Deliver,
@@ -23,14 +23,14 @@ enum Case {
 }
 
 // Who is called.
-#[derive(Drop)]
+#[derive(Clone, Copy)]
 enum Party {
     Sending(Sender),
     Receiving(Receiver),
 }
 
 // Who is called next, and whether the line goes on with the checks of the buffers; or the end of the input.
-#[derive(Drop)]
+#[derive(Clone, Copy)]
 enum Called {
     Next(Party, bool),
     Ended,

@@ -11,7 +11,7 @@ mod blocks;
 mod due;
 mod words;
 
-#[derive(Drop)]
+#[derive(Clone, Copy)]
 enum Case {
     Words,
     Blocks,

@@ -13,7 +13,7 @@ mod write;
 // What every byte of a buffer is before it is lent.
 const BEFORE: u8 = 165;
 
-#[derive(Drop)]
+#[derive(Clone, Copy)]
 enum Case {
     Render,
     Write,

@@ -33,7 +33,7 @@ pub fn put(words: &[u8], at: usize, out: &mut [u8]) -> usize
     ensures puts { Puts words.now at out.old out.new result }
 {
     let end = at + words.len();
-    bytes::copy(words, &mut out[at..end]);
+    out[at..end].copy_from_slice(words);
     end
 }
 

@@ -5,14 +5,14 @@ ghost use Rattle.ticks.specs.Tick.{tick_number, is_exact, tick_as, tr_difference
 ghost use Rattle.ticks.specs.Due.{seconds_of, due_of};
 
 // The tick that all pictures give, or the least that it can be.
-#[derive(Drop)]
+#[derive(Clone, Copy)]
 pub enum Tick {
     Exact(u32),
     Estimated(u32),
 }
 
 // Seconds.
-#[derive(Drop)]
+#[derive(Clone, Copy)]
 pub enum DueTime {
     Exact(f64),
     Estimated(f64),
@@ -106,10 +106,13 @@ pub fn later(modulus: u32, before: u32, last: Tick, picture: u32, tr: u32) -> Ti
 
 // ---- due times
 
+// "Tick 3750 gives exactly 125.125."
+const SECONDS_AT_3750: f64 = 125.125;
+
 // Both numbers convert exactly (`converted_exactly`), whichever the tick is, so that the quotient alone is rounded (`rounded_once`).
 fn seconds(tick: u32) -> f64
     ensures value { result ≡ seconds_of tick }
-    ensures* exact { do ⌜ (tick ≡ 3750 → result ≡ (← (⟦125.125f64⟧).entry)) ⌝ }
+    ensures exact { tick ≡ 3750 → result ≡ SECONDS_AT_3750 }
 {
     let thousandths = 1001 * (tick as u64);
     (thousandths as f64) / 30000.0

@@ -12,14 +12,14 @@ use refusals::{Reason, Refusal};
 use size::Size;
 
 // What a clip's pictures are coded by.
-#[derive(Drop)]
+#[derive(Clone, Copy)]
 pub enum Standard {
     H261,
     H263,
 }
 
 // What a block says before its payload.
-#[derive(Drop)]
+#[derive(Clone, Copy)]
 pub struct Header {
     pub standard: Standard,
     pub clip: u16,
@@ -30,7 +30,7 @@ pub struct Header {
     pub used: u16,
 }
 
-#[derive(Drop)]
+#[derive(Clone, Copy)]
 pub enum Checked {
     Good(Header),
     Refused(Refusal),
@@ -475,7 +475,7 @@ pub fn renew(clip: u16, picture: u32, block: &[u8], out: &mut [u8])
     ensures { out.new ≡ renewed_block clip picture block.now }
 {
     let low = picture % 65536;
-    bytes::copy(block, out);
+    out.copy_from_slice(block);
     out[0] = (clip / 256) as u8;
     out[1] = (clip % 256) as u8;
     out[2] = (low / 256) as u8;
@@ -494,5 +494,5 @@ pub fn place(block: &[u8], part: u8, collection: &mut [u8])
 {
     let at = 500 * (part as usize);
     let end = at + 500;
-    bytes::copy(&block[8..508], &mut collection[at..end]);
+    collection[at..end].copy_from_slice(&block[8..508]);
 }

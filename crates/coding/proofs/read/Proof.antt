@@ -30,12 +30,12 @@ lengths e = let s = start e in lengths_are s.args.kind s.args.bytes.now s.args.c
 read-small-requires : tie.Need-read-small-requires
 read-small-requires c κs =
     let e = c.before.before.before.before.before.before in
-    (room_small (start e).args.kind c.before.before.before.before.before.type_size.ensures (omega (arith, ap limit c.before.before.before.enum_told.given.1)), lengths e)
+    (room_small (start e).args.kind c.before.before.before.before.before.size_of.ensures (omega (arith, ap limit c.before.before.before.enum_told.given.1)), lengths e)
 
 read-small-requires-2 : tie.Need-read-small-requires-2
 read-small-requires-2 c κs =
     let e = c.before.before.before.before.before.before in
-    (room_small (start e).args.kind c.before.before.before.before.before.type_size.ensures (omega (arith, ap limit c.before.before.before.enum-told2.given.1)), lengths e)
+    (room_small (start e).args.kind c.before.before.before.before.before.size_of.ensures (omega (arith, ap limit c.before.before.before.enum-told2.given.1)), lengths e)
 
 read-large-requires : tie.Need-read-large-requires
 read-large-requires c κs = let e = c.before.before.before.before.before.before in (room_large (start e).args.kind, lengths e)

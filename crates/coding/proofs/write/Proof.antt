@@ -38,10 +38,10 @@ answered s = record { is = refl }
 
 -- the named length and the limit are those of the kind's size
 named_is : (n : tie.After-output-length) → n.output-length.result ≡ output_length (kind_size (start (at_named n)).args.kind)
-named_is n = n.output-length.ensures ∙ ap output_length (at_named n).before.type_size.ensures
+named_is n = n.output-length.ensures ∙ ap output_length (at_named n).before.size_of.ensures
 
 limit_is : (m : tie.After-limit) → m.limit.result ≡ limit (kind_size (start (at_named (at_length (at-valid (at-written m))))).args.kind)
-limit_is m = m.limit.ensures ∙ ap limit (at_named (at_length (at-valid (at-written m)))).before.type_size.ensures
+limit_is m = m.limit.ensures ∙ ap limit (at_named (at_length (at-valid (at-written m)))).before.size_of.ensures
 
 returns : tie.Need-returns
 returns c = let o = c.before.before in unnamed (answered (start o)) o.named.ensures (not-true _ c.before.if1.true) c.not_written.ensures

@@ -18,7 +18,7 @@ abbrev at-picture : tie.After-limit → tie.After-append-picture
 at-picture c = c.before.before.before.before
 
 limit_is : (m : tie.After-limit) → m.limit.result ≡ limit (kind_size (start (at-picture m)).args.kind)
-limit_is m = m.limit.ensures ∙ ap limit m.before.type_size.ensures
+limit_is m = m.limit.ensures ∙ ap limit m.before.size_of.ensures
 
 returns : tie.Need-returns
 returns c =

@@ -15,7 +15,7 @@ ended-by-requires c κs =
     let at_named = at_if1.before in
     let at_size_of = at_named.before in
     let a = at_size_of.before.before.before.before.before.args in
-    let fitting = (ready a.receiver.kind _ a.receiver.clip _ a.block.now a.collection.now a.first.now a.second.now at_size_of.type_size.ensures (sym at_named.named.ensures ∙ at_if1.if1.true)
+    let fitting = (ready a.receiver.kind _ a.receiver.clip _ a.block.now a.collection.now a.first.now a.second.now at_size_of.size_of.ensures (sym at_named.named.ensures ∙ at_if1.if1.true)
     (sym at_judge.judge.ensures ∙ ap told_checked at_header.header.given.1)).fitting in
     (fitting.part_is, fitting.used_is)
 
@@ -28,7 +28,7 @@ returns c =
     let at_named = at_if1.before in
     let at_size_of = at_named.before in
     let a = at_size_of.before.before.before.before.before.args in
-    good_ends a.receiver a.block.now a.collection.now a.first.now a.second.now at_size_of.type_size.ensures at_named.named.ensures at_standard_of.standard-of.ensures at_if1.if1.true at_judge.judge.ensures (ap told_checked at_header.header.given.1) c.ended_by.ensures
+    good_ends a.receiver a.block.now a.collection.now a.first.now a.second.now at_size_of.size_of.ensures at_named.named.ensures at_standard_of.standard-of.ensures at_if1.if1.true at_judge.judge.ensures (ap told_checked at_header.header.given.1) c.ended_by.ensures
 
 returns-2 : tie.Need-returns-2
 returns-2 c =
@@ -38,12 +38,12 @@ returns-2 c =
     let at_named = at_if1.before in
     let at_size_of = at_named.before in
     let a = at_size_of.before.before.before.before.before.args in
-    refused_ends a.receiver a.block.now a.collection.now a.first.now a.second.now at_size_of.type_size.ensures at_named.named.ensures at_standard_of.standard-of.ensures at_if1.if1.true at_judge.judge.ensures (ap told_checked c.enum_told.given.1)
+    refused_ends a.receiver a.block.now a.collection.now a.first.now a.second.now at_size_of.size_of.ensures at_named.named.ensures at_standard_of.standard-of.ensures at_if1.if1.true at_judge.judge.ensures (ap told_checked c.enum_told.given.1)
 
 returns-3 : tie.Need-returns-3
 returns-3 c =
     let a = c.before.before.before.before.before.before.before.args in
-    short_ends a.receiver a.block.now a.collection.now a.first.now a.second.now c.before.before.type_size.ensures c.before.named.ensures c.if1.false
+    short_ends a.receiver a.block.now a.collection.now a.first.now a.second.now c.before.before.size_of.ensures c.before.named.ensures c.if1.false
 
 pub ended_after_spec : {M : Type 1} → statement M
 ended_after_spec =

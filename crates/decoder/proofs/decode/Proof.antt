@@ -18,7 +18,7 @@ returns c =
     let at_store_length = c.before in
     let at_size_of = at_store_length.before in
     let start = at_size_of.before.before.before.before in
-    let e = unfit_reference start.args.kind start.args.bytes.now start.args.count start.args.reference.now (length start.args.store.now) (at_store_length.store_length.ensures ∙ ap store_length at_size_of.type_size.ensures) c.if1.true in
+    let e = unfit_reference start.args.kind start.args.bytes.now start.args.count start.args.reference.now (length start.args.store.now) (at_store_length.store_length.ensures ∙ ap store_length at_size_of.size_of.ensures) c.if1.true in
     (sym (ap verdict_on e), sym (ap (found_or start.args.store.now) e))
 
 returns-2 : tie.Need-returns-2
@@ -28,7 +28,7 @@ returns-2 c =
     let at_store_length = at_if1.before in
     let at_size_of = at_store_length.before in
     let start = at_size_of.before.before.before.before in
-    let e = unfit_store start.args.kind start.args.bytes.now start.args.count start.args.reference.now (length start.args.store.now) (at_store_length.store_length.ensures ∙ ap store_length at_size_of.type_size.ensures) at_if1.if1.false c.if2.true in
+    let e = unfit_store start.args.kind start.args.bytes.now start.args.count start.args.reference.now (length start.args.store.now) (at_store_length.store_length.ensures ∙ ap store_length at_size_of.size_of.ensures) at_if1.if1.false c.if2.true in
     (sym (ap verdict_on e), sym (ap (found_or start.args.store.now) e))
 
 draw-requires : tie.Need-draw-requires
@@ -37,7 +37,7 @@ draw-requires c κs =
     let at_if1 = at_if2.before in
     let at_store_length = at_if1.before in
     let at_size_of = at_store_length.before in
-    let named = at_store_length.store_length.ensures ∙ ap store_length at_size_of.type_size.ensures in
+    let named = at_store_length.store_length.ensures ∙ ap store_length at_size_of.size_of.ensures in
     record { reference_long = at_if1.if1.false ∙ named; store_long = at_if2.if2.false ∙ named }
 
 returns-3 : tie.Need-returns-3
@@ -49,7 +49,7 @@ returns-3 c =
     let at_size_of = at_store_length.before in
     let start = at_size_of.before.before.before.before in
     by_drawn start.args.kind start.args.bytes.now start.args.count start.args.reference.now (length start.args.store.now)
-    (at_store_length.store_length.ensures ∙ ap store_length at_size_of.type_size.ensures)
+    (at_store_length.store_length.ensures ∙ ap store_length at_size_of.size_of.ensures)
     at_if1.if1.false at_if2.if2.false Accepted at_draw.draw.result start.args.store.now _
     (sym (ap (λ (x : Drawn). verdict_on (told_drawn x)) c.enum_told.given.1)) at_draw.draw.ensures.0 at_draw.draw.ensures.1
 
@@ -63,7 +63,7 @@ returns-4 c =
     let at_size_of = at_store_length.before in
     let start = at_size_of.before.before.before.before in
     by_drawn start.args.kind start.args.bytes.now start.args.count start.args.reference.now (length start.args.store.now)
-    (at_store_length.store_length.ensures ∙ ap store_length at_size_of.type_size.ensures)
+    (at_store_length.store_length.ensures ∙ ap store_length at_size_of.size_of.ensures)
     at_if1.if1.false at_if2.if2.false (Refused _) at_draw.draw.result start.args.store.now _
     (sym (ap (λ (x : Drawn). verdict_on (told_drawn x)) at_drawn.drawn.given.1)) at_draw.draw.ensures.0 at_draw.draw.ensures.1
 

@@ -12,14 +12,14 @@ draw-small-requires c κs =
     let at_told = c.before in
     let at_size_of = at_told.before.before in
     let start = at_size_of.before.before.before.before in
-    (room_small start.args.kind at_size_of.type_size.ensures (omega (arith, ap limit at_told.enum_told.given.1)), start.requires)
+    (room_small start.args.kind at_size_of.size_of.ensures (omega (arith, ap limit at_told.enum_told.given.1)), start.requires)
 
 draw-small-requires-2 : tie.Need-draw-small-requires-2
 draw-small-requires-2 c κs =
     let at_told = c.before in
     let at_size_of = at_told.before.before in
     let start = at_size_of.before.before.before.before in
-    (room_small start.args.kind at_size_of.type_size.ensures (omega (arith, ap limit at_told.enum-told2.given.1)), start.requires)
+    (room_small start.args.kind at_size_of.size_of.ensures (omega (arith, ap limit at_told.enum-told2.given.1)), start.requires)
 
 draw-large-requires : tie.Need-draw-large-requires
 draw-large-requires c κs = let start = c.before.before.before.before.before.before.before in (room_large start.args.kind, start.requires)

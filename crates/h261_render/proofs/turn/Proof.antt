@@ -65,7 +65,7 @@ shared-slice-read-stands : tie.Need-shared-slice-read-stands
 shared-slice-read-stands c = omega (arith, here c.before.before.before)
 
 kept-requires : tie.Need-kept-requires
-kept-requires c κs = ready_for c.before.type_size.ensures (ready (at-column c.before.before.before))
+kept-requires c κs = ready_for c.before.size_of.ensures (ready (at-column c.before.before.before))
 
 returns : tie.Need-returns
 returns c =
@@ -73,7 +73,7 @@ returns c =
     let at = at-column at_if1.before in
     let start = began at in (
       stands_right at_if1.before,
-      kept_all start.args.format start.args.n (description start) start.args.reference.now c.before.before.before.before.type_size.ensures
+      kept_all start.args.format start.args.n (description start) start.args.reference.now c.before.before.before.before.size_of.ensures
           at.before.row.ensures at.column.ensures at_if1.if1.true c.before.before.kept.ensures,
     )
 

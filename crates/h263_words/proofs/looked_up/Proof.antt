@@ -25,13 +25,13 @@ place_is small start number = go (ltb number small)
     go true = refl
     go false = omega arith
 
-inside : (c : tie.After-entry-place) → c.before.args.start + c.entry_IsPlace.result < 4418
-inside c = let a = c.before.args in omega (arith, c.entry_IsPlace.ensures, place_low a.small a.number, c.before.requires)
+inside : (c : tie.After-entry-place) → c.before.args.start + c.entry_place.result < 4418
+inside c = let a = c.before.args in omega (arith, c.entry_place.ensures, place_low a.small a.number, c.before.requires)
 
 returns : tie.Need-returns
 returns c =
     let a = c.before.before.args in
-    ap (λ (i : ℕ). get_or a.tables.now i 0) (ap (λ (i : ℕ). a.start + i) c.before.entry_IsPlace.ensures ∙ place_is a.small a.start a.number)
+    ap (λ (i : ℕ). get_or a.tables.now i 0) (ap (λ (i : ℕ). a.start + i) c.before.entry_place.ensures ∙ place_is a.small a.start a.number)
 
 pub looked_up_spec : {M : Type 1} → statement M
 looked_up_spec =

@@ -14,7 +14,7 @@ slice-aggregate-all c = part_long _ (array-borrow-prefix-picture c.before)
 array-borrow-prefix-first : tie.Need-array-borrow-prefix-first
 array-borrow-prefix-first c =
     let at_store_length = c.before.before in
-    omega (arith, at_store_length.store_length.ensures, store_most at_store_length.before.before.type_size.result)
+    omega (arith, at_store_length.store_length.ensures, store_most at_store_length.before.before.size_of.result)
 
 slice-aggregate-all-2 : tie.Need-slice-aggregate-all-2
 slice-aggregate-all-2 c = part_long _ (array-borrow-prefix-first c.before)
@@ -22,7 +22,7 @@ slice-aggregate-all-2 c = part_long _ (array-borrow-prefix-first c.before)
 array-borrow-prefix-second : tie.Need-array-borrow-prefix-second
 array-borrow-prefix-second c =
     let at_store_length = c.before.before.before in
-    omega (arith, at_store_length.store_length.ensures, store_most at_store_length.before.before.type_size.result)
+    omega (arith, at_store_length.store_length.ensures, store_most at_store_length.before.before.size_of.result)
 
 slice-aggregate-all-3 : tie.Need-slice-aggregate-all-3
 slice-aggregate-all-3 c = part_long _ (array-borrow-prefix-second c.before)

@@ -62,7 +62,7 @@ act-requires c κs =
     let at_named = at_if1.before in
     let at_size_of = at_named.before in
     let start = at_size_of.before.before.before.before.before in
-    ready start.args.receiver.kind _ start.args.receiver.clip _ start.args.block.now start.args.collection.now start.args.first.now start.args.second.now at_size_of.type_size.ensures (sym at_named.named.ensures ∙ at_if1.if1.true)
+    ready start.args.receiver.kind _ start.args.receiver.clip _ start.args.block.now start.args.collection.now start.args.first.now start.args.second.now at_size_of.size_of.ensures (sym at_named.named.ensures ∙ at_if1.if1.true)
     (sym at_judge.judge.ensures ∙ ap told_checked at_checked.checked.given.1)
 
 returns : tie.Need-returns
@@ -75,7 +75,7 @@ returns c =
     let at_named = at_if1.before in
     let at_size_of = at_named.before in
     let start = at_size_of.before.before.before.before.before in
-    good start.args.receiver start.args.block.now start.args.collection.now start.args.first.now start.args.second.now at_size_of.type_size.ensures at_named.named.ensures at_standard_of.standard-of.ensures at_if1.if1.true at_judge.judge.ensures (ap told_checked at_checked.checked.given.1) at_act.act.ensures
+    good start.args.receiver start.args.block.now start.args.collection.now start.args.first.now start.args.second.now at_size_of.size_of.ensures at_named.named.ensures at_standard_of.standard-of.ensures at_if1.if1.true at_judge.judge.ensures (ap told_checked at_checked.checked.given.1) at_act.act.ensures
 
 returns-2 : tie.Need-returns-2
 returns-2 c =
@@ -86,7 +86,7 @@ returns-2 c =
     let at_named = at_if1.before in
     let at_size_of = at_named.before in
     let start = at_size_of.before.before.before.before.before in
-    bad start.args.receiver start.args.block.now start.args.collection.now start.args.first.now start.args.second.now at_size_of.type_size.ensures at_named.named.ensures at_standard_of.standard-of.ensures at_if1.if1.true at_judge.judge.ensures (ap told_checked at_checked2.checked2.given.1) c.refuse.ensures
+    bad start.args.receiver start.args.block.now start.args.collection.now start.args.first.now start.args.second.now at_size_of.size_of.ensures at_named.named.ensures at_standard_of.standard-of.ensures at_if1.if1.true at_judge.judge.ensures (ap told_checked at_checked2.checked2.given.1) c.refuse.ensures
 
 returns-3 : tie.Need-returns-3
 unfolding number read_table
@@ -95,7 +95,7 @@ returns-3 c =
     let at_named = at_if1.before in
     let at_size_of = at_named.before in
     let start = at_size_of.before.before.before.before.before in
-    short start.args.receiver start.args.block.now start.args.collection.now start.args.first.now start.args.second.now at_size_of.type_size.ensures at_named.named.ensures at_if1.if1.false c.refuse2.ensures
+    short start.args.receiver start.args.block.now start.args.collection.now start.args.first.now start.args.second.now at_size_of.size_of.ensures at_named.named.ensures at_if1.if1.false c.refuse2.ensures
 
 pub receive_spec : {M : Type 1} → statement M
 receive_spec =

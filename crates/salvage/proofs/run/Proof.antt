@@ -8,10 +8,10 @@ use Rattle.salvage.proofs.run.Tie as tie
 
 module _ (c : tie.After-store-length) where
   collection_fits : c.before.collection-length.result ≤ 33000
-  collection_fits = omega (arith, c.before.collection-length.ensures, collection_most c.before.before.type_size.result)
+  collection_fits = omega (arith, c.before.collection-length.ensures, collection_most c.before.before.size_of.result)
 
   store_fits : c.store_length.result ≤ 152064
-  store_fits = omega (arith, c.store_length.ensures, store_most c.before.before.type_size.result)
+  store_fits = omega (arith, c.store_length.ensures, store_most c.before.before.size_of.result)
 
 array-borrow-prefix-collection : tie.Need-array-borrow-prefix-collection
 array-borrow-prefix-collection c = collection_fits c

@@ -31,12 +31,12 @@ returns-3 c =
 salvage-small-requires : tie.Need-salvage-small-requires
 salvage-small-requires c κs =
     let a = c.before.before.before.before.before.before.before.before.before.before.before.args in
-    (named_so _ _ _ c.before.before.before.before.before.before.before.if1.false c.before.before.before.before.before.before.if2.false c.before.before.before.before.before.if3.false, room_small (kind_size a.kind) (omega (arith, ap limit (sym c.before.before.enum_told.given.1 ∙ c.before.before.before.before.type_size.ensures))))
+    (named_so _ _ _ c.before.before.before.before.before.before.before.if1.false c.before.before.before.before.before.before.if2.false c.before.before.before.before.before.if3.false, room_small (kind_size a.kind) (omega (arith, ap limit (sym c.before.before.enum_told.given.1 ∙ c.before.before.before.before.size_of.ensures))))
 
 salvage-small-requires-2 : tie.Need-salvage-small-requires-2
 salvage-small-requires-2 c κs =
     let a = c.before.before.before.before.before.before.before.before.before.before.before.args in
-    (named_so _ _ _ c.before.before.before.before.before.before.before.if1.false c.before.before.before.before.before.before.if2.false c.before.before.before.before.before.if3.false, room_small (kind_size a.kind) (omega (arith, ap limit (sym c.before.before.enum-told2.given.1 ∙ c.before.before.before.before.type_size.ensures))))
+    (named_so _ _ _ c.before.before.before.before.before.before.before.if1.false c.before.before.before.before.before.before.if2.false c.before.before.before.before.before.if3.false, room_small (kind_size a.kind) (omega (arith, ap limit (sym c.before.before.enum-told2.given.1 ∙ c.before.before.before.before.size_of.ensures))))
 
 salvage-large-requires : tie.Need-salvage-large-requires
 salvage-large-requires c κs = named_so _ _ _ c.before.before.before.before.before.before.before.if1.false c.before.before.before.before.before.before.if2.false c.before.before.before.before.before.if3.false

@@ -9,44 +9,44 @@ use Rattle.salvaging.proofs.salvage_small.Statement.{statement}
 use Rattle.salvaging.proofs.salvage_small.Tie as tie
 
 array-borrow-prefix-collection : tie.Need-array-borrow-prefix-collection
-array-borrow-prefix-collection c = omega (arith, c.before.before.before.collection-length.ensures, ap collection_length c.before.before.before.before.type_size.ensures, c.before.before.before.before.before.before.before.before.requires.1.collection_room)
+array-borrow-prefix-collection c = omega (arith, c.before.before.before.collection-length.ensures, ap collection_length c.before.before.before.before.size_of.ensures, c.before.before.before.before.before.before.before.before.requires.1.collection_room)
 
 slice-aggregate-salvage-in : tie.Need-slice-aggregate-salvage-in
 slice-aggregate-salvage-in c = part_long _ (array-borrow-prefix-collection c.before)
 
 array-borrow-prefix-first : tie.Need-array-borrow-prefix-first
-array-borrow-prefix-first c = omega (arith, c.before.before.before.store_length.ensures, ap store_length c.before.before.before.before.before.type_size.ensures, c.before.before.before.before.before.before.before.before.before.requires.1.store_room)
+array-borrow-prefix-first c = omega (arith, c.before.before.before.store_length.ensures, ap store_length c.before.before.before.before.before.size_of.ensures, c.before.before.before.before.before.before.before.before.before.requires.1.store_room)
 
 slice-aggregate-salvage-in-2 : tie.Need-slice-aggregate-salvage-in-2
 slice-aggregate-salvage-in-2 c = part_long _ (array-borrow-prefix-first c.before)
 
 array-borrow-prefix-second : tie.Need-array-borrow-prefix-second
-array-borrow-prefix-second c = omega (arith, c.before.before.before.before.store_length.ensures, ap store_length c.before.before.before.before.before.before.type_size.ensures, c.before.before.before.before.before.before.before.before.before.before.requires.1.store_room)
+array-borrow-prefix-second c = omega (arith, c.before.before.before.before.store_length.ensures, ap store_length c.before.before.before.before.before.before.size_of.ensures, c.before.before.before.before.before.before.before.before.before.before.requires.1.store_room)
 
 slice-aggregate-salvage-in-3 : tie.Need-slice-aggregate-salvage-in-3
 slice-aggregate-salvage-in-3 c = part_long _ (array-borrow-prefix-second c.before)
 
 array-borrow-prefix-collection-ahead : tie.Need-array-borrow-prefix-collection-ahead
-array-borrow-prefix-collection-ahead c = omega (arith, c.before.before.before.before.before.before.collection-length.ensures, ap collection_length c.before.before.before.before.before.before.before.type_size.ensures, c.before.before.before.before.before.before.before.before.before.before.before.requires.1.collection_room)
+array-borrow-prefix-collection-ahead c = omega (arith, c.before.before.before.before.before.before.collection-length.ensures, ap collection_length c.before.before.before.before.before.before.before.size_of.ensures, c.before.before.before.before.before.before.before.before.before.before.before.requires.1.collection_room)
 
 slice-aggregate-salvage-in-4 : tie.Need-slice-aggregate-salvage-in-4
 slice-aggregate-salvage-in-4 c = part_long _ (array-borrow-prefix-collection-ahead c.before)
 
 array-borrow-prefix-first-ahead : tie.Need-array-borrow-prefix-first-ahead
-array-borrow-prefix-first-ahead c = omega (arith, c.before.before.before.before.before.before.store_length.ensures, ap store_length c.before.before.before.before.before.before.before.before.type_size.ensures, c.before.before.before.before.before.before.before.before.before.before.before.before.requires.1.store_room)
+array-borrow-prefix-first-ahead c = omega (arith, c.before.before.before.before.before.before.store_length.ensures, ap store_length c.before.before.before.before.before.before.before.before.size_of.ensures, c.before.before.before.before.before.before.before.before.before.before.before.before.requires.1.store_room)
 
 slice-aggregate-salvage-in-5 : tie.Need-slice-aggregate-salvage-in-5
 slice-aggregate-salvage-in-5 c = part_long _ (array-borrow-prefix-first-ahead c.before)
 
 array-borrow-prefix-second-ahead : tie.Need-array-borrow-prefix-second-ahead
-array-borrow-prefix-second-ahead c = omega (arith, c.before.before.before.before.before.before.before.store_length.ensures, ap store_length c.before.before.before.before.before.before.before.before.before.type_size.ensures, c.before.before.before.before.before.before.before.before.before.before.before.before.before.requires.1.store_room)
+array-borrow-prefix-second-ahead c = omega (arith, c.before.before.before.before.before.before.before.store_length.ensures, ap store_length c.before.before.before.before.before.before.before.before.before.size_of.ensures, c.before.before.before.before.before.before.before.before.before.before.before.before.before.requires.1.store_room)
 
 slice-aggregate-salvage-in-6 : tie.Need-slice-aggregate-salvage-in-6
 slice-aggregate-salvage-in-6 c = part_long _ (array-borrow-prefix-second-ahead c.before)
 
 salvage-in-requires : tie.Need-salvage-in-requires
 salvage-in-requires c κs =
-    let size = c.before.before.before.before.before.before.before.before.before.before.type_size.ensures in
+    let size = c.before.before.before.before.before.before.before.before.before.before.size_of.ensures in
     let blank = scratch_blank c.before.before.before.before.before.before.before.before.before.before.before.before.before.before.requires.1 (c.before.before.before.before.before.before.before.before.before.collection-length.ensures ∙ ap collection_length size) (c.before.before.before.before.before.before.before.before.store_length.ensures ∙ ap store_length size) in
     record { named = c.before.before.before.before.before.before.before.before.before.before.before.before.before.before.requires.0; blank = blank; blank_ahead = blank }
 

@@ -52,7 +52,7 @@ returns-2 c =
     let at_if1 = at_size_of.before in
     let at_named = at_if1.before in
     let start = at_named.before.before.before.before.before.before.before in
-    unfit start.args.kind (flat start.args.head.now start.args.macroblocks.now start.args.levels.now) start.args.out.now start.args.first.now start.args.second.now at_named.named.ensures (not-false _ at_if1.if1.false) at_size_of.type_size.ensures at_blocks_length.blocks-length.ensures c.if2.true
+    unfit start.args.kind (flat start.args.head.now start.args.macroblocks.now start.args.levels.now) start.args.out.now start.args.first.now start.args.second.now at_named.named.ensures (not-false _ at_if1.if1.false) at_size_of.size_of.ensures at_blocks_length.blocks-length.ensures c.if2.true
 
 returns-3 : tie.Need-returns-3
 returns-3 c =
@@ -62,7 +62,7 @@ returns-3 c =
     let at_if1 = at_size_of.before in
     let at_named = at_if1.before in
     let start = at_named.before.before.before.before.before.before.before in
-    fit start.args.kind (flat start.args.head.now start.args.macroblocks.now start.args.levels.now) start.args.out.now start.args.first.now start.args.second.now at_named.named.ensures (not-false _ at_if1.if1.false) at_size_of.type_size.ensures at_blocks_length.blocks-length.ensures at_if2.if2.false c.sized.ensures
+    fit start.args.kind (flat start.args.head.now start.args.macroblocks.now start.args.levels.now) start.args.out.now start.args.first.now start.args.second.now at_named.named.ensures (not-false _ at_if1.if1.false) at_size_of.size_of.ensures at_blocks_length.blocks-length.ensures at_if2.if2.false c.sized.ensures
 
 pub named_spec : {M : Type 1} → statement M
 named_spec =

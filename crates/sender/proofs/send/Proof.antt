@@ -102,19 +102,19 @@ send-small-requires : tie.Need-send-small-requires
 send-small-requires c κs =
     let at_told = c.before.before.before in
     let at_size_of = at_told.before.before in
-    (passed at_size_of.before, ap output_length (sym at_size_of.type_size.ensures ∙ at_told.enum_told.given.1))
+    (passed at_size_of.before, ap output_length (sym at_size_of.size_of.ensures ∙ at_told.enum_told.given.1))
 
 send-small-requires-2 : tie.Need-send-small-requires-2
 send-small-requires-2 c κs =
     let at_told = c.before.before.before in
     let at_size_of = at_told.before.before in
-    (passed at_size_of.before, ap output_length (sym at_size_of.type_size.ensures ∙ at_told.enum-told2.given.1))
+    (passed at_size_of.before, ap output_length (sym at_size_of.size_of.ensures ∙ at_told.enum-told2.given.1))
 
 send-large-requires : tie.Need-send-large-requires
 send-large-requires c κs =
     let at_told = c.before.before.before in
     let at_size_of = at_told.before.before in
-    (passed at_size_of.before, ap output_length (sym at_size_of.type_size.ensures ∙ at_told.enum-told3.given.1))
+    (passed at_size_of.before, ap output_length (sym at_size_of.size_of.ensures ∙ at_told.enum-told3.given.1))
 
 pub send_spec : {M : Type 1} → statement M
 send_spec =

@@ -14,7 +14,7 @@ returns c =
     let at_size_of = at_limit.before in
     let at_write = at_size_of.before.before.before in
     let start = at_write.before.before.before.before.before.before.before.before.before in
-    above_comes start.requires.0 at_size_of.type_size.ensures at_limit.limit.ensures start.args.scratch.now at_write.append-picture.ensures at_if1.if1.true c.refused.ensures
+    above_comes start.requires.0 at_size_of.size_of.ensures at_limit.limit.ensures start.args.scratch.now at_write.append-picture.ensures at_if1.if1.true c.refused.ensures
 
 add-bytes : tie.Need-overflow-add-bytes
 add-bytes c =
@@ -22,7 +22,7 @@ add-bytes c =
     let at_size_of = at_limit.before in
     let at_write = at_size_of.before.before.before in
     let start = at_write.before.before.before.before.before.before.before.before.before in
-    omega (arith, count_fits start.requires.0 at_size_of.type_size.ensures at_limit.limit.ensures start.args.scratch.now at_write.append-picture.ensures c.if1.false)
+    omega (arith, count_fits start.requires.0 at_size_of.size_of.ensures at_limit.limit.ensures start.args.scratch.now at_write.append-picture.ensures c.if1.false)
 
 slice-reshare-prefix-put : tie.Need-slice-reshare-prefix-put
 slice-reshare-prefix-put c =
@@ -30,7 +30,7 @@ slice-reshare-prefix-put c =
     let at_size_of = at_limit.before in
     let at_write = at_size_of.before.before.before in
     let start = at_write.before.before.before.before.before.before.before.before.before in
-    bytes_fit start.requires.0 at_size_of.type_size.ensures at_limit.limit.ensures start.args.scratch.now at_write.append-picture.ensures c.if1.false start.requires.1
+    bytes_fit start.requires.0 at_size_of.size_of.ensures at_limit.limit.ensures start.args.scratch.now at_write.append-picture.ensures c.if1.false start.requires.1
 
 slice-aggregate-put : tie.Need-slice-aggregate-put
 slice-aggregate-put c =
@@ -39,7 +39,7 @@ slice-aggregate-put c =
     let at_size_of = at_limit.before in
     let at_write = at_size_of.before.before.before in
     let start = at_write.before.before.before.before.before.before.before.before.before in
-    bytes_long start.requires.0 at_size_of.type_size.ensures at_limit.limit.ensures start.args.scratch.now at_write.append-picture.ensures at_if1.if1.false start.requires.1
+    bytes_long start.requires.0 at_size_of.size_of.ensures at_limit.limit.ensures start.args.scratch.now at_write.append-picture.ensures at_if1.if1.false start.requires.1
 
 put-requires : tie.Need-put-requires
 put-requires c κs =
@@ -48,7 +48,7 @@ put-requires c κs =
     let at_size_of = at_limit.before in
     let at_write = at_size_of.before.before.before in
     let start = at_write.before.before.before.before.before.before.before.before.before in
-    is_encoded start.requires.0 at_size_of.type_size.ensures at_limit.limit.ensures start.args.scratch.now at_write.append-picture.ensures at_if1.if1.false start.requires.1
+    is_encoded start.requires.0 at_size_of.size_of.ensures at_limit.limit.ensures start.args.scratch.now at_write.append-picture.ensures at_if1.if1.false start.requires.1
 
 returns-2 : tie.Need-returns-2
 returns-2 c =
@@ -58,7 +58,7 @@ returns-2 c =
     let at_size_of = at_limit.before in
     let at_write = at_size_of.before.before.before in
     let start = at_write.before.before.before.before.before.before.before.before.before in
-    sent_comes start.requires.0 at_size_of.type_size.ensures at_limit.limit.ensures start.args.scratch.now at_write.append-picture.ensures at_if1.if1.false at_put.put.ensures
+    sent_comes start.requires.0 at_size_of.size_of.ensures at_limit.limit.ensures start.args.scratch.now at_write.append-picture.ensures at_if1.if1.false at_put.put.ensures
 
 pub send_in_spec : {M : Type 1} → statement M
 send_in_spec =

@@ -10,7 +10,7 @@ returns : tie.Need-returns
 returns c =
     let at_size_of = c.before in
     let start = at_size_of.before.before.before in
-    subst (λ (z : Size). HandsBack z start.args.sender.holder start.args.first start.args.second c.store-shown.result) at_size_of.type_size.ensures
+    subst (λ (z : Size). HandsBack z start.args.sender.holder start.args.first start.args.second c.store-shown.result) at_size_of.size_of.ensures
     c.store-shown.ensures
 
 pub show_spec : {M : Type 1} → statement M

@@ -34,7 +34,7 @@ returns c =
     let at_refused_length = at_if1.before in
     let at_size_of = at_refused_length.before in
     let start = at_size_of.before.before.before.before.before.before in
-    by_length start.args.received start.args.first start.args.second at_size_of.type_size.ensures at_refused_length.refused-length.ensures true at_if1.if1.true refl c.store-shown.ensures
+    by_length start.args.received start.args.first start.args.second at_size_of.size_of.ensures at_refused_length.refused-length.ensures true at_if1.if1.true refl c.store-shown.ensures
 
 returns-2 : tie.Need-returns-2
 returns-2 c =
@@ -43,7 +43,7 @@ returns-2 c =
     let at_refused_length = at_if1.before in
     let at_size_of = at_refused_length.before in
     let start = at_size_of.before.before.before.before.before.before in
-    by_length start.args.received start.args.first start.args.second at_size_of.type_size.ensures at_refused_length.refused-length.ensures false at_if1.if1.false at_where_shown.where-shown.ensures c.store-shown2.ensures
+    by_length start.args.received start.args.first start.args.second at_size_of.size_of.ensures at_refused_length.refused-length.ensures false at_if1.if1.false at_where_shown.where-shown.ensures c.store-shown2.ensures
 
 pub show_spec : {M : Type 1} → statement M
 show_spec =

@@ -22,27 +22,27 @@ returns-2 c =
 returns-3 : tie.Need-returns-3
 unfolding check_of number read_table
 returns-3 c =
-    let at_Follows = c.before.before in
-    let at_if2 = at_Follows.before.before in
+    let at_follows = c.before.before in
+    let at_if2 = at_follows.before.before in
     let at_if1 = at_if2.before.before.before in
     simp (
       eq-eqb _ _ at_if1.if1.false,
       eq-eqb _ _ (sym at_if2.before.before.sum.ensures ∙ at_if2.if2.false ∙ at_if2.before.pair.ensures),
-      sym at_Follows.follows.ensures ∙ not-true _ c.before.if3.true,
+      sym at_follows.follows.ensures ∙ not-true _ c.before.if3.true,
     )
     (ap told_checked c.refused3.ensures)
 
 returns-4 : tie.Need-returns-4
 unfolding check_of
 returns-4 c =
-    let at_Follows = c.before in
-    let at_header_of = at_Follows.before in
+    let at_follows = c.before in
+    let at_header_of = at_follows.before in
     let at_if2 = at_header_of.before in
     let at_if1 = at_if2.before.before.before in
     simp (
       eq-eqb _ _ at_if1.if1.false,
       eq-eqb _ _ (sym at_if2.before.before.sum.ensures ∙ at_if2.if2.false ∙ at_if2.before.pair.ensures),
-      sym at_Follows.follows.ensures ∙ not-false _ c.if3.false,
+      sym at_follows.follows.ensures ∙ not-false _ c.if3.false,
       at_header_of.header_of.ensures,
     )
 

@@ -25,10 +25,10 @@ module _ (c : tie.After-stride) where
   began = at-moved2.before.before.before.before.before.before
 
   from : Corner (size_of began.args.format) began.args.plane at-moved2.before.moved.result at-moved2.moved2.result c.before.before.place.result c.stride.result
-  from = corner_for began.args.format began.args.plane at-moved2.before.moved.result at-moved2.moved2.result at-moved2.before.before.type_size.ensures c.before.before.place.ensures c.stride.ensures
+  from = corner_for began.args.format began.args.plane at-moved2.before.moved.result at-moved2.moved2.result at-moved2.before.before.size_of.ensures c.before.before.place.ensures c.stride.ensures
 
   to : Corner (size_of began.args.format) began.args.plane (began.args.y * 8) (began.args.x * 8) c.before.place2.result c.stride.result
-  to = corner_for began.args.format began.args.plane (began.args.y * 8) (began.args.x * 8) at-moved2.before.before.type_size.ensures c.before.place2.ensures c.stride.ensures
+  to = corner_for began.args.format began.args.plane (began.args.y * 8) (began.args.x * 8) at-moved2.before.before.size_of.ensures c.before.place2.ensures c.stride.ensures
 
 mul-moved : tie.Need-overflow-mul-moved
 mul-moved c = omega (arith, on_small c.before.before.before.before.requires.on)
@@ -45,7 +45,7 @@ moved-requires-2 c κs = let s = c.before.before.before.before.before in (omega 
 place-requires : tie.Need-place-requires
 place-requires c κs =
     let s = c.before.before.before.before.before.before in
-    inside_for s.args.format c.before.before.type_size.ensures
+    inside_for s.args.format c.before.before.size_of.ensures
     (moved_inside s.args.format s.args.plane s.args.y s.args.x (vector s) c.before.moved.ensures c.moved2.ensures s.requires.on s.requires.aims)
 
 mul-place : tie.Need-overflow-mul-place
@@ -56,7 +56,7 @@ mul-place-2 c = omega (arith, on_small c.before.before.before.before.before.befo
 
 place-requires-2 : tie.Need-place-requires-2
 place-requires-2 c κs =
-    let s = c.before.before.before.before.before.before.before in inside_for s.args.format c.before.before.before.type_size.ensures (block_inside s.requires.on)
+    let s = c.before.before.before.before.before.before.before in inside_for s.args.format c.before.before.before.size_of.ensures (block_inside s.requires.on)
 
 draw-requires : tie.Need-draw-requires
 draw-requires c κs =

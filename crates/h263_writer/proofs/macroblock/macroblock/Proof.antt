@@ -36,22 +36,22 @@ cbpy-codeword-requires c κs =
 append-requires : tie.Need-append-requires
 append-requires c κs =
     let at_turned = c.before in
-    let at_Typed = at_turned.before.before.before.before in
-    let at_pattern = at_Typed.before.before in
+    let at_typed = at_turned.before.before.before.before in
+    let at_pattern = at_typed.before.before in
     let at_is_intra = at_pattern.before in
     let start = at_is_intra.before.before.before.before.before.before in
-    word_ready c.cbpy-codeword.ensures (pattern_counts at_turned.turned.ensures (second_part (macroblock_parts start.requires at_is_intra.is-intra.ensures at_pattern.pattern.ensures) at_Typed.type-inv.ensures))
+    word_ready c.cbpy-codeword.ensures (pattern_counts at_turned.turned.ensures (second_part (macroblock_parts start.requires at_is_intra.is-intra.ensures at_pattern.pattern.ensures) at_typed.typed.ensures))
 
 quantiser-requires : tie.Need-quantiser-requires
 quantiser-requires c κs =
     let at_append = c.before.before.before in
     let at_cbpy_codeword = at_append.before in
     let at_turned = at_cbpy_codeword.before in
-    let at_Typed = at_turned.before.before.before.before in
-    let at_pattern = at_Typed.before.before in
+    let at_typed = at_turned.before.before.before.before in
+    let at_pattern = at_typed.before.before in
     let at_is_intra = at_pattern.before in
     let start = at_is_intra.before.before.before.before.before.before in
-    (start.requires.sound.quantised, third_part (macroblock_parts start.requires at_is_intra.is-intra.ensures at_pattern.pattern.ensures) at_Typed.type-inv.ensures (pattern_wrote at_turned.turned.ensures (word_wrote at_cbpy_codeword.cbpy-codeword.ensures at_append.append.ensures)))
+    (start.requires.sound.quantised, third_part (macroblock_parts start.requires at_is_intra.is-intra.ensures at_pattern.pattern.ensures) at_typed.typed.ensures (pattern_wrote at_turned.turned.ensures (word_wrote at_cbpy_codeword.cbpy-codeword.ensures at_append.append.ensures)))
 
 vector-requires : tie.Need-vector-requires
 vector-requires c κs =
@@ -59,11 +59,11 @@ vector-requires c κs =
     let at_append = at_quantiser.before.before.before.before in
     let at_cbpy_codeword = at_append.before in
     let at_turned = at_cbpy_codeword.before in
-    let at_Typed = at_turned.before.before.before.before in
-    let at_pattern = at_Typed.before.before in
+    let at_typed = at_turned.before.before.before.before in
+    let at_pattern = at_typed.before.before in
     let at_is_intra = at_pattern.before in
     let start = at_is_intra.before.before.before.before.before.before in
-    vector_asked start.requires at_is_intra.is-intra.ensures at_pattern.pattern.ensures (fourth_part (macroblock_parts start.requires at_is_intra.is-intra.ensures at_pattern.pattern.ensures) at_Typed.type-inv.ensures (pattern_wrote at_turned.turned.ensures (word_wrote at_cbpy_codeword.cbpy-codeword.ensures at_append.append.ensures)) at_quantiser.quantiser.ensures)
+    vector_asked start.requires at_is_intra.is-intra.ensures at_pattern.pattern.ensures (fourth_part (macroblock_parts start.requires at_is_intra.is-intra.ensures at_pattern.pattern.ensures) at_typed.typed.ensures (pattern_wrote at_turned.turned.ensures (word_wrote at_cbpy_codeword.cbpy-codeword.ensures at_append.append.ensures)) at_quantiser.quantiser.ensures)
 
 blocks-requires : tie.Need-blocks-requires
 blocks-requires c κs =
@@ -72,11 +72,11 @@ blocks-requires c κs =
     let at_append = at_quantiser.before.before.before.before in
     let at_cbpy_codeword = at_append.before in
     let at_turned = at_cbpy_codeword.before in
-    let at_Typed = at_turned.before.before.before.before in
-    let at_pattern = at_Typed.before.before in
+    let at_typed = at_turned.before.before.before.before in
+    let at_pattern = at_typed.before.before in
     let at_is_intra = at_pattern.before in
     let start = at_is_intra.before.before.before.before.before.before in
-    blocks_asked start.requires at_is_intra.is-intra.ensures at_pattern.pattern.ensures (fifth_part (macroblock_parts start.requires at_is_intra.is-intra.ensures at_pattern.pattern.ensures) at_Typed.type-inv.ensures (pattern_wrote at_turned.turned.ensures (word_wrote at_cbpy_codeword.cbpy-codeword.ensures at_append.append.ensures)) at_quantiser.quantiser.ensures at_vector.vector.ensures)
+    blocks_asked start.requires at_is_intra.is-intra.ensures at_pattern.pattern.ensures (fifth_part (macroblock_parts start.requires at_is_intra.is-intra.ensures at_pattern.pattern.ensures) at_typed.typed.ensures (pattern_wrote at_turned.turned.ensures (word_wrote at_cbpy_codeword.cbpy-codeword.ensures at_append.append.ensures)) at_quantiser.quantiser.ensures at_vector.vector.ensures)
 
 returns : tie.Need-returns
 returns c =
@@ -86,11 +86,11 @@ returns c =
     let at_append = at_quantiser.before.before.before.before in
     let at_cbpy_codeword = at_append.before in
     let at_turned = at_cbpy_codeword.before in
-    let at_Typed = at_turned.before.before.before.before in
-    let at_pattern = at_Typed.before.before in
+    let at_typed = at_turned.before.before.before.before in
+    let at_pattern = at_typed.before.before in
     let at_is_intra = at_pattern.before in
     let start = at_is_intra.before.before.before.before.before.before in
-    macroblock_whole start.requires at_is_intra.is-intra.ensures at_pattern.pattern.ensures at_Typed.type-inv.ensures (pattern_wrote at_turned.turned.ensures (word_wrote at_cbpy_codeword.cbpy-codeword.ensures at_append.append.ensures)) at_quantiser.quantiser.ensures at_vector.vector.ensures at_blocks2.blocks2.ensures
+    macroblock_whole start.requires at_is_intra.is-intra.ensures at_pattern.pattern.ensures at_typed.typed.ensures (pattern_wrote at_turned.turned.ensures (word_wrote at_cbpy_codeword.cbpy-codeword.ensures at_append.append.ensures)) at_quantiser.quantiser.ensures at_vector.vector.ensures at_blocks2.blocks2.ensures
 
 same_length : tie.Need-same-length
 same_length c = wrote_long (returns c)

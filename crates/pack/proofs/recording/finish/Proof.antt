@@ -12,14 +12,14 @@ finish-small-requires c κs =
     let at_told = c.before.before in
     let at_size_of = at_told.before.before in
     let start = at_size_of.before.before.before.before.before.before.before in
-    room_small start.args.recording.sender.kind at_size_of.type_size.ensures (omega (arith, ap limit at_told.enum_told.given.1))
+    room_small start.args.recording.sender.kind at_size_of.size_of.ensures (omega (arith, ap limit at_told.enum_told.given.1))
 
 finish-small-requires-2 : tie.Need-finish-small-requires-2
 finish-small-requires-2 c κs =
     let at_told = c.before.before in
     let at_size_of = at_told.before.before in
     let start = at_size_of.before.before.before.before.before.before.before in
-    room_small start.args.recording.sender.kind at_size_of.type_size.ensures (omega (arith, ap limit at_told.enum-told2.given.1))
+    room_small start.args.recording.sender.kind at_size_of.size_of.ensures (omega (arith, ap limit at_told.enum-told2.given.1))
 
 finish-large-requires : tie.Need-finish-large-requires
 finish-large-requires c κs =

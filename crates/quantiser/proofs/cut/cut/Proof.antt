@@ -6,7 +6,7 @@ use Rattle.quantiser.proofs.cut.cut.Tie as tie
 
 returns : tie.Need-returns
 returns c =
-    let f = c.before.before.ranges in cut_steps f.lowest f.highest f.z (search rules) (search rules) c.before.at_least_lem.ensures c.at_most.ensures
+    let f = c.before.before.ranges in cut_steps f.lowest f.highest f.z (search rules) (search rules) c.before.at_least.ensures c.at_most.ensures
 
 pub cut_spec : {M : Type 1} → statement M
 cut_spec = tie.close (tie.spec (λ c κs. search rules) (λ c κs. search rules) returns)

@@ -12,7 +12,7 @@ render-requires c κs =
     let at_if2 = at_valid.before in
     let at_if1 = at_if2.before in
     let at_store_length = at_if1.before in
-    let long = at_store_length.store_length.ensures ∙ ap store_length at_store_length.before.type_size.ensures in
+    let long = at_store_length.store_length.ensures ∙ ap store_length at_store_length.before.size_of.ensures in
     record {
       valid_is = sym at_valid.valid.ensures ∙ not-false _ c.before.if3.false;
       reference_long = at_if1.if1.false ∙ long;
