@@ -47,8 +47,8 @@ def module(path):
 
 
 def module_of(written):
-    """The module that a `use` line writes, of our own crates without what the kit puts around it."""
-    return re.sub(r'^Rattle·(\w+)(?:·(?:specs|proofs))?\.', r'\1.', written)
+    """The module that a `use` line writes, without what each path of a crate begins with."""
+    return re.sub(r'^Rattle\.', '', written)
 
 
 # ---- documents
@@ -80,7 +80,7 @@ def plain(text):
 
 def functions(text):
     text = plain(text)
-    for found in re.finditer(r'^[ \t]*(?:#\[no_mangle\]\s*)?(pub\s+)?(?:extern\s+"C"\s+)?fn\s+(\w+)', text, re.M):
+    for found in re.finditer(r'^[ \t]*(?:#\[(?:unsafe\()?no_mangle\)?\]\s*)?(pub\s+)?(?:extern\s+"C"\s+)?fn\s+(\w+)', text, re.M):
         end = re.compile(r'\s*(?:\b(?:requires|ensures)\b|\{)').search(text, found.end())
         at = end.start() if end else len(text)
         signature, clauses = text[found.end():at], []
@@ -109,9 +109,12 @@ def types(text):
 def rust_names(text, crate):
     """The names that a .rt file brings in by its `use` lines, and its own types: {name here: (crate, name there)}."""
     names = {name: (crate, name) for name, _ in types(text)}
-    for path in re.findall(r'^use ([\w:]+);', text, re.M):
-        first, _, last = path.partition('::')
-        names[path.split('::')[-1]] = (crate if first in ('crate', 'super', 'self') else first, last.split('::')[-1])
+    for path, braces, alias in re.findall(r'^(?:pub )?use ([\w:]+?)(?:::\{([^}]*)\})?(?: as (\w+))?;', text, re.M):
+        for entry in filter(None, (part.strip() for part in braces.split(','))) if braces else [f'{path} as {alias}' if alias else path]:
+            there, _, here = entry.partition(' as ')
+            full = f'{path}::{there}' if braces else there
+            first, last = full.split('::')[0], full.split('::')[-1]
+            names[here.strip() or last] = (crate if first in ('crate', 'super', 'self') else first, last)
     return names
 
 
@@ -122,7 +125,7 @@ def bare(text):
     return re.sub(r'"(?:\\.|[^"\\\n])*"|\{-(?:.|\n)*?-\}|(?<![^\s(){};,])--.*', lambda found: '\n' * found[0].count('\n'), text)
 
 
-SIGNATURE = re.compile(rf'((?:unfoldable |abbrev |pub |axiom )*)({NAME})(?: \{{[^}}:]*\}})? :(?:\s|$)')
+SIGNATURE = re.compile(rf'((?:unfoldable |abbrev |opaque |pub |axiom )*)({NAME})(?: \{{[^}}:]*\}})? :(?:\s|$)')
 DATA = re.compile(r'(?:pub )?(data|record) (\S+)')
 
 
@@ -178,14 +181,14 @@ def imports(text):
 
 
 def cited(code, known):
-    """What a piece of antt cites of the names known in its file: an operator by all its parts, an item of a module by its path. A projection is no name."""
+    """What a piece of antt cites of the names known in its file: an operator by all its signs, an item of a module by its path. A projection is no name."""
     words, found = set(), set()
     for path in PATH.findall(code):
         first, *rest = path.split('.')
         if rest and first in known.modules:
             found.add(('.'.join([known.modules[first], *rest[:-1]]), rest[-1]))
-        elif len(rest) > 1 and first.startswith('Rattle·'):
+        elif len(rest) > 1 and first == 'Rattle':
             found.add((module_of('.'.join([first, *rest[:-1]])), rest[-1]))
         elif first:
-            words |= {first, *first.split('_')}
-    return found | {target for name, target in known.names.items() if all(part in words for part in name.split('_') if part)}
+            words.add(first)
+    return found | {target for name, target in known.names.items() if all(part in words for part in name.split('◌') if part)}

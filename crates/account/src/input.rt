@@ -3,7 +3,8 @@ ghost use Rattle.std.specs.Prelude.{◌≡◌};
 ghost use Rattle.io.specs.Counts.{IsPrefixLen};
 ghost use Rattle.account.specs.Input.{next_of};
 
-use libc::STDIN_FILENO;
+use crate::streams::{Source, Streams};
+use std::io::Read;
 
 // How many bytes were read, and whether the read after them failed.
 #[derive(Clone, Copy)]
@@ -21,21 +22,28 @@ pub enum Next {
     Unread,
 }
 
-// Reads a file until the buffer is full, the file ends or a read fails.
-pub fn fill_from(file: i32, buffer: &mut [u8]) -> Filled
+// Reads until the buffer is full, the file ends or a read fails.
+pub fn fill_from<R: Read>(file: &mut Source<R>, buffer: &mut [u8]) -> Filled
     ensures { IsPrefixLen result.count buffer.new }
 {
     let mut done: usize = 0;
     while done < buffer.len() {
-        let got = libc::read(file, &mut buffer[done..]);
-        let more = io::count(got, &buffer[done..]);
-        if more == 0 {
-            return Filled {
-                count: done,
-                failed: got < 0,
-            };
+        match file.from.read(&mut buffer[done..]) {
+            Ok(0) => {
+                return Filled {
+                    count: done,
+                    failed: false,
+                };
+            }
+            Ok(more) => done += more,
+            Err(why) => {
+                file.failure = Some(why);
+                return Filled {
+                    count: done,
+                    failed: true,
+                };
+            }
         }
-        done += more;
     }
     Filled {
         count: done,
@@ -44,10 +52,10 @@ pub fn fill_from(file: i32, buffer: &mut [u8]) -> Filled
 }
 
 // The same of standard input.
-pub fn fill(buffer: &mut [u8]) -> Filled
+pub fn fill<I: Read, O, E>(streams: &mut Streams<I, O, E>, buffer: &mut [u8]) -> Filled
     ensures { IsPrefixLen result.count buffer.new }
 {
-    fill_from(STDIN_FILENO, buffer)
+    fill_from(&mut streams.stdin, buffer)
 }
 
 // What was read into the 512 bytes of a block.

@@ -1,14 +1,20 @@
 // What a program's run met, whether it goes on, and the status that it ends with; what it says of blocks that led to no picture; an input that fails told from its end.
-ghost use Rattle.std.specs.Prelude.{◌≡◌};
+ghost use Rattle.std.specs.Prelude.{◌≡◌, true, false};
 ghost use Rattle.account.specs.Status.{done_status, status_of};
+ghost use Rattle.io.specs.Counts.{IsPrefixLen};
+ghost use Rattle.std.specs.Process.{exit_status};
 
-use libc::STDERR_FILENO;
+use crate::streams::Streams;
+use std::env::{Env, FillError};
+use std::io::Write;
+use std::process::ExitCode;
 
 pub mod blocks;
 pub mod going;
 pub mod idle;
 pub mod input;
 pub mod remarks;
+pub mod streams;
 
 // How a run ends: its words name nothing; the input can't be read; the output can't be written; or the input came to its end, with
 // whether something was cut, and how many pictures, or data bits, came out.
@@ -44,20 +50,52 @@ pub fn status(end: End) -> u8
     }
 }
 
-// The status as a digit on descriptor 3, where `./pagesorrel` reads it. Where none is open, nothing happens.
-pub fn tell(end: End)
-    ensures { result ≡ tt }
+// The status that the process ends with.
+pub fn tell(end: End) -> ExitCode
+    ensures { exit_status result ≡ status_of end }
 {
-    io::print_decimal(3, status(end) as u64);
+    ExitCode::from(status(end))
+}
+
+// The same of a run over its streams: 141, as a shell has it of SIGPIPE, where nobody reads what is written.
+pub fn tell_over<I, O, E>(streams: &Streams<I, O, E>, end: End) -> ExitCode
+    ensures broken { streams.now.broken ≡ true → exit_status result ≡ 141 }
+    ensures whole { streams.now.broken ≡ false → exit_status result ≡ status_of end }
+{
+    if streams.broken {
+        return ExitCode::from(141);
+    }
+    tell(end)
 }
 
 // Which clip block n chose, on standard error; nothing where that is 0, which no clip is.
-pub fn say_chosen(n: u64, clip: u16)
+pub fn say_chosen<I, O, E: Write>(streams: &mut Streams<I, O, E>, n: u64, clip: u16)
     ensures { result ≡ tt }
 {
     if clip != 0 {
         let mut text = [0u8; 128];
         let count = remarks::chosen(n, clip, &mut text);
-        io::write_all(STDERR_FILENO, &text[..count]);
+        streams::say(streams, &text[..count]);
     }
+}
+
+// Puts word i at the start of `word` and answers its length, or 0 where it is missing or longer than that.
+pub fn arg(env: &impl Env, i: usize, word: &mut [u8]) -> usize
+    ensures { IsPrefixLen result word.new }
+{
+    match env.arg(i, word) {
+        Ok(count) => count,
+        Err(_) => 0,
+    }
+}
+
+// How many words there are, the program's own name among them.
+pub fn arg_count(env: &impl Env) -> usize {
+    let mut word = [0u8; 1];
+    for i in 0..usize::MAX {
+        if let Err(FillError::NotPresent) = env.arg(i, &mut word) {
+            return i;
+        }
+    }
+    usize::MAX
 }

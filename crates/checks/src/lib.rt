@@ -9,7 +9,8 @@ ghost use Rattle.checks.specs.Input.{kind_numbered, Kept, room_for};
 
 use coding::Kind;
 use h261_groups::Format;
-use libc::{STDIN_FILENO, STDOUT_FILENO};
+use std::env::Env;
+use std::io::{Read, Write};
 use refusals::Refusal;
 use size::Size;
 
@@ -76,31 +77,31 @@ pub fn kind_named(byte: u8) -> Kind
 }
 
 // Whether the input fills a buffer.
-pub fn fills(buffer: &mut [u8]) -> bool
+pub fn fills<I: Read>(stdin: &mut I, buffer: &mut [u8]) -> bool
     ensures { Kept buffer.old buffer.new }
 {
-    io::read_full(STDIN_FILENO, buffer) == buffer.len()
+    stdin.read_exact(buffer).is_ok()
 }
 
 // A description from the input: its lengths in four bytes each, and its slices. Ended too where a slice is beyond the room for it.
-pub fn next_description(head: &mut [u8], macroblocks: &mut [u8], levels: &mut [u8]) -> Description
+pub fn next_description<I: Read>(stdin: &mut I, head: &mut [u8], macroblocks: &mut [u8], levels: &mut [u8]) -> Description
     ensures levels_value { room_for result (length head.old) (length macroblocks.old) (length levels.old) ≡ true }
     ensures kept { (Kept head.old head.new) × (Kept macroblocks.old macroblocks.new) × (Kept levels.old levels.new) }
 {
     let mut start = [0u8; 12];
-    if !fills(&mut start) {
+    if !fills(stdin, &mut start) {
         return Description::Ended;
     }
     let heads = four(start[0], start[1], start[2], start[3]);
     let fields = four(start[4], start[5], start[6], start[7]);
     let coefficients = four(start[8], start[9], start[10], start[11]);
-    if !fills_part(heads, head) {
+    if !fills_part(stdin, heads, head) {
         return Description::Ended;
     }
-    if !fills_part(fields, macroblocks) {
+    if !fills_part(stdin, fields, macroblocks) {
         return Description::Ended;
     }
-    if !fills_part(coefficients, levels) {
+    if !fills_part(stdin, coefficients, levels) {
         return Description::Ended;
     }
     Description::Lengths(heads, fields, coefficients)
@@ -120,7 +121,7 @@ pub fn part(count: usize, buffer: &[u8]) -> usize
 }
 
 // Whether the input fills that many bytes of a buffer.
-pub fn fills_part(count: usize, buffer: &mut [u8]) -> bool
+pub fn fills_part<I: Read>(stdin: &mut I, count: usize, buffer: &mut [u8]) -> bool
     ensures count_in_bounds { result ≡ true → count ≤ length buffer.old }
     ensures kept { Kept buffer.old buffer.new }
 {
@@ -128,7 +129,7 @@ pub fn fills_part(count: usize, buffer: &mut [u8]) -> bool
     if all < count {
         return false;
     }
-    fills(&mut buffer[..all])
+    fills(stdin, &mut buffer[..all])
 }
 
 // How much of a buffer is lent: without its last byte where it is the one that is too short.
@@ -190,41 +191,60 @@ pub fn check_description(head: &[u8], macroblocks: &[u8], levels: &[u8]) -> u64
 
 // ---- what is printed: no contract can say it, so each of these promises its answer alone
 
-pub fn say(text: &[u8])
+pub fn say<O: Write>(stdout: &mut O, text: &[u8])
     ensures { result ≡ tt }
 {
-    io::write_all(STDOUT_FILENO, text);
+    let _ = stdout.write_all(text);
+}
+
+// "12"
+pub fn say_decimal<O: Write>(stdout: &mut O, n: u64)
+    ensures { result ≡ tt }
+{
+    let mut digits = [0u8; 20];
+    let count = io::decimal(n, &mut digits);
+    say(stdout, &digits[..count]);
 }
 
 // " 12"
-pub fn say_number(n: u64)
+pub fn say_number<O: Write>(stdout: &mut O, n: u64)
     ensures { result ≡ tt }
 {
-    say(b" ");
-    io::print_decimal(STDOUT_FILENO, n);
+    say(stdout, b" ");
+    say_decimal(stdout, n);
 }
 
-pub fn say_check(bytes: &[u8])
+pub fn say_check<O: Write>(stdout: &mut O, bytes: &[u8])
     ensures { result ≡ tt }
 {
-    say_number(check(bytes));
+    say_number(stdout, check(bytes));
 }
 
 // The first bytes of a text that begins with a space, without it.
-pub fn say_unspaced(count: usize, text: &[u8])
+pub fn say_unspaced<O: Write>(stdout: &mut O, count: usize, text: &[u8])
     ensures { result ≡ tt }
 {
     let end = part(count, text);
     if 1 <= end {
-        say(&text[1..end]);
+        say(stdout, &text[1..end]);
     }
 }
 
 // "refused 21", "refused 8 at 311 table 5"
-pub fn say_refusal(why: Refusal)
+pub fn say_refusal<O: Write>(stdout: &mut O, why: Refusal)
     ensures { result ≡ tt }
 {
     let mut text = [0u8; 80];
     let count = text::put_refusal(why, 0, &mut text);
-    say_unspaced(count, &text);
+    say_unspaced(stdout, count, &text);
+}
+
+// Puts word i at the start of `word` and answers its length, or 0 where it is missing or longer than that.
+pub fn arg(env: &impl Env, i: usize, word: &mut [u8]) -> usize
+    ensures { IsPrefixLen result word.new }
+{
+    match env.arg(i, word) {
+        Ok(count) => count,
+        Err(_) => 0,
+    }
 }

@@ -12,13 +12,15 @@ ghost use Rattle.text.specs.Text.{over};
 ghost use Rattle.frames.specs.Header.{header_text};
 ghost use Rattle.frames.specs.Timing.{timing_text};
 
+use account::streams::Streams;
+use std::io::{Read, Write};
+use std::process::ExitCode;
 use account::End;
 use account::blocks::Met;
 use account::going::Going;
 use account::idle::Idle;
 use account::input::Next;
 use arguments::VaultWords;
-use libc::{STDERR_FILENO, STDOUT_FILENO};
 use listing::Clip;
 use pace::Between;
 use size::Size;
@@ -64,23 +66,23 @@ fn header(size: Size, out: &mut [u8; 128]) -> usize
     text::put(b" F30000:1001 Ip A12:11 C420jpeg\n", high, out)
 }
 
-fn begin(size: Size) -> bool {
+fn begin<I, O: Write, E>(streams: &mut Streams<I, O, E>, size: Size) -> bool {
     let mut text = [0u8; 128];
     let count = header(size, &mut text);
-    io::write_all(STDOUT_FILENO, &text[..count])
+    account::streams::put(streams, &text[..count])
 }
 
-fn frame(samples: &[u8]) -> bool {
-    if io::write_all(STDOUT_FILENO, b"FRAME\n") {
-        return io::write_all(STDOUT_FILENO, samples);
+fn frame<I, O: Write, E>(streams: &mut Streams<I, O, E>, samples: &[u8]) -> bool {
+    if account::streams::put(streams, b"FRAME\n") {
+        return account::streams::put(streams, samples);
     }
     false
 }
 
-fn frames(samples: &[u8], count: u32) -> bool {
+fn frames<I, O: Write, E>(streams: &mut Streams<I, O, E>, samples: &[u8], count: u32) -> bool {
     let mut left = count;
     while 0 < left {
-        if !frame(samples) {
+        if !frame(streams, samples) {
             return false;
         }
         left -= 1;
@@ -89,10 +91,10 @@ fn frames(samples: &[u8], count: u32) -> bool {
 }
 
 // Plain grey.
-fn grey_frames(size: Size, count: u32) -> bool {
+fn grey_frames<I, O: Write, E>(streams: &mut Streams<I, O, E>, size: Size, count: u32) -> bool {
     let samples = size::store_length(size);
     let grey = [128u8; 152064];
-    frames(&grey[..samples], count)
+    frames(streams, &grey[..samples], count)
 }
 
 // Counts stop near the greatest number of 64 bits.
@@ -103,7 +105,7 @@ fn more(n: u64, count: u32) -> u64 {
     n
 }
 
-fn fill_with<'a>(
+fn fill_with<'a, I, O: Write, E>(streams: &mut Streams<I, O, E>, 
     timing: Timing,
     receiver: Receiver,
     between: Between,
@@ -116,7 +118,7 @@ fn fill_with<'a>(
         Between::Repeated(count) => {
             let last = receiver.last;
             let holder = last.holder;
-            let all = frames(standing::store_shown(size, holder, first, second), count);
+            let all = frames(streams, standing::store_shown(size, holder, first, second), count);
             Filled {
                 timing: Timing {
                     timed: timing.timed,
@@ -127,7 +129,7 @@ fn fill_with<'a>(
             }
         }
         Between::Grey(count) => {
-            let all = grey_frames(size, count);
+            let all = grey_frames(streams, size, count);
             Filled {
                 timing: Timing {
                     timed: timing.timed,
@@ -141,7 +143,7 @@ fn fill_with<'a>(
 }
 
 // The frames between the picture before and this one, by the clip as it was before the block that finished it.
-fn fill_before<'a>(
+fn fill_before<'a, I, O: Write, E>(streams: &mut Streams<I, O, E>, 
     timing: Timing,
     before: Clip,
     picture: u32,
@@ -152,13 +154,13 @@ fn fill_before<'a>(
     match before {
         Clip::Known(receiver) => {
             let between = pace::frames_between(receiver, picture, tick);
-            fill_with(timing, receiver, between, first, second)
+            fill_with(streams, timing, receiver, between, first, second)
         }
         _ => Filled { timing, all: true },
     }
 }
 
-fn fill<'a>(
+fn fill<'a, I, O: Write, E>(streams: &mut Streams<I, O, E>, 
     timing: Timing,
     before: Clip,
     answer: Answer,
@@ -168,7 +170,7 @@ fn fill<'a>(
     if timing.timed {
         match answer {
             Answer::Picture(picture, tick) => {
-                fill_before(timing, before, picture, tick, first, second)
+                fill_before(streams, timing, before, picture, tick, first, second)
             }
             _ => Filled { timing, all: true },
         }
@@ -178,14 +180,14 @@ fn fill<'a>(
 }
 
 // The picture that is finished.
-fn show<'a>(answer: Answer, clip: Clip, first: &'a [u8], second: &'a [u8]) -> bool {
+fn show<'a, I, O: Write, E>(streams: &mut Streams<I, O, E>, answer: Answer, clip: Clip, first: &'a [u8], second: &'a [u8]) -> bool {
     match clip {
         Clip::Known(receiver) => {
             let received = Received {
                 answer,
                 next: receiver,
             };
-            frame(standing::show(received, first, second))
+            frame(streams, standing::show(received, first, second))
         }
         _ => true,
     }
@@ -193,39 +195,39 @@ fn show<'a>(answer: Answer, clip: Clip, first: &'a [u8], second: &'a [u8]) -> bo
 
 // ---- what is said
 
-fn say_line(n: u64, answer: Answer) {
+fn say_line<I, O, E: Write>(streams: &mut Streams<I, O, E>, n: u64, answer: Answer) {
     let mut text = [0u8; 128];
     let count = listing::line(n, answer, &mut text);
-    io::write_all(STDERR_FILENO, &text[..count]);
+    account::streams::say(streams, &text[..count]);
 }
 
-fn say_short(n: u64) {
+fn say_short<I, O, E: Write>(streams: &mut Streams<I, O, E>, n: u64) {
     let mut text = [0u8; 128];
     let count = listing::short(n, &mut text);
-    io::write_all(STDERR_FILENO, &text[..count]);
+    account::streams::say(streams, &text[..count]);
 }
 
-fn say_idle(idle: Idle) {
+fn say_idle<I, O, E: Write>(streams: &mut Streams<I, O, E>, idle: Idle) {
     if idle.any {
         let mut text = [0u8; 128];
         let count = account::remarks::idle(idle.from, idle.to, &mut text);
-        io::write_all(STDERR_FILENO, &text[..count]);
+        account::streams::say(streams, &text[..count]);
     }
 }
 
-fn say_missing(from: u64, next: u64) {
+fn say_missing<I, O, E: Write>(streams: &mut Streams<I, O, E>, from: u64, next: u64) {
     if from < next {
         let mut text = [0u8; 128];
         let count = account::remarks::missing(from, next - 1, &mut text);
-        io::write_all(STDERR_FILENO, &text[..count]);
+        account::streams::say(streams, &text[..count]);
     }
 }
 
-fn say_rest(idle: Idle) {
+fn say_rest<I, O, E: Write>(streams: &mut Streams<I, O, E>, idle: Idle) {
     if idle.any {
         let mut text = [0u8; 128];
         let count = account::remarks::rest(idle.next, &mut text);
-        io::write_all(STDERR_FILENO, &text[..count]);
+        account::streams::say(streams, &text[..count]);
     }
 }
 
@@ -241,24 +243,24 @@ fn timing_line(repeated: u64, grey: u64, out: &mut [u8; 128]) -> usize
     text::put(b" grey\n", greys, out)
 }
 
-fn say_timing(timing: Timing) {
+fn say_timing<I, O, E: Write>(streams: &mut Streams<I, O, E>, timing: Timing) {
     if timing.timed {
         let mut text = [0u8; 128];
         let count = timing_line(timing.repeated, timing.grey, &mut text);
-        io::write_all(STDERR_FILENO, &text[..count]);
+        account::streams::say(streams, &text[..count]);
     }
 }
 
-fn say_pictures(pictures: u64) {
+fn say_pictures<I, O, E: Write>(streams: &mut Streams<I, O, E>, pictures: u64) {
     let mut text = [0u8; 128];
     let count = text::remarks::pictures(pictures, &mut text);
-    io::write_all(STDERR_FILENO, &text[..count]);
+    account::streams::say(streams, &text[..count]);
 }
 
 // ---- a block
 
 // What is said of a block, and whether a picture that it finished was written.
-fn follow<'a>(
+fn follow<'a, I, O: Write, E: Write>(streams: &mut Streams<I, O, E>, 
     n: u64,
     answer: Answer,
     clip: Clip,
@@ -268,12 +270,12 @@ fn follow<'a>(
 ) -> bool {
     match answer {
         Answer::Picture(picture, _) => {
-            say_idle(idle);
-            say_missing(idle.next, picture as u64);
-            show(answer, clip, first, second)
+            say_idle(streams, idle);
+            say_missing(streams, idle.next, picture as u64);
+            show(streams, answer, clip, first, second)
         }
         Answer::Refused(_) => {
-            say_line(n, answer);
+            say_line(streams, n, answer);
             true
         }
         _ => true,
@@ -281,7 +283,7 @@ fn follow<'a>(
 }
 
 // What the block's answer leads to: frames up to its picture, then the picture and what is said. After a failed write nothing more is done.
-fn shown<'a>(
+fn shown<'a, I, O: Write, E: Write>(streams: &mut Streams<I, O, E>, 
     n: u64,
     before: Clip,
     clip: Clip,
@@ -292,11 +294,11 @@ fn shown<'a>(
     first: &'a [u8],
     second: &'a [u8],
 ) -> Turn {
-    let filled = fill(timing, before, answer, first, second);
+    let filled = fill(streams, timing, before, answer, first, second);
     let timing_after = filled.timing;
     let mut all = false;
     if filled.all {
-        all = follow(n, answer, clip, idle, first, second);
+        all = follow(streams, n, answer, clip, idle, first, second);
     }
     Turn {
         going: account::going::written(all),
@@ -307,7 +309,7 @@ fn shown<'a>(
     }
 }
 
-fn whole(
+fn whole<I, O: Write, E: Write>(streams: &mut Streams<I, O, E>, 
     n: u64,
     size: Size,
     clip: Clip,
@@ -322,12 +324,12 @@ fn whole(
     let listed = listing::list(size, clip, block, collection, first, second);
     let answer = listed.answer;
     let next = listed.next;
-    account::say_chosen(n, listing::chosen(clip, next));
-    shown(n, clip, next, answer, met, idle, timing, first, second)
+    account::say_chosen(streams, n, listing::chosen(clip, next));
+    shown(streams, n, clip, next, answer, met, idle, timing, first, second)
 }
 
-fn short(n: u64, clip: Clip, met: Met, idle: Idle, timing: Timing) -> Turn {
-    say_short(n);
+fn short<I, O, E: Write>(streams: &mut Streams<I, O, E>, n: u64, clip: Clip, met: Met, idle: Idle, timing: Timing) -> Turn {
+    say_short(streams, n);
     Turn {
         going: Going::Ended,
         clip,
@@ -337,7 +339,7 @@ fn short(n: u64, clip: Clip, met: Met, idle: Idle, timing: Timing) -> Turn {
     }
 }
 
-fn one(
+fn one<I: Read, O: Write, E: Write>(streams: &mut Streams<I, O, E>, 
     n: u64,
     size: Size,
     clip: Clip,
@@ -349,12 +351,12 @@ fn one(
     second: &mut [u8],
 ) -> Turn {
     let mut block = [0u8; 512];
-    let filled = account::input::fill(&mut block);
+    let filled = account::input::fill(streams, &mut block);
     match account::input::next_of(filled) {
-        Next::Block => whole(
+        Next::Block => whole(streams, 
             n, size, clip, met, idle, timing, &block, collection, first, second,
         ),
-        Next::Short => short(n, clip, met, idle, timing),
+        Next::Short => short(streams, n, clip, met, idle, timing),
         Next::End => Turn {
             going: Going::Ended,
             clip,
@@ -374,35 +376,37 @@ fn one(
 
 // ---- the end
 
-fn unread() -> End {
-    os::fail(b"frames: the input could not be read");
+fn unread<I, O, E: Write>(streams: &mut Streams<I, O, E>, ) -> End {
+    let why = streams.stdin.failure;
+    account::streams::fail(streams, b"frames: the input could not be read", why);
     End::Unread
 }
 
-fn unwritten() -> End {
-    os::fail(b"frames: a picture could not be written");
+fn unwritten<I, O, E: Write>(streams: &mut Streams<I, O, E>, ) -> End {
+    let why = streams.failure;
+    account::streams::fail(streams, b"frames: a picture could not be written", why);
     End::Unwritten
 }
 
-fn end(met: Met, idle: Idle, timing: Timing) -> End {
+fn end<I, O, E: Write>(streams: &mut Streams<I, O, E>, met: Met, idle: Idle, timing: Timing) -> End {
     let left = account::idle::drop(idle);
-    say_idle(left);
-    say_rest(left);
-    say_pictures(met.pictures);
-    say_timing(timing);
+    say_idle(streams, left);
+    say_rest(streams, left);
+    say_pictures(streams, met.pictures);
+    say_timing(streams, timing);
     account::blocks::end(met)
 }
 
-fn finish(going: Going, met: Met, idle: Idle, timing: Timing) -> End {
+fn finish<I, O, E: Write>(streams: &mut Streams<I, O, E>, going: Going, met: Met, idle: Idle, timing: Timing) -> End {
     match going {
-        Going::Unread => unread(),
-        Going::Unwritten => unwritten(),
-        _ => end(met, idle, timing),
+        Going::Unread => unread(streams),
+        Going::Unwritten => unwritten(streams),
+        _ => end(streams, met, idle, timing),
     }
 }
 
 // Nothing says that the input ends, so the loop counts its turns.
-fn all(
+fn all<I: Read, O: Write, E: Write>(streams: &mut Streams<I, O, E>, 
     size: Size,
     opened: Clip,
     timed: bool,
@@ -418,10 +422,10 @@ fn all(
         repeated: 0,
         grey: 0,
     };
-    let mut going = account::going::written(begin(size));
+    let mut going = account::going::written(begin(streams, size));
     let mut n: u64 = 0;
     while n < 18446744073709551615 && account::going::goes_on(going) {
-        let turn = one(n, size, clip, met, idle, timing, collection, first, second);
+        let turn = one(streams, n, size, clip, met, idle, timing, collection, first, second);
         clip = turn.clip;
         met = turn.met;
         idle = turn.idle;
@@ -429,17 +433,17 @@ fn all(
         going = turn.going;
         n += 1;
     }
-    finish(going, met, idle, timing)
+    finish(streams, going, met, idle, timing)
 }
 
 // The buffers have room for any size.
-fn run(size: Size, clip: Clip, timed: bool) -> End {
+fn run<I: Read, O: Write, E: Write>(streams: &mut Streams<I, O, E>, size: Size, clip: Clip, timed: bool) -> End {
     let bytes = size::collection_length(size);
     let samples = size::store_length(size);
     let mut collection = [0u8; 33000];
     let mut first = [0u8; 152064];
     let mut second = [0u8; 152064];
-    all(
+    all(streams, 
         size,
         clip,
         timed,
@@ -451,29 +455,26 @@ fn run(size: Size, clip: Clip, timed: bool) -> End {
 
 // ---- the words
 
-fn usage() -> End {
-    io::write_all(
-        STDERR_FILENO,
-        b"usage: frames sqcif|qcif|cif [CLIP] [timed] < BLOCKS > PICTURES.y4m, with CLIP from 1 to 65535\n",
-    );
+fn usage<I, O, E: Write>(streams: &mut Streams<I, O, E>, ) -> End {
+    account::streams::say(streams, b"usage: frames sqcif|qcif|cif [CLIP] [timed] < BLOCKS > PICTURES.y4m, with CLIP from 1 to 65535\n");
     End::Misnamed
 }
 
 // How many words there are, the program's own name among them and `timed` not, and the two after it.
-fn of_words(count: usize, size: &[u8], clip: &[u8], timed: bool) -> End {
+fn of_words<I: Read, O: Write, E: Write>(streams: &mut Streams<I, O, E>, count: usize, size: &[u8], clip: &[u8], timed: bool) -> End {
     match arguments::vault_named(count, size, clip) {
-        VaultWords::Size(named) => run(named, Clip::Unknown, timed),
-        VaultWords::Clip(named, number) => run(named, Clip::Asked(number), timed),
-        VaultWords::Other => usage(),
+        VaultWords::Size(named) => run(streams, named, Clip::Unknown, timed),
+        VaultWords::Clip(named, number) => run(streams, named, Clip::Asked(number), timed),
+        VaultWords::Other => usage(streams),
     }
 }
 
 // The words without a last one that is `timed`.
-fn of_timed(count: usize, size: &[u8], clip: &[u8], last: &[u8]) -> End {
+fn of_timed<I: Read, O: Write, E: Write>(streams: &mut Streams<I, O, E>, count: usize, size: &[u8], clip: &[u8], last: &[u8]) -> End {
     if 3 <= count && text::same(last, b"timed") {
-        return of_words(count - 1, size, clip, true);
+        return of_words(streams, count - 1, size, clip, true);
     }
-    of_words(count, size, clip, false)
+    of_words(streams, count, size, clip, false)
 }
 
 // Which word is the last.
@@ -484,13 +485,15 @@ fn last_of(count: usize) -> usize {
     0
 }
 
-fn main() {
+fn main(rt: HostRuntime) -> ExitCode {
+    let mut streams = account::streams::over(rt.stdin(), rt.stdout(), rt.stderr());
     let mut size = [0u8; 16];
     let mut clip = [0u8; 16];
-    let sizes = os::arg(1, &mut size);
-    let clips = os::arg(2, &mut clip);
+    let sizes = account::arg(&rt, 1, &mut size);
+    let clips = account::arg(&rt, 2, &mut clip);
     let mut last = [0u8; 16];
-    let count = os::arg_count();
-    let lasts = os::arg(last_of(count), &mut last);
-    account::tell(of_timed(count, &size[..sizes], &clip[..clips], &last[..lasts]));
+    let count = account::arg_count(&rt);
+    let lasts = account::arg(&rt, last_of(count), &mut last);
+    let end = of_timed(&mut streams, count, &size[..sizes], &clip[..clips], &last[..lasts]);
+    account::tell_over(&streams, end)
 }

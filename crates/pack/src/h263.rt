@@ -1,4 +1,6 @@
 // A raw H.263 stream packed: each picture reaches from its start code, at a byte, to the next one or an end code, or to the stream's end.
+use account::streams::Streams;
+use std::io::Write;
 use crate::recording;
 use crate::recording::{Recording, Whole};
 use account::End;
@@ -30,7 +32,7 @@ fn bytes_before(count: usize) -> usize {
 }
 
 // The picture that is open, if one is, is whole: it has `count` bytes.
-fn close(
+fn close<I, O: Write, E: Write>(streams: &mut Streams<I, O, E>, 
     before: H263Pack,
     count: usize,
     picture: &[u8],
@@ -44,14 +46,14 @@ fn close(
     let size = before.size;
     let recording = before.recording;
     let whole = Whole::H263(size, count);
-    let next = recording::finish(recording, whole, stream.offset, picture, first, second);
+    let next = recording::finish(streams, recording, whole, stream.offset, picture, first, second);
     let mut pack = before;
     pack.recording = next;
     pack
 }
 
 // The next byte completes a code: the picture before it is whole.
-fn complete(
+fn complete<I, O: Write, E: Write>(streams: &mut Streams<I, O, E>, 
     before: H263Pack,
     byte: u8,
     picture: &mut [u8],
@@ -60,7 +62,7 @@ fn complete(
 ) -> H263Pack {
     let stream = before.stream;
     let count = bytes_before(stream.count);
-    let mut pack = close(before, count, picture, first, second);
+    let mut pack = close(streams, before, count, picture, first, second);
     let next = h263_stream::push(stream, byte, picture);
     pack.stream = next;
     if stream.begun {
@@ -68,14 +70,14 @@ fn complete(
     }
     if next.begun {
         let recording = pack.recording;
-        let begun = recording::begin(recording, next.offset);
+        let begun = recording::begin(streams, recording, next.offset);
         pack.recording = begun;
     }
     pack
 }
 
 // What was read of the stream, from one code to the next.
-pub fn chunk(
+pub fn chunk<I, O: Write, E: Write>(streams: &mut Streams<I, O, E>, 
     before: H263Pack,
     bytes: &[u8],
     picture: &mut [u8],
@@ -93,16 +95,16 @@ pub fn chunk(
         if bytes.len() <= there {
             return pack;
         }
-        pack = complete(pack, bytes[there], picture, first, second);
+        pack = complete(streams, pack, bytes[there], picture, first, second);
         at = there + 1;
     }
     pack
 }
 
 // The picture at the stream's end.
-pub fn end(before: H263Pack, picture: &[u8], first: &mut [u8], second: &mut [u8]) -> End {
+pub fn end<I, O: Write, E: Write>(streams: &mut Streams<I, O, E>, before: H263Pack, picture: &[u8], first: &mut [u8], second: &mut [u8]) -> End {
     let stream = before.stream;
-    let pack = close(before, stream.count, picture, first, second);
+    let pack = close(streams, before, stream.count, picture, first, second);
     let recording = pack.recording;
-    recording::end(recording, stream.begun, stream.place)
+    recording::end(streams, recording, stream.begun, stream.place)
 }

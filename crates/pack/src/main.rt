@@ -7,13 +7,15 @@
 //     ./pagesorrel pack qcif 7 < clips/testsrc2-qcif-fine.h261 > clip.blocks
 ghost use Rattle.std.specs.Prelude.{◌≤◌, length};
 
+use account::streams::Streams;
+use std::io::{IsTerminal, Read, Write};
+use std::process::ExitCode;
 use crate::h261::H261Pack;
 use crate::h263::H263Pack;
 use crate::recording::Recording;
 use account::End;
 use arguments::{ClipWord, KindWord};
 use coding::Kind;
-use libc::STDERR_FILENO;
 use sender::{Opened, Sender};
 
 mod h261;
@@ -36,9 +38,9 @@ struct Turn {
 
 // ---- the stream, by its standard
 
-fn open(sender: Sender) -> Pack {
+fn open(sender: Sender, terminal: bool) -> Pack {
     let kind = sender.kind;
-    let recording = recording::open(sender);
+    let recording = recording::open(sender, terminal);
     match kind {
         Kind::H261(format) => Pack::H261(h261::open(format, recording)),
         Kind::H263(size) => Pack::H263(h263::open(size, recording)),
@@ -62,32 +64,32 @@ fn room(kind: Kind) -> usize
     }
 }
 
-fn chunk(pack: Pack, bytes: &[u8], picture: &mut [u8], first: &mut [u8], second: &mut [u8]) -> Pack
+fn chunk<I, O: Write, E: Write>(streams: &mut Streams<I, O, E>, pack: Pack, bytes: &[u8], picture: &mut [u8], first: &mut [u8], second: &mut [u8]) -> Pack
     requires { length bytes.now ≤ 4096 }
 {
     match pack {
-        Pack::H261(before) => Pack::H261(h261::chunk(before, bytes, picture, first, second)),
-        Pack::H263(before) => Pack::H263(h263::chunk(before, bytes, picture, first, second)),
+        Pack::H261(before) => Pack::H261(h261::chunk(streams, before, bytes, picture, first, second)),
+        Pack::H263(before) => Pack::H263(h263::chunk(streams, before, bytes, picture, first, second)),
     }
 }
 
-fn ended(pack: Pack, reads: bool, picture: &[u8], first: &mut [u8], second: &mut [u8]) -> End {
+fn ended<I, O: Write, E: Write>(streams: &mut Streams<I, O, E>, pack: Pack, reads: bool, picture: &[u8], first: &mut [u8], second: &mut [u8]) -> End {
     if !reads {
-        return recording::unread(recording_of(pack));
+        return recording::unread(streams, recording_of(pack));
     }
     match pack {
-        Pack::H261(before) => h261::end(before, picture, first, second),
-        Pack::H263(before) => h263::end(before, picture, first, second),
+        Pack::H261(before) => h261::end(streams, before, picture, first, second),
+        Pack::H263(before) => h263::end(streams, before, picture, first, second),
     }
 }
 
 // ---- from its beginning to its end
 
-fn one(pack: Pack, picture: &mut [u8], first: &mut [u8], second: &mut [u8]) -> Turn {
-    let mut input = io::buffer();
-    let filled = account::input::fill(&mut input);
+fn one<I: Read, O: Write, E: Write>(streams: &mut Streams<I, O, E>, pack: Pack, picture: &mut [u8], first: &mut [u8], second: &mut [u8]) -> Turn {
+    let mut input = [0u8; 4096];
+    let filled = account::input::fill(streams, &mut input);
     let got = filled.count;
-    let next = chunk(pack, &input[..got], picture, first, second);
+    let next = chunk(streams, pack, &input[..got], picture, first, second);
     Turn {
         more: recording::goes_on(recording_of(next), got),
         reads: !filled.failed,
@@ -96,23 +98,23 @@ fn one(pack: Pack, picture: &mut [u8], first: &mut [u8], second: &mut [u8]) -> T
 }
 
 // The stream, and the picture at its end. Nothing says that the input ends, so the loop counts its turns.
-fn all(opened: Pack, picture: &mut [u8], first: &mut [u8], second: &mut [u8]) -> End {
+fn all<I: Read, O: Write, E: Write>(streams: &mut Streams<I, O, E>, opened: Pack, picture: &mut [u8], first: &mut [u8], second: &mut [u8]) -> End {
     let mut pack = opened;
     let mut more = true;
     let mut reads = true;
     let mut n: u64 = 0;
     while n < 18446744073709551615 && more {
-        let turn = one(pack, picture, first, second);
+        let turn = one(streams, pack, picture, first, second);
         pack = turn.pack;
         more = turn.more;
         reads = turn.reads;
         n += 1;
     }
-    ended(pack, reads, picture, first, second)
+    ended(streams, pack, reads, picture, first, second)
 }
 
 // The buffers that last as long as the stream have room for any size.
-fn record(sender: Sender) -> End {
+fn record<I: Read, O: Write, E: Write>(streams: &mut Streams<I, O, E>, sender: Sender, terminal: bool) -> End {
     let kind = sender.kind;
     let size = coding::size_of(kind);
     let bytes = room(kind);
@@ -120,8 +122,8 @@ fn record(sender: Sender) -> End {
     let mut picture = [0u8; 32776];
     let mut first = [0u8; 152064];
     let mut second = [0u8; 152064];
-    all(
-        open(sender),
+    all(streams, 
+        open(sender, terminal),
         &mut picture[..bytes],
         &mut first[..samples],
         &mut second[..samples],
@@ -130,38 +132,37 @@ fn record(sender: Sender) -> End {
 
 // ---- the words
 
-fn usage() -> End {
-    io::write_all(
-        STDERR_FILENO,
-        b"usage: pack qcif|cif|h263-sqcif|h263-qcif|h263-cif CLIP < STREAM > BLOCKS, with CLIP from 1 to 65535\n",
-    );
+fn usage<I, O, E: Write>(streams: &mut Streams<I, O, E>, ) -> End {
+    account::streams::say(streams, b"usage: pack qcif|cif|h263-sqcif|h263-qcif|h263-cif CLIP < STREAM > BLOCKS, with CLIP from 1 to 65535\n");
     End::Misnamed
 }
 
-fn begin(kind: Kind, clip: u16) -> End {
+fn begin<I: Read, O: Write, E: Write>(streams: &mut Streams<I, O, E>, kind: Kind, clip: u16, terminal: bool) -> End {
     match sender::open(clip, kind) {
-        Opened::Open(sender) => record(sender),
-        Opened::Refused(_) => usage(),
+        Opened::Open(sender) => record(streams, sender, terminal),
+        Opened::Refused(_) => usage(streams),
     }
 }
 
-fn of_words(count: usize, kind: &[u8], clip: &[u8]) -> End {
+fn of_words<I: Read, O: Write, E: Write>(streams: &mut Streams<I, O, E>, count: usize, kind: &[u8], clip: &[u8], terminal: bool) -> End {
     if count != 3 {
-        return usage();
+        return usage(streams);
     }
     match arguments::kind_named(kind) {
         KindWord::Names(named) => match arguments::clip_named(clip) {
-            ClipWord::Names(number) => begin(named, number),
-            ClipWord::Other => usage(),
+            ClipWord::Names(number) => begin(streams, named, number, terminal),
+            ClipWord::Other => usage(streams),
         },
-        KindWord::Other => usage(),
+        KindWord::Other => usage(streams),
     }
 }
 
-fn main() {
+fn main(rt: HostRuntime) -> ExitCode {
+    let mut streams = account::streams::over(rt.stdin(), rt.stdout(), rt.stderr());
     let mut kind = [0u8; 16];
     let mut clip = [0u8; 16];
-    let kinds = os::arg(1, &mut kind);
-    let clips = os::arg(2, &mut clip);
-    account::tell(of_words(os::arg_count(), &kind[..kinds], &clip[..clips]));
+    let kinds = account::arg(&rt, 1, &mut kind);
+    let clips = account::arg(&rt, 2, &mut clip);
+    let end = of_words(&mut streams, account::arg_count(&rt), &kind[..kinds], &clip[..clips], rt.stderr().is_terminal());
+    account::tell_over(&streams, end)
 }

@@ -1,10 +1,11 @@
 // The pictures of a stream recorded as a clip, and what is said of them: the same for both standards.
 ghost use Rattle.coding.specs.Described.{RoomIn};
 
+use account::streams::Streams;
+use std::io::Write;
 use account::End;
 use coding::Kind;
 use h261_groups::Format;
-use libc::{STDERR_FILENO, STDOUT_FILENO};
 use refusals::{Refusal, Verdict};
 use sender::{Answer, Sender};
 use size::Size;
@@ -25,8 +26,7 @@ pub enum Whole {
     H263(Size, usize),
 }
 
-pub fn open(sender: Sender) -> Recording {
-    let terminal = libc::isatty(STDERR_FILENO) == 1;
+pub fn open(sender: Sender, terminal: bool) -> Recording {
     Recording {
         sender,
         writes: true,
@@ -38,77 +38,77 @@ pub fn open(sender: Sender) -> Recording {
 // ---- what is said
 
 // The line that a terminal shows last makes room for another.
-fn clear(terminal: bool) {
+fn clear<I, O, E: Write>(streams: &mut Streams<I, O, E>, terminal: bool) {
     if terminal {
-        io::write_all(STDERR_FILENO, b"\r\x1b[K");
+        account::streams::say(streams, b"\r\x1b[K");
     }
 }
 
-fn say_progress(terminal: bool, pictures: u32, offset: usize) {
+fn say_progress<I, O, E: Write>(streams: &mut Streams<I, O, E>, terminal: bool, pictures: u32, offset: usize) {
     if terminal {
         let mut text = [0u8; 128];
         let count = text::remarks::progress(pictures as u64, offset as u64, &mut text);
-        io::write_all(STDERR_FILENO, &text[..count]);
+        account::streams::say(streams, &text[..count]);
     }
 }
 
 // The last such line stays.
-fn end_progress(terminal: bool) {
+fn end_progress<I, O, E: Write>(streams: &mut Streams<I, O, E>, terminal: bool) {
     if terminal {
-        io::write_all(STDERR_FILENO, b"\n");
+        account::streams::say(streams, b"\n");
     }
 }
 
-fn say_refused(terminal: bool, offset: usize, why: Refusal) {
-    clear(terminal);
+fn say_refused<I, O, E: Write>(streams: &mut Streams<I, O, E>, terminal: bool, offset: usize, why: Refusal) {
+    clear(streams, terminal);
     let mut text = [0u8; 128];
     let count = text::remarks::refused(offset as u64, why, &mut text);
-    io::write_all(STDERR_FILENO, &text[..count]);
+    account::streams::say(streams, &text[..count]);
 }
 
 // What stands before the first picture.
-fn say_before(terminal: bool, bytes: usize) {
-    clear(terminal);
+fn say_before<I, O, E: Write>(streams: &mut Streams<I, O, E>, terminal: bool, bytes: usize) {
+    clear(streams, terminal);
     let mut text = [0u8; 128];
     let count = account::remarks::before(bytes as u64, &mut text);
-    io::write_all(STDERR_FILENO, &text[..count]);
+    account::streams::say(streams, &text[..count]);
 }
 
-fn say_nothing(bytes: usize) {
+fn say_nothing<I, O, E: Write>(streams: &mut Streams<I, O, E>, bytes: usize) {
     let mut text = [0u8; 128];
     let count = account::remarks::nothing(bytes as u64, &mut text);
-    io::write_all(STDERR_FILENO, &text[..count]);
+    account::streams::say(streams, &text[..count]);
 }
 
-fn say_pictures(pictures: u32) {
+fn say_pictures<I, O, E: Write>(streams: &mut Streams<I, O, E>, pictures: u32) {
     let mut text = [0u8; 128];
     let count = text::remarks::pictures(pictures as u64, &mut text);
-    io::write_all(STDERR_FILENO, &text[..count]);
+    account::streams::say(streams, &text[..count]);
 }
 
 // ---- a picture
 
 // One that isn't recorded is cut.
-fn refused(before: Recording, offset: usize, why: Refusal) -> Recording {
-    say_refused(before.terminal, offset, why);
+fn refused<I, O, E: Write>(streams: &mut Streams<I, O, E>, before: Recording, offset: usize, why: Refusal) -> Recording {
+    say_refused(streams, before.terminal, offset, why);
     let mut recording = before;
     recording.cut = true;
     recording
 }
 
 // The first blocks of `out`. It has room for all that the sender writes, so the tests never fail.
-fn put_blocks(blocks: usize, out: &[u8]) -> bool {
+fn put_blocks<I, O: Write, E>(streams: &mut Streams<I, O, E>, blocks: usize, out: &[u8]) -> bool {
     if blocks <= 66 {
         let end = 512 * blocks;
         if end <= out.len() {
-            return io::write_all(STDOUT_FILENO, &out[..end]);
+            return account::streams::put(streams, &out[..end]);
         }
     }
     false
 }
 
 // A description goes under the next number.
-fn send(
+fn send<I, O: Write, E: Write>(streams: &mut Streams<I, O, E>, 
     before: Recording,
     offset: usize,
     head: &[u8],
@@ -126,13 +126,13 @@ fn send(
     recording.sender = next;
     match answer {
         Answer::Blocks(blocks) => {
-            recording.writes = put_blocks(blocks, out);
+            recording.writes = put_blocks(streams, blocks, out);
             if recording.writes {
-                say_progress(recording.terminal, next.picture, offset);
+                say_progress(streams, recording.terminal, next.picture, offset);
             }
             recording
         }
-        Answer::Refused(why) => refused(recording, offset, why),
+        Answer::Refused(why) => refused(streams, recording, offset, why),
     }
 }
 
@@ -154,7 +154,7 @@ fn read(
 }
 
 // It is read, and its description sent.
-fn finish_in(
+fn finish_in<I, O: Write, E: Write>(streams: &mut Streams<I, O, E>, 
     recording: Recording,
     whole: Whole,
     offset: usize,
@@ -167,7 +167,7 @@ fn finish_in(
     second: &mut [u8],
 ) -> Recording {
     match read(whole, picture, head, macroblocks, levels) {
-        Verdict::Accepted => send(
+        Verdict::Accepted => send(streams, 
             recording,
             offset,
             head,
@@ -177,14 +177,14 @@ fn finish_in(
             first,
             second,
         ),
-        Verdict::Refused(why) => refused(recording, offset, why),
+        Verdict::Refused(why) => refused(streams, recording, offset, why),
     }
 }
 
 // ---- scratch by size: a picture clears no more than its own size needs
 
 // QCIF and smaller.
-fn finish_small(
+fn finish_small<I, O: Write, E: Write>(streams: &mut Streams<I, O, E>, 
     recording: Recording,
     kind: Kind,
     whole: Whole,
@@ -202,7 +202,7 @@ fn finish_small(
     let heads = coding::head_length(kind);
     let fields = coding::macroblocks_length(kind);
     let coefficients = coding::levels_length(kind);
-    finish_in(
+    finish_in(streams, 
         recording,
         whole,
         offset,
@@ -217,7 +217,7 @@ fn finish_small(
 }
 
 // CIF, which has room for any size.
-fn finish_large(
+fn finish_large<I, O: Write, E: Write>(streams: &mut Streams<I, O, E>, 
     recording: Recording,
     kind: Kind,
     whole: Whole,
@@ -235,7 +235,7 @@ fn finish_large(
     let heads = coding::head_length(kind);
     let fields = coding::macroblocks_length(kind);
     let coefficients = coding::levels_length(kind);
-    finish_in(
+    finish_in(streams, 
         recording,
         whole,
         offset,
@@ -250,7 +250,7 @@ fn finish_large(
 }
 
 // A picture that begins at a byte of the stream, and stands in `picture`. After a failed write nothing more is done.
-pub fn finish(
+pub fn finish<I, O: Write, E: Write>(streams: &mut Streams<I, O, E>, 
     recording: Recording,
     whole: Whole,
     offset: usize,
@@ -265,16 +265,16 @@ pub fn finish(
     let kind = sender.kind;
     let size = coding::size_of(kind);
     match size {
-        Size::SubQcif => finish_small(recording, kind, whole, offset, picture, first, second),
-        Size::Qcif => finish_small(recording, kind, whole, offset, picture, first, second),
-        Size::Cif => finish_large(recording, kind, whole, offset, picture, first, second),
+        Size::SubQcif => finish_small(streams, recording, kind, whole, offset, picture, first, second),
+        Size::Qcif => finish_small(streams, recording, kind, whole, offset, picture, first, second),
+        Size::Cif => finish_large(streams, recording, kind, whole, offset, picture, first, second),
     }
 }
 
 // The first picture has begun: bytes before it are no picture's.
-pub fn begin(before: Recording, offset: usize) -> Recording {
+pub fn begin<I, O, E: Write>(streams: &mut Streams<I, O, E>, before: Recording, offset: usize) -> Recording {
     if 0 < offset {
-        say_before(before.terminal, offset);
+        say_before(streams, before.terminal, offset);
         let mut recording = before;
         recording.cut = true;
         return recording;
@@ -292,32 +292,34 @@ pub fn goes_on(recording: Recording, got: usize) -> bool {
     false
 }
 
-fn unwritten(terminal: bool) -> End {
-    clear(terminal);
-    os::fail(b"pack: a picture's blocks could not be written");
+fn unwritten<I, O, E: Write>(streams: &mut Streams<I, O, E>, terminal: bool) -> End {
+    clear(streams, terminal);
+    let why = streams.failure;
+    account::streams::fail(streams, b"pack: a picture's blocks could not be written", why);
     End::Unwritten
 }
 
-pub fn unread(recording: Recording) -> End {
+pub fn unread<I, O, E: Write>(streams: &mut Streams<I, O, E>, recording: Recording) -> End {
     if !recording.writes {
-        return unwritten(recording.terminal);
+        return unwritten(streams, recording.terminal);
     }
-    clear(recording.terminal);
-    os::fail(b"pack: the stream could not be read");
+    clear(streams, recording.terminal);
+    let why = streams.stdin.failure;
+    account::streams::fail(streams, b"pack: the stream could not be read", why);
     End::Unread
 }
 
 // A stream of so many bytes, in which a picture has begun or none has.
-pub fn end(recording: Recording, begun: bool, bytes: usize) -> End {
+pub fn end<I, O, E: Write>(streams: &mut Streams<I, O, E>, recording: Recording, begun: bool, bytes: usize) -> End {
     if !recording.writes {
-        return unwritten(recording.terminal);
+        return unwritten(streams, recording.terminal);
     }
     if !begun {
-        say_nothing(bytes);
+        say_nothing(streams, bytes);
         return End::Done(false, 0);
     }
     let sender = recording.sender;
-    end_progress(recording.terminal);
-    say_pictures(sender.picture);
+    end_progress(streams, recording.terminal);
+    say_pictures(streams, sender.picture);
     End::Done(recording.cut, sender.picture as u64)
 }

@@ -6,6 +6,9 @@
 // standard. The status is the lister's.
 //
 //     ./pagesorrel reads qcif 7 < clip.blocks
+use account::streams::Streams;
+use std::io::{Read, Write};
+use std::process::ExitCode;
 use account::End;
 use account::blocks::Met;
 use account::going::Going;
@@ -13,7 +16,6 @@ use account::input::Next;
 use arguments::VaultWords;
 use coding::Kind;
 use counting::Ending;
-use libc::{STDERR_FILENO, STDOUT_FILENO};
 use listing::Clip;
 use size::Size;
 use standing::Answer;
@@ -28,21 +30,21 @@ struct Turn {
 
 // ---- what is said
 
-fn say_reads(n: u64, kind: Kind, answer: Answer, bits: usize, collection: &[u8]) -> bool {
+fn say_reads<I, O: Write, E>(streams: &mut Streams<I, O, E>, n: u64, kind: Kind, answer: Answer, bits: usize, collection: &[u8]) -> bool {
     let reads = counting::reads(kind, collection, bits);
     let mut text = [0u8; 256];
     let count = counting::line(n, answer, bits, reads, &mut text);
-    io::write_all(STDOUT_FILENO, &text[..count])
+    account::streams::put(streams, &text[..count])
 }
 
 // Where the block ended a picture, its line; whether it was written. A clip that ended one is known.
-fn say(n: u64, clip: Clip, answer: Answer, ending: Ending, collection: &[u8]) -> bool {
+fn say<I, O: Write, E>(streams: &mut Streams<I, O, E>, n: u64, clip: Clip, answer: Answer, ending: Ending, collection: &[u8]) -> bool {
     match ending {
         Ending::Nothing => true,
         Ending::Picture(bits) => match clip {
             Clip::Known(receiver) => {
                 let kind = receiver.kind;
-                say_reads(n, kind, answer, bits, collection)
+                say_reads(streams, n, kind, answer, bits, collection)
             }
             _ => true,
         },
@@ -51,7 +53,7 @@ fn say(n: u64, clip: Clip, answer: Answer, ending: Ending, collection: &[u8]) ->
 
 // ---- a block
 
-fn whole(
+fn whole<I, O: Write, E: Write>(streams: &mut Streams<I, O, E>, 
     n: u64,
     size: Size,
     clip: Clip,
@@ -65,8 +67,8 @@ fn whole(
     let listed = listing::list(size, clip, block, collection, first, second);
     let answer = listed.answer;
     let next = listed.next;
-    account::say_chosen(n, listing::chosen(clip, next));
-    let all = say(n, next, answer, ending, collection);
+    account::say_chosen(streams, n, listing::chosen(clip, next));
+    let all = say(streams, n, next, answer, ending, collection);
     Turn {
         going: account::going::written(all),
         clip: next,
@@ -74,10 +76,10 @@ fn whole(
     }
 }
 
-fn short(n: u64, clip: Clip, met: Met) -> Turn {
+fn short<I, O: Write, E>(streams: &mut Streams<I, O, E>, n: u64, clip: Clip, met: Met) -> Turn {
     let mut text = [0u8; 128];
     let count = listing::short(n, &mut text);
-    if io::write_all(STDOUT_FILENO, &text[..count]) {
+    if account::streams::put(streams, &text[..count]) {
         return Turn {
             going: Going::Ended,
             clip,
@@ -91,7 +93,7 @@ fn short(n: u64, clip: Clip, met: Met) -> Turn {
     }
 }
 
-fn one(
+fn one<I: Read, O: Write, E: Write>(streams: &mut Streams<I, O, E>, 
     n: u64,
     size: Size,
     clip: Clip,
@@ -101,10 +103,10 @@ fn one(
     second: &mut [u8],
 ) -> Turn {
     let mut block = [0u8; 512];
-    let filled = account::input::fill(&mut block);
+    let filled = account::input::fill(streams, &mut block);
     match account::input::next_of(filled) {
-        Next::Block => whole(n, size, clip, met, &block, collection, first, second),
-        Next::Short => short(n, clip, met),
+        Next::Block => whole(streams, n, size, clip, met, &block, collection, first, second),
+        Next::Short => short(streams, n, clip, met),
         Next::End => Turn {
             going: Going::Ended,
             clip,
@@ -120,35 +122,37 @@ fn one(
 
 // ---- the end
 
-fn unread() -> End {
-    os::fail(b"reads: the input could not be read");
+fn unread<I, O, E: Write>(streams: &mut Streams<I, O, E>, ) -> End {
+    let why = streams.stdin.failure;
+    account::streams::fail(streams, b"reads: the input could not be read", why);
     End::Unread
 }
 
-fn unwritten() -> End {
-    os::fail(b"reads: a line could not be written");
+fn unwritten<I, O, E: Write>(streams: &mut Streams<I, O, E>, ) -> End {
+    let why = streams.failure;
+    account::streams::fail(streams, b"reads: a line could not be written", why);
     End::Unwritten
 }
 
-fn end(clip: Clip, met: Met) -> End {
+fn end<I, O: Write, E: Write>(streams: &mut Streams<I, O, E>, clip: Clip, met: Met) -> End {
     let mut text = [0u8; 128];
     let count = listing::end(clip, &mut text);
-    if io::write_all(STDOUT_FILENO, &text[..count]) {
+    if account::streams::put(streams, &text[..count]) {
         return account::blocks::end(met);
     }
-    unwritten()
+    unwritten(streams)
 }
 
-fn finish(going: Going, clip: Clip, met: Met) -> End {
+fn finish<I, O: Write, E: Write>(streams: &mut Streams<I, O, E>, going: Going, clip: Clip, met: Met) -> End {
     match going {
-        Going::Unread => unread(),
-        Going::Unwritten => unwritten(),
-        _ => end(clip, met),
+        Going::Unread => unread(streams),
+        Going::Unwritten => unwritten(streams),
+        _ => end(streams, clip, met),
     }
 }
 
 // Nothing says that the input ends, so the loop counts its turns.
-fn all(
+fn all<I: Read, O: Write, E: Write>(streams: &mut Streams<I, O, E>, 
     size: Size,
     opened: Clip,
     collection: &mut [u8],
@@ -160,23 +164,23 @@ fn all(
     let mut going = Going::On;
     let mut n: u64 = 0;
     while n < 18446744073709551615 && account::going::goes_on(going) {
-        let turn = one(n, size, clip, met, collection, first, second);
+        let turn = one(streams, n, size, clip, met, collection, first, second);
         clip = turn.clip;
         met = turn.met;
         going = turn.going;
         n += 1;
     }
-    finish(going, clip, met)
+    finish(streams, going, clip, met)
 }
 
 // The buffers have room for any size.
-fn run(size: Size, clip: Clip) -> End {
+fn run<I: Read, O: Write, E: Write>(streams: &mut Streams<I, O, E>, size: Size, clip: Clip) -> End {
     let bytes = size::collection_length(size);
     let samples = size::store_length(size);
     let mut collection = [0u8; 33000];
     let mut first = [0u8; 152064];
     let mut second = [0u8; 152064];
-    all(
+    all(streams, 
         size,
         clip,
         &mut collection[..bytes],
@@ -187,27 +191,26 @@ fn run(size: Size, clip: Clip) -> End {
 
 // ---- the words
 
-fn usage() -> End {
-    io::write_all(
-        STDERR_FILENO,
-        b"usage: reads sqcif|qcif|cif [CLIP] < BLOCKS, with CLIP from 1 to 65535\n",
-    );
+fn usage<I, O, E: Write>(streams: &mut Streams<I, O, E>, ) -> End {
+    account::streams::say(streams, b"usage: reads sqcif|qcif|cif [CLIP] < BLOCKS, with CLIP from 1 to 65535\n");
     End::Misnamed
 }
 
 // How many words there are, the program's own name among them, and the two after it.
-fn of_words(count: usize, size: &[u8], clip: &[u8]) -> End {
+fn of_words<I: Read, O: Write, E: Write>(streams: &mut Streams<I, O, E>, count: usize, size: &[u8], clip: &[u8]) -> End {
     match arguments::vault_named(count, size, clip) {
-        VaultWords::Size(named) => run(named, Clip::Unknown),
-        VaultWords::Clip(named, number) => run(named, Clip::Asked(number)),
-        VaultWords::Other => usage(),
+        VaultWords::Size(named) => run(streams, named, Clip::Unknown),
+        VaultWords::Clip(named, number) => run(streams, named, Clip::Asked(number)),
+        VaultWords::Other => usage(streams),
     }
 }
 
-fn main() {
+fn main(rt: HostRuntime) -> ExitCode {
+    let mut streams = account::streams::over(rt.stdin(), rt.stdout(), rt.stderr());
     let mut size = [0u8; 16];
     let mut clip = [0u8; 16];
-    let sizes = os::arg(1, &mut size);
-    let clips = os::arg(2, &mut clip);
-    account::tell(of_words(os::arg_count(), &size[..sizes], &clip[..clips]));
+    let sizes = account::arg(&rt, 1, &mut size);
+    let clips = account::arg(&rt, 2, &mut clip);
+    let end = of_words(&mut streams, account::arg_count(&rt), &size[..sizes], &clip[..clips]);
+    account::tell_over(&streams, end)
 }

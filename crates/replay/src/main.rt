@@ -7,10 +7,12 @@
 ghost use Rattle.std.specs.Prelude.{◌≡◌, ◌+◌, ◌*◌, ◌≤◌, ◌<◌, length};
 ghost use Rattle.bch.specs.Frame.{byte_steps};
 
+use account::streams::Streams;
+use std::io::{Read, Write};
+use std::process::ExitCode;
 use account::End;
 use account::input::Filled;
 use capture::{Came, LockFound};
-use libc::{STDERR_FILENO, STDOUT_FILENO};
 
 #[derive(Clone, Copy)]
 struct State {
@@ -45,26 +47,26 @@ fn plus(a: u64, n: usize) -> u64 {
     a + b
 }
 
-fn say(words: &[u8], number: u64) {
-    io::write_all(STDERR_FILENO, words);
-    io::print_decimal(STDERR_FILENO, number);
-    io::write_all(STDERR_FILENO, b"\n");
+fn say<I, O, E: Write>(streams: &mut Streams<I, O, E>, words: &[u8], number: u64) {
+    account::streams::say(streams, words);
+    account::streams::say_number(streams, number);
+    account::streams::say(streams, b"\n");
 }
 
 // ---- the data bits
 
 // The whole bytes are written, and the bits of a started one go to the front.
-fn flush(out: &mut [u8], waiting: usize) -> bool
+fn flush<I, O: Write, E>(streams: &mut Streams<I, O, E>, out: &mut [u8], waiting: usize) -> bool
     requires { waiting < 8 * length out.old }
 {
     let bytes = waiting / 8;
-    let taken = io::write_all(STDOUT_FILENO, &out[..bytes]);
+    let taken = account::streams::put(streams, &out[..bytes]);
     out[0] = out[bytes];
     taken
 }
 
 // Room for the data bits of another frame.
-fn roomy(before: State, out: &mut [u8; 65536]) -> State
+fn roomy<I, O: Write, E>(streams: &mut Streams<I, O, E>, before: State, out: &mut [u8; 65536]) -> State
     requires { before.waiting ≤ 524280 }
     ensures { (result.waiting ≤ 523788) × (result.at ≡ before.at) }
 {
@@ -72,7 +74,7 @@ fn roomy(before: State, out: &mut [u8; 65536]) -> State
     if waiting <= 523788 {
         return before;
     }
-    let taken = flush(out, waiting);
+    let taken = flush(streams, out, waiting);
     let mut state = before;
     state.given = plus(before.given, waiting - waiting % 8);
     state.waiting = waiting % 8;
@@ -81,16 +83,16 @@ fn roomy(before: State, out: &mut [u8; 65536]) -> State
 }
 
 // All that wait, the last started byte too.
-fn finish(waiting: usize, out: &[u8]) -> bool
+fn finish<I, O: Write, E>(streams: &mut Streams<I, O, E>, waiting: usize, out: &[u8]) -> bool
     requires { (waiting ≤ 524280) × (length out.now ≡ 65536) }
 {
     let bytes = (waiting + 7) / 8;
-    io::write_all(STDOUT_FILENO, &out[..bytes])
+    account::streams::put(streams, &out[..bytes])
 }
 
 // ---- frames
 
-fn frame(steps: &[u32; 256], input: &[u8; 65536], before: State, out: &mut [u8; 65536]) -> State
+fn frame<I, O, E: Write>(streams: &mut Streams<I, O, E>, steps: &[u32; 256], input: &[u8; 65536], before: State, out: &mut [u8; 65536]) -> State
     requires { (steps.now ≡ byte_steps) × (before.at ≤ 523776) × (before.waiting ≤ 523788) }
     ensures { (result.waiting ≤ 524280) × (result.at ≡ before.at + 512) }
 {
@@ -106,7 +108,7 @@ fn frame(steps: &[u32; 256], input: &[u8; 65536], before: State, out: &mut [u8; 
         }
         Came::Fill => state,
         Came::Unmended => {
-            say(b"unmended ", plus(before.gone, at));
+            say(streams, b"unmended ", plus(before.gone, at));
             state.cut = true;
             state
         }
@@ -114,7 +116,7 @@ fn frame(steps: &[u32; 256], input: &[u8; 65536], before: State, out: &mut [u8; 
 }
 
 // The whole frames of the buffer's `count` bits, as long as what is written is taken.
-fn frames(
+fn frames<I, O: Write, E: Write>(streams: &mut Streams<I, O, E>, 
     steps: &[u32; 256],
     input: &[u8; 65536],
     count: usize,
@@ -129,11 +131,11 @@ fn frames(
         if count - state.at < 512 {
             return state;
         }
-        let ready = roomy(state, out);
+        let ready = roomy(streams, state, out);
         if !ready.writes {
             return ready;
         }
-        state = frame(steps, input, ready, out);
+        state = frame(streams, steps, input, ready, out);
     }
     state
 }
@@ -141,7 +143,7 @@ fn frames(
 // ---- lock
 
 // Where nothing locks yet, what can still be the first of 24 framing bits is looked at again once more is there.
-fn search(input: &[u8; 65536], count: usize, before: State) -> State
+fn search<I, O, E: Write>(streams: &mut Streams<I, O, E>, input: &[u8; 65536], count: usize, before: State) -> State
     requires { count ≤ 524288 }
     ensures { result.waiting ≡ before.waiting }
 {
@@ -150,7 +152,7 @@ fn search(input: &[u8; 65536], count: usize, before: State) -> State
     let found = capture::lock(input, count, at);
     match found {
         LockFound::At(place) => {
-            say(b"lock ", plus(before.gone, place));
+            say(streams, b"lock ", plus(before.gone, place));
             state.locked = true;
             state.at = place;
             state
@@ -170,14 +172,14 @@ fn search(input: &[u8; 65536], count: usize, before: State) -> State
 // ---- the capture
 
 // What the input has, behind the bytes that are there.
-fn fill(input: &mut [u8], bytes: usize) -> Filled {
+fn fill<I: Read, O, E>(streams: &mut Streams<I, O, E>, input: &mut [u8], bytes: usize) -> Filled {
     if input.len() < bytes {
         return Filled {
             count: 0,
             failed: false,
         };
     }
-    account::input::fill(&mut input[bytes..])
+    account::input::fill(streams, &mut input[bytes..])
 }
 
 // The bytes from `from` on to the front.
@@ -208,17 +210,17 @@ fn dropped(before: State, input: &mut [u8; 65536]) -> State
     state
 }
 
-fn located(input: &[u8; 65536], count: usize, before: State) -> State
+fn located<I, O, E: Write>(streams: &mut Streams<I, O, E>, input: &[u8; 65536], count: usize, before: State) -> State
     requires { count ≤ 524288 }
     ensures { result.waiting ≡ before.waiting }
 {
     if before.locked {
         return before;
     }
-    search(input, count, before)
+    search(streams, input, count, before)
 }
 
-fn replayed(
+fn replayed<I, O: Write, E: Write>(streams: &mut Streams<I, O, E>, 
     steps: &[u32; 256],
     input: &[u8; 65536],
     count: usize,
@@ -228,9 +230,9 @@ fn replayed(
     requires { (steps.now ≡ byte_steps) × (count ≤ 524288) × (before.waiting ≤ 524280) }
     ensures { result.waiting ≤ 524280 }
 {
-    let state = located(input, count, before);
+    let state = located(streams, input, count, before);
     if state.locked {
-        return frames(steps, input, count, state, out);
+        return frames(streams, steps, input, count, state, out);
     }
     state
 }
@@ -244,13 +246,13 @@ fn goes_on(bytes: usize, writes: bool) -> bool {
 }
 
 // A buffer of the capture. The tests of the bytes never fail.
-fn turn(steps: &[u32; 256], input: &mut [u8; 65536], before: State, out: &mut [u8; 65536]) -> State
+fn turn<I: Read, O: Write, E: Write>(streams: &mut Streams<I, O, E>, steps: &[u32; 256], input: &mut [u8; 65536], before: State, out: &mut [u8; 65536]) -> State
     requires { (steps.now ≡ byte_steps) × (before.waiting ≤ 524280) }
     ensures { result.waiting ≤ 524280 }
 {
     let mut state = dropped(before, input);
     let had = state.bytes;
-    let filled = fill(input, had);
+    let filled = fill(streams, input, had);
     let got = filled.count;
     state.more = false;
     state.reads = !filled.failed;
@@ -262,28 +264,30 @@ fn turn(steps: &[u32; 256], input: &mut [u8; 65536], before: State, out: &mut [u
     }
     let bytes = had + got;
     state.bytes = bytes;
-    let mut after = replayed(steps, input, 8 * bytes, state, out);
+    let mut after = replayed(streams, steps, input, 8 * bytes, state, out);
     after.more = goes_on(bytes, after.writes);
     after
 }
 
 // ---- the end
 
-fn unread() -> End {
-    os::fail(b"replay: the recording could not be read");
+fn unread<I, O, E: Write>(streams: &mut Streams<I, O, E>, ) -> End {
+    let why = streams.stdin.failure;
+    account::streams::fail(streams, b"replay: the recording could not be read", why);
     End::Unread
 }
 
-fn unwritten() -> End {
-    os::fail(b"replay: the data could not be written");
+fn unwritten<I, O, E: Write>(streams: &mut Streams<I, O, E>, ) -> End {
+    let why = streams.failure;
+    account::streams::fail(streams, b"replay: the data could not be written", why);
     End::Unwritten
 }
 
 // The last frame, where it is cut.
-fn say_cut(state: State) -> bool {
+fn say_cut<I, O, E: Write>(streams: &mut Streams<I, O, E>, state: State) -> bool {
     if state.bytes <= 65536 {
         if state.at < 8 * state.bytes {
-            say(b"cut ", plus(state.gone, state.at));
+            say(streams, b"cut ", plus(state.gone, state.at));
             return true;
         }
     }
@@ -291,38 +295,38 @@ fn say_cut(state: State) -> bool {
 }
 
 // The data bits that wait are written, and all are counted.
-fn told(state: State, out: &[u8; 65536]) -> End
+fn told<I, O: Write, E: Write>(streams: &mut Streams<I, O, E>, state: State, out: &[u8; 65536]) -> End
     requires { state.waiting ≤ 524280 }
 {
-    let cut = say_cut(state);
+    let cut = say_cut(streams, state);
     let waiting = state.waiting;
-    if finish(waiting, out) {
+    if finish(streams, waiting, out) {
         let data = plus(state.given, waiting);
-        say(b"data ", data);
+        say(streams, b"data ", data);
         return End::Done(cut, data);
     }
-    unwritten()
+    unwritten(streams)
 }
 
 // What came of it all.
-fn close(state: State, out: &[u8; 65536]) -> End
+fn close<I, O: Write, E: Write>(streams: &mut Streams<I, O, E>, state: State, out: &[u8; 65536]) -> End
     requires { state.waiting ≤ 524280 }
 {
     if !state.reads {
-        return unread();
+        return unread(streams);
     }
     if !state.writes {
-        return unwritten();
+        return unwritten(streams);
     }
     if state.locked {
-        return told(state, out);
+        return told(streams, state, out);
     }
-    io::write_all(STDERR_FILENO, b"refused 44\n");
+    account::streams::say(streams, b"refused 44\n");
     End::Done(false, 0)
 }
 
 // Nothing says that the input ends, so the loop counts its turns.
-fn all(steps: &[u32; 256], input: &mut [u8; 65536], out: &mut [u8; 65536]) -> State
+fn all<I: Read, O: Write, E: Write>(streams: &mut Streams<I, O, E>, steps: &[u32; 256], input: &mut [u8; 65536], out: &mut [u8; 65536]) -> State
     requires { steps.now ≡ byte_steps }
     ensures { result.waiting ≤ 524280 }
 {
@@ -340,28 +344,30 @@ fn all(steps: &[u32; 256], input: &mut [u8; 65536], out: &mut [u8; 65536]) -> St
     };
     let mut n: u64 = 0;
     while n < 18446744073709551615 && state.more {
-        state = turn(steps, input, state, out);
+        state = turn(streams, steps, input, state, out);
         n += 1;
     }
     state
 }
 
-fn run() -> End {
+fn run<I: Read, O: Write, E: Write>(streams: &mut Streams<I, O, E>, ) -> End {
     let steps = bch::byte_steps();
-    let mut input = io::large_buffer();
-    let mut out = io::large_buffer();
-    let state = all(&steps, &mut input, &mut out);
-    close(state, &out)
+    let mut input = [0u8; 65536];
+    let mut out = [0u8; 65536];
+    let state = all(streams, &steps, &mut input, &mut out);
+    close(streams, state, &out)
 }
 
-fn of_words(count: usize) -> End {
+fn of_words<I: Read, O: Write, E: Write>(streams: &mut Streams<I, O, E>, count: usize) -> End {
     if count <= 1 {
-        return run();
+        return run(streams);
     }
-    io::write_all(STDERR_FILENO, b"usage: replay < CAPTURE > STREAM.h261\n");
+    account::streams::say(streams, b"usage: replay < CAPTURE > STREAM.h261\n");
     End::Misnamed
 }
 
-fn main() {
-    account::tell(of_words(os::arg_count()));
+fn main(rt: HostRuntime) -> ExitCode {
+    let mut streams = account::streams::over(rt.stdin(), rt.stdout(), rt.stderr());
+    let end = of_words(&mut streams, account::arg_count(&rt));
+    account::tell_over(&streams, end)
 }

@@ -6,12 +6,16 @@
 // second runs ahead to where the picture that is collected is finished or dropped.
 //
 //     ./pagesorrel salvage qcif 7 9 lossy.blocks > new.blocks 2> new.log
+use account::streams::{Source, Streams};
+use std::io::{Read, Seek, SeekFrom, Write};
+use std::rt::Files;
+use std::{fs, io};
+use std::process::ExitCode;
 use account::End;
 use account::going::Going;
 use account::input::Next;
 use arguments::{ClipWord, KindWord};
 use coding::Kind;
-use libc::{SEEK_CUR, SEEK_END, SEEK_SET, STDERR_FILENO, STDOUT_FILENO};
 use refusals::Reason;
 use salvaging::{Asked, Entries, Entry, Fate, Sight, Tally};
 use standing::{Answer, Opened, Received, Receiver};
@@ -19,18 +23,30 @@ use standing::{Answer, Opened, Received, Receiver};
 // ---- the file
 
 // A list that has grown or shrunk since its length was taken may end inside a block: that is no end of it, and is taken like a read that failed.
-fn read_block(file: i32, block: &mut [u8; 512]) -> Next {
+fn read_block<F: Read + Seek>(file: &mut Source<F>, block: &mut [u8; 512]) -> Next {
     let filled = account::input::fill_from(file, block);
     account::input::next_of(filled)
 }
 
 // Where one has come to, the other goes on.
-fn follow(file: i32, ahead: i32) -> bool {
-    let here = libc::lseek(file, 0, SEEK_CUR);
-    if here < 0 {
-        return false;
+fn follow<F: Read + Seek>(file: &mut Source<F>, ahead: &mut Source<F>) -> bool {
+    match file.from.stream_position() {
+        Ok(here) => goes_to(ahead, SeekFrom::Start(here)),
+        Err(why) => {
+            file.failure = Some(why);
+            false
+        }
     }
-    libc::lseek(ahead, here, SEEK_SET) == here
+}
+
+fn goes_to<F: Read + Seek>(file: &mut Source<F>, place: SeekFrom) -> bool {
+    match file.from.seek(place) {
+        Ok(_) => true,
+        Err(why) => {
+            file.failure = Some(why);
+            false
+        }
+    }
 }
 
 // ---- looking ahead
@@ -99,8 +115,8 @@ fn look_at(
     }
 }
 
-fn look_on(
-    file: i32,
+fn look_on<F: Read + Seek>(
+    file: &mut Source<F>,
     sought: Sought,
     receiver: Receiver,
     collection: &mut [u8],
@@ -129,8 +145,8 @@ fn is_open(found: Found) -> bool {
 }
 
 // Nothing says that the file ends, so the loop counts its turns.
-fn find(
-    file: i32,
+fn find<F: Read + Seek>(
+    file: &mut Source<F>,
     sought: Sought,
     begun: Receiver,
     collection: &mut [u8],
@@ -183,9 +199,9 @@ fn copy(from: &[u8], to: &mut [u8]) {
 }
 
 // Where a block asks for its picture's fate, the second receiver goes on from the first one's state.
-fn settle(
-    file: i32,
-    ahead: i32,
+fn settle<F: Read + Seek>(
+    file: &mut Source<F>,
+    ahead: &mut Source<F>,
     fate: Fate,
     received: Received,
     collection: &[u8],
@@ -225,36 +241,36 @@ fn settle(
 // ---- what is written
 
 // A new number is no greater than the old one, so that the test never fails.
-fn put_renewed(clip: u16, picture: u64, block: &[u8; 512]) -> bool {
+fn put_renewed<I, O: Write, E>(streams: &mut Streams<I, O, E>, clip: u16, picture: u64, block: &[u8; 512]) -> bool {
     if picture < 1048576 {
         let mut renewed = [0u8; 512];
         vault::renew(clip, picture as u32, block, &mut renewed);
-        return io::write_all(STDOUT_FILENO, &renewed);
+        return account::streams::put(streams, &renewed);
     }
     false
 }
 
 // A block that goes on.
-fn put_block(goes: bool, clip: u16, picture: u64, block: &[u8; 512]) -> bool {
+fn put_block<I, O: Write, E>(streams: &mut Streams<I, O, E>, goes: bool, clip: u16, picture: u64, block: &[u8; 512]) -> bool {
     if goes {
-        return put_renewed(clip, picture, block);
+        return put_renewed(streams, clip, picture, block);
     }
     true
 }
 
-fn say(entry: Entry) -> bool {
+fn say<I, O, E: Write>(streams: &mut Streams<I, O, E>, entry: Entry) -> bool {
     let mut text = [0u8; 128];
     let count = salvage_log::line(entry, &mut text);
-    io::write_all(STDERR_FILENO, &text[..count])
+    account::streams::say(streams, &text[..count])
 }
 
-fn say_all(entries: Entries) -> bool {
+fn say_all<I, O, E: Write>(streams: &mut Streams<I, O, E>, entries: Entries) -> bool {
     match entries {
         Entries::Nothing => true,
-        Entries::One(entry) => say(entry),
+        Entries::One(entry) => say(streams, entry),
         Entries::Two(first, second) => {
-            if say(first) {
-                return say(second);
+            if say(streams, first) {
+                return say(streams, second);
             }
             false
         }
@@ -287,7 +303,7 @@ fn counted(tally: Tally, answer: Answer) -> Tally {
 }
 
 // Block n, by its answer and whether its picture is finished: it goes to the new clip, or to the log.
-fn write(
+fn write<I, O: Write, E: Write>(streams: &mut Streams<I, O, E>, 
     n: u64,
     clip: u16,
     before: State,
@@ -301,7 +317,7 @@ fn write(
     let later = salvaging::is_kept(fate);
     let goes = salvaging::goes_on(answer, later);
     let entries = salvaging::entries_for(n, tally, answer, later);
-    if put_block(goes, clip, tally.pictures, block) && say_all(entries) {
+    if put_block(streams, goes, clip, tally.pictures, block) && say_all(streams, entries) {
         return Turn {
             going: Going::On,
             state: State {
@@ -319,10 +335,10 @@ fn write(
 }
 
 // Once the first receiver has answered.
-fn answered(
+fn answered<F: Read + Seek, I, O: Write, E: Write>(streams: &mut Streams<I, O, E>, 
     n: u64,
-    file: i32,
-    ahead: i32,
+    file: &mut Source<F>,
+    ahead: &mut Source<F>,
     clip: u16,
     before: State,
     received: Received,
@@ -349,7 +365,7 @@ fn answered(
     );
     if settled.read {
         let known = settled.fate;
-        return write(n, clip, before, received, known, block);
+        return write(streams, n, clip, before, received, known, block);
     }
     Turn {
         going: Going::Unread,
@@ -357,10 +373,10 @@ fn answered(
     }
 }
 
-fn whole(
+fn whole<F: Read + Seek, I, O: Write, E: Write>(streams: &mut Streams<I, O, E>, 
     n: u64,
-    file: i32,
-    ahead: i32,
+    file: &mut Source<F>,
+    ahead: &mut Source<F>,
     clip: u16,
     before: State,
     block: &[u8; 512],
@@ -373,7 +389,7 @@ fn whole(
 ) -> Turn {
     let receiver = before.receiver;
     let received = receiver::receive(receiver, block, collection, first, second);
-    answered(
+    answered(streams, 
         n,
         file,
         ahead,
@@ -390,10 +406,10 @@ fn whole(
     )
 }
 
-fn one(
+fn one<F: Read + Seek, I, O: Write, E: Write>(streams: &mut Streams<I, O, E>, 
     n: u64,
-    file: i32,
-    ahead: i32,
+    file: &mut Source<F>,
+    ahead: &mut Source<F>,
     clip: u16,
     before: State,
     collection: &mut [u8],
@@ -405,7 +421,7 @@ fn one(
 ) -> Turn {
     let mut block = [0u8; 512];
     match read_block(file, &mut block) {
-        Next::Block => whole(
+        Next::Block => whole(streams, 
             n,
             file,
             ahead,
@@ -432,29 +448,34 @@ fn one(
 
 // ---- the end
 
-fn unread() -> End {
-    os::fail(b"salvage: the blocks could not be read");
+fn unread<F, I, O, E: Write>(streams: &mut Streams<I, O, E>, file: &Source<F>, ahead: &Source<F>) -> End {
+    let why = match file.failure {
+        Some(why) => Some(why),
+        None => ahead.failure,
+    };
+    account::streams::fail(streams, b"salvage: the blocks could not be read", why);
     End::Unread
 }
 
-fn unwritten() -> End {
-    os::fail(b"salvage: the new clip could not be written");
+fn unwritten<I, O, E: Write>(streams: &mut Streams<I, O, E>, ) -> End {
+    let why = streams.failure;
+    account::streams::fail(streams, b"salvage: the new clip could not be written", why);
     End::Unwritten
 }
 
-fn refused(reason: Reason) -> End {
+fn refused<I, O, E: Write>(streams: &mut Streams<I, O, E>, reason: Reason) -> End {
     let mut text = [0u8; 128];
     let count = salvage_log::refused(reason, &mut text);
-    if io::write_all(STDERR_FILENO, &text[..count]) {
+    if account::streams::say(streams, &text[..count]) {
         return End::Done(false, 0);
     }
-    unwritten()
+    unwritten(streams)
 }
 
-fn finish(going: Going, state: State) -> End {
+fn finish<F, I, O, E: Write>(streams: &mut Streams<I, O, E>, file: &Source<F>, ahead: &Source<F>, going: Going, state: State) -> End {
     match going {
-        Going::Unread => unread(),
-        Going::Unwritten => unwritten(),
+        Going::Unread => unread(streams, file, ahead),
+        Going::Unwritten => unwritten(streams),
         _ => {
             let tally = state.tally;
             End::Done(state.cut, tally.pictures)
@@ -463,9 +484,9 @@ fn finish(going: Going, state: State) -> End {
 }
 
 // Nothing says that the file ends, so the loop counts its turns.
-fn all(
-    file: i32,
-    ahead: i32,
+fn all<F: Read + Seek, I, O: Write, E: Write>(streams: &mut Streams<I, O, E>, 
+    file: &mut Source<F>,
+    ahead: &mut Source<F>,
     clip: u16,
     opened: Receiver,
     collection: &mut [u8],
@@ -487,7 +508,7 @@ fn all(
     let mut going = Going::On;
     let mut n: u64 = 0;
     while n < 18446744073709551615 && account::going::goes_on(going) {
-        let turn = one(
+        let turn = one(streams, 
             n,
             file,
             ahead,
@@ -504,13 +525,13 @@ fn all(
         going = turn.going;
         n += 1;
     }
-    finish(going, state)
+    finish(streams, file, ahead, going, state)
 }
 
 // Whether anything is kept is settled first.
-fn begin(
-    file: i32,
-    ahead: i32,
+fn begin<F: Read + Seek, I, O: Write, E: Write>(streams: &mut Streams<I, O, E>, 
+    file: &mut Source<F>,
+    ahead: &mut Source<F>,
     clip: u16,
     opened: Receiver,
     collection: &mut [u8],
@@ -529,8 +550,8 @@ fn begin(
         second_ahead,
     );
     match found {
-        Found::Unread => unread(),
-        Found::Yes => all(
+        Found::Unread => unread(streams, file, ahead),
+        Found::Yes => all(streams, 
             file,
             ahead,
             clip,
@@ -542,12 +563,12 @@ fn begin(
             first_ahead,
             second_ahead,
         ),
-        _ => refused(Reason::NoneKept),
+        _ => refused(streams, Reason::NoneKept),
     }
 }
 
 // The buffers have room for any size.
-fn run(kind: Kind, file: i32, ahead: i32, clip: u16, opened: Receiver) -> End {
+fn run<F: Read + Seek, I, O: Write, E: Write>(streams: &mut Streams<I, O, E>, kind: Kind, file: &mut Source<F>, ahead: &mut Source<F>, clip: u16, opened: Receiver) -> End {
     let size = coding::size_of(kind);
     let bytes = size::collection_length(size);
     let samples = size::store_length(size);
@@ -557,7 +578,7 @@ fn run(kind: Kind, file: i32, ahead: i32, clip: u16, opened: Receiver) -> End {
     let mut collection_ahead = [0u8; 33000];
     let mut first_ahead = [0u8; 152064];
     let mut second_ahead = [0u8; 152064];
-    begin(
+    begin(streams, 
         file,
         ahead,
         clip,
@@ -581,26 +602,32 @@ enum Length {
 }
 
 // A folder can be opened and has a length, but can't be read.
-fn can_read(file: i32) -> bool {
+fn can_read<F: Read + Seek>(file: &mut Source<F>) -> bool {
     let mut block = [0u8; 512];
     let filled = account::input::fill_from(file, &mut block);
     !filled.failed
 }
 
-fn is_whole(length: i64) -> bool {
-    if length > 0 {
-        return (length as u64) % 512 == 0;
-    }
-    length == 0
+fn is_whole(length: u64) -> bool {
+    length % 512 == 0
 }
 
 // Whether it is whole blocks; the file then stands at its beginning.
-fn measure(file: i32) -> Length {
+fn measure<F: Read + Seek>(file: &mut Source<F>) -> Length {
     if !can_read(file) {
         return Length::Unread;
     }
-    let end = libc::lseek(file, 0, SEEK_END);
-    if end < 0 || libc::lseek(file, 0, SEEK_SET) != 0 {
+    match file.from.seek(SeekFrom::End(0)) {
+        Ok(end) => measured(file, end),
+        Err(why) => {
+            file.failure = Some(why);
+            Length::Unread
+        }
+    }
+}
+
+fn measured<F: Read + Seek>(file: &mut Source<F>, end: u64) -> Length {
+    if !goes_to(file, SeekFrom::Start(0)) {
         return Length::Unread;
     }
     if is_whole(end) {
@@ -609,96 +636,101 @@ fn measure(file: i32) -> Length {
     Length::Part
 }
 
-fn opened_as(kind: Kind, old: u16, new: u16, file: i32, ahead: i32) -> End {
+fn opened_as<F: Read + Seek, I, O: Write, E: Write>(streams: &mut Streams<I, O, E>, kind: Kind, old: u16, new: u16, file: &mut Source<F>, ahead: &mut Source<F>) -> End {
     match standing::open(old, kind) {
         Opened::Refused(why) => {
             let reason = why.reason;
-            refused(reason)
+            refused(streams, reason)
         }
         Opened::Open(receiver) => {
             if new == 0 {
-                return refused(Reason::BlockField);
+                return refused(streams, Reason::BlockField);
             }
-            run(kind, file, ahead, new, receiver)
+            run(streams, kind, file, ahead, new, receiver)
         }
     }
 }
 
 // The file is opened twice, once for each receiver.
-fn over(kind: Kind, old: u16, new: u16, file: i32, ahead: i32) -> End {
+fn over<F: Read + Seek, I, O: Write, E: Write>(streams: &mut Streams<I, O, E>, kind: Kind, old: u16, new: u16, file: &mut Source<F>, ahead: &mut Source<F>) -> End {
     match measure(ahead) {
-        Length::Unread => unread(),
-        Length::Part => refused(Reason::Length),
-        Length::Whole => opened_as(kind, old, new, file, ahead),
+        Length::Unread => unread(streams, file, ahead),
+        Length::Part => refused(streams, Reason::Length),
+        Length::Whole => opened_as(streams, kind, old, new, file, ahead),
     }
 }
 
 // ---- the words
 
-fn usage() -> End {
-    io::write_all(
-        STDERR_FILENO,
-        b"usage: salvage qcif|cif|h263-sqcif|h263-qcif|h263-cif OLD NEW BLOCKS > NEWBLOCKS 2> LOG, with OLD and NEW from 1 to 65535\n",
-    );
+fn usage<I, O, E: Write>(streams: &mut Streams<I, O, E>, ) -> End {
+    account::streams::say(streams, b"usage: salvage qcif|cif|h263-sqcif|h263-qcif|h263-cif OLD NEW BLOCKS > NEWBLOCKS 2> LOG, with OLD and NEW from 1 to 65535\n");
     End::Misnamed
 }
 
-fn unopened(path: &[u8]) -> End {
-    os::fail(path);
+fn unopened<I, O, E: Write>(streams: &mut Streams<I, O, E>, path: &[u8], why: io::Error) -> End {
+    account::streams::fail(streams, path, Some(why));
     End::Unread
 }
 
-fn of_file(kind: Kind, old: u16, new: u16, path: &[u8]) -> End {
-    let file = os::open_read(path);
-    if file < 0 {
-        return unopened(path);
+// A path that is no text names no file that std can open: 84 is EILSEQ.
+fn opened<R: Files>(rt: &R, path: &[u8]) -> io::Result<Source<R::File>> {
+    match str::from_utf8(path) {
+        Ok(name) => Ok(account::streams::reading(fs::open(rt, name)?)),
+        Err(_) => Err(io::Error::from_raw_os_error(84)),
     }
-    let ahead = os::open_read(path);
-    if ahead < 0 {
-        return unopened(path);
-    }
-    over(kind, old, new, file, ahead)
 }
 
-fn of_new(kind: Kind, old: u16, new: &[u8], path: &[u8]) -> End {
+fn of_file<R: Files, I, O: Write, E: Write>(rt: &R, streams: &mut Streams<I, O, E>, kind: Kind, old: u16, new: u16, path: &[u8]) -> End {
+    match opened(rt, path) {
+        Ok(mut file) => match opened(rt, path) {
+            Ok(mut ahead) => over(streams, kind, old, new, &mut file, &mut ahead),
+            Err(why) => unopened(streams, path, why),
+        },
+        Err(why) => unopened(streams, path, why),
+    }
+}
+
+fn of_new<R: Files, I, O: Write, E: Write>(rt: &R, streams: &mut Streams<I, O, E>, kind: Kind, old: u16, new: &[u8], path: &[u8]) -> End {
     match arguments::clip_named(new) {
-        ClipWord::Names(clip) => of_file(kind, old, clip, path),
-        ClipWord::Other => usage(),
+        ClipWord::Names(clip) => of_file(rt, streams, kind, old, clip, path),
+        ClipWord::Other => usage(streams),
     }
 }
 
-fn of_old(kind: Kind, old: &[u8], new: &[u8], path: &[u8]) -> End {
+fn of_old<R: Files, I, O: Write, E: Write>(rt: &R, streams: &mut Streams<I, O, E>, kind: Kind, old: &[u8], new: &[u8], path: &[u8]) -> End {
     match arguments::clip_named(old) {
-        ClipWord::Names(clip) => of_new(kind, clip, new, path),
-        ClipWord::Other => usage(),
+        ClipWord::Names(clip) => of_new(rt, streams, kind, clip, new, path),
+        ClipWord::Other => usage(streams),
     }
 }
 
 // How many words there are, the program's own name among them, and the four after it.
-fn of_words(count: usize, kind: &[u8], old: &[u8], new: &[u8], path: &[u8]) -> End {
+fn of_words<R: Files, I, O: Write, E: Write>(rt: &R, streams: &mut Streams<I, O, E>, count: usize, kind: &[u8], old: &[u8], new: &[u8], path: &[u8]) -> End {
     if count != 5 || path.len() == 0 {
-        return usage();
+        return usage(streams);
     }
     match arguments::kind_named(kind) {
-        KindWord::Names(named) => of_old(named, old, new, path),
-        KindWord::Other => usage(),
+        KindWord::Names(named) => of_old(rt, streams, named, old, new, path),
+        KindWord::Other => usage(streams),
     }
 }
 
-fn main() {
+fn main(rt: HostRuntime) -> ExitCode {
+    let mut streams = account::streams::over(rt.stdin(), rt.stdout(), rt.stderr());
     let mut kind = [0u8; 16];
     let mut old = [0u8; 16];
     let mut new = [0u8; 16];
-    let mut path = io::buffer();
-    let kinds = os::arg(1, &mut kind);
-    let olds = os::arg(2, &mut old);
-    let news = os::arg(3, &mut new);
-    let paths = os::arg(4, &mut path);
-    account::tell(of_words(
-        os::arg_count(),
+    let mut path = [0u8; 4096];
+    let kinds = account::arg(&rt, 1, &mut kind);
+    let olds = account::arg(&rt, 2, &mut old);
+    let news = account::arg(&rt, 3, &mut new);
+    let paths = account::arg(&rt, 4, &mut path);
+    let end = of_words(&rt, &mut streams, 
+        account::arg_count(&rt),
         &kind[..kinds],
         &old[..olds],
         &new[..news],
         &path[..paths],
-    ));
+    );
+    account::tell_over(&streams, end)
 }

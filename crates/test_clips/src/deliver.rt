@@ -1,5 +1,6 @@
 // Blocks delivered: a call is which buffer is lent without its last byte (0 none, 1 collection, 2 first store, 3 second store), the block's length in two bytes, the block.
 // Its line: "ANSWER, STAND, SHOWN", the answer as the lister writes it, and after a last part was read also ", COLLECTION FIRST SECOND", the checks of the three buffers.
+use std::io::{Read, Write};
 use crate::{Called, Party};
 use standing::{Answer, Holder, Received, Receiver, Standing};
 
@@ -23,59 +24,59 @@ fn was_read(answer: Answer) -> bool {
 }
 
 // Where both stores hold the same bytes, what is handed back doesn't tell which it is: the state says.
-fn say_holder(holder: Holder) {
+fn say_holder<O: Write>(stdout: &mut O, holder: Holder) {
     match holder {
         Holder::Neither => {
-            checks::say(b"a store of neither");
+            checks::say(stdout, b"a store of neither");
         }
         Holder::First => {
-            checks::say(b"first");
+            checks::say(stdout, b"first");
         }
         Holder::Second => {
-            checks::say(b"second");
+            checks::say(stdout, b"second");
         }
     }
 }
 
 // Which store the part handed back is, by its bytes.
-fn say_part(part: &[u8], holder: Holder, first: &[u8], second: &[u8]) {
+fn say_part<O: Write>(stdout: &mut O, part: &[u8], holder: Holder, first: &[u8], second: &[u8]) {
     if part.len() == 0 {
-        checks::say(b"none");
+        checks::say(stdout, b"none");
         return;
     }
     if text::same(part, first) {
         if text::same(part, second) {
-            say_holder(holder);
+            say_holder(stdout, holder);
         } else {
-            checks::say(b"first");
+            checks::say(stdout, b"first");
         }
         return;
     }
     if text::same(part, second) {
-        checks::say(b"second");
+        checks::say(stdout, b"second");
     } else {
-        checks::say(b"neither store");
+        checks::say(stdout, b"neither store");
     }
 }
 
-fn say_shown<'a>(received: Received, first: &'a [u8], second: &'a [u8]) {
+fn say_shown<'a, O: Write>(stdout: &mut O, received: Received, first: &'a [u8], second: &'a [u8]) {
     let next = received.next;
     let last = next.last;
     let holder = last.holder;
     let part = standing::show(received, first, second);
-    say_part(part, holder, first, second);
+    say_part(stdout, part, holder, first, second);
 }
 
 // "ANSWER, STAND"
-fn say_answer(answer: Answer, standing: Standing) {
+fn say_answer<O: Write>(stdout: &mut O, answer: Answer, standing: Standing) {
     let mut text = [0u8; 128];
     let answered = listing::put_answer(answer, 0, &mut text);
     let parted = text::put(b",", answered, &mut text);
     let stood = listing::put_standing(standing, parted, &mut text);
-    checks::say_unspaced(stood, &text);
+    checks::say_unspaced(stdout, stood, &text);
 }
 
-fn receive(
+fn receive<O: Write>(stdout: &mut O, 
     receiver: Receiver,
     block: &[u8],
     collection: &mut [u8],
@@ -87,17 +88,17 @@ fn receive(
     let next = received.next;
     let progress = next.progress;
     let standing = progress.standing;
-    say_answer(answer, standing);
-    checks::say(b", ");
-    say_shown(received, first, second);
+    say_answer(stdout, answer, standing);
+    checks::say(stdout, b", ");
+    say_shown(stdout, received, first, second);
     let told = was_read(answer);
     if told {
-        checks::say(b",");
+        checks::say(stdout, b",");
     }
     Called::Next(Party::Receiving(next), told)
 }
 
-pub fn call(
+pub fn call<I: Read, O: Write>(stdin: &mut I, stdout: &mut O, 
     receiver: Receiver,
     length: usize,
     collection: &mut [u8],
@@ -105,9 +106,9 @@ pub fn call(
     second: &mut [u8],
 ) -> Called {
     let mut block = [0u8; 1024];
-    if !checks::fills_part(length, &mut block) {
+    if !checks::fills_part(stdin, length, &mut block) {
         return Called::Ended;
     }
     let whole = checks::part(length, &block);
-    receive(receiver, &block[..whole], collection, first, second)
+    receive(stdout, receiver, &block[..whole], collection, first, second)
 }

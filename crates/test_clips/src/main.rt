@@ -4,9 +4,9 @@
 // sender also the number of its next picture in four, and the calls; src/send.rt and deliver.rt say how a call and its line look. Before a session every byte of the
 // sender's output is 165, of the receiver's collection buffer 51, of the first store 17, of the second 34. Lines: "opened" or "refused 22", those of the calls, and after a
 // receiver's calls "end COLLECTION FIRST SECOND" with the checks of the buffers. Stops at the end of the input and at a record that has no such form.
+use std::io::{Read, Write};
 use checks::{lent, part, two};
 use coding::Kind;
-use libc::STDERR_FILENO;
 use refusals::Refusal;
 use sender::Sender;
 use size::Size;
@@ -67,14 +67,14 @@ fn before(party: Party) -> u8 {
 }
 
 // " BUFFER FIRST SECOND"
-fn say_checks(party: Party, buffer: &[u8], first: &[u8], second: &[u8]) {
+fn say_checks<O: Write>(stdout: &mut O, party: Party, buffer: &[u8], first: &[u8], second: &[u8]) {
     let samples = size::store_length(size_of(party));
     let most = part(buffer_length(party), buffer);
     let firsts = part(samples, first);
     let seconds = part(samples, second);
-    checks::say_check(&buffer[..most]);
-    checks::say_check(&first[..firsts]);
-    checks::say_check(&second[..seconds]);
+    checks::say_check(stdout, &buffer[..most]);
+    checks::say_check(stdout, &first[..firsts]);
+    checks::say_check(stdout, &second[..seconds]);
 }
 
 // ---- a call
@@ -92,7 +92,7 @@ fn short_of(party: Party, start: &[u8; 3]) -> u8 {
     }
 }
 
-fn lend(
+fn lend<I: Read, O: Write>(stdin: &mut I, stdout: &mut O, 
     party: Party,
     start: &[u8; 3],
     buffer: &mut [u8],
@@ -105,14 +105,14 @@ fn lend(
     let firsts = part(lent(samples, short == 2), first);
     let seconds = part(lent(samples, short == 3), second);
     match party {
-        Party::Sending(sender) => send::call(
+        Party::Sending(sender) => send::call(stdin, stdout, 
             sender,
             two(start[0], start[1]),
             &mut buffer[..most],
             &mut first[..firsts],
             &mut second[..seconds],
         ),
-        Party::Receiving(receiver) => deliver::call(
+        Party::Receiving(receiver) => deliver::call(stdin, stdout, 
             receiver,
             two(start[1], start[2]),
             &mut buffer[..most],
@@ -123,26 +123,26 @@ fn lend(
 }
 
 // A call, and its line.
-fn next_call(party: Party, buffer: &mut [u8], first: &mut [u8], second: &mut [u8]) -> Called {
+fn next_call<I: Read, O: Write>(stdin: &mut I, stdout: &mut O, party: Party, buffer: &mut [u8], first: &mut [u8], second: &mut [u8]) -> Called {
     let mut start = [0u8; 3];
-    if !checks::fills(&mut start) {
+    if !checks::fills(stdin, &mut start) {
         return Called::Ended;
     }
-    let called = lend(party, &start, buffer, first, second);
+    let called = lend(stdin, stdout, party, &start, buffer, first, second);
     let Called::Next(next, told) = called else {
         return Called::Ended;
     };
     if told {
-        say_checks(next, buffer, first, second);
+        say_checks(stdout, next, buffer, first, second);
     }
-    checks::say(b"\n");
+    checks::say(stdout, b"\n");
     called
 }
 
 // ---- a session
 
 // Whether the input has all calls.
-fn calls(
+fn calls<I: Read, O: Write>(stdin: &mut I, stdout: &mut O, 
     opened: Party,
     count: usize,
     buffer: &mut [u8],
@@ -152,7 +152,7 @@ fn calls(
     let mut party = opened;
     let mut n: usize = 0;
     while n < count {
-        let called = next_call(party, buffer, first, second);
+        let called = next_call(stdin, stdout, party, buffer, first, second);
         let Called::Next(next, _) = called else {
             return false;
         };
@@ -162,69 +162,69 @@ fn calls(
     true
 }
 
-fn session(opened: Party, count: usize) -> bool {
+fn session<I: Read, O: Write>(stdin: &mut I, stdout: &mut O, opened: Party, count: usize) -> bool {
     let mut buffer = [before(opened); 33792];
     let mut first = [17u8; 152064];
     let mut second = [34u8; 152064];
-    checks::say(b"opened\n");
-    if !calls(opened, count, &mut buffer, &mut first, &mut second) {
+    checks::say(stdout, b"opened\n");
+    if !calls(stdin, stdout, opened, count, &mut buffer, &mut first, &mut second) {
         return false;
     }
     match opened {
         Party::Sending(_) => {}
         Party::Receiving(_) => {
-            checks::say(b"end");
-            say_checks(opened, &buffer, &first, &second);
-            checks::say(b"\n");
+            checks::say(stdout, b"end");
+            say_checks(stdout, opened, &buffer, &first, &second);
+            checks::say(stdout, b"\n");
         }
     }
     true
 }
 
-fn refused(why: Refusal) -> bool {
-    checks::say_refusal(why);
-    checks::say(b"\n");
+fn refused<O: Write>(stdout: &mut O, why: Refusal) -> bool {
+    checks::say_refusal(stdout, why);
+    checks::say(stdout, b"\n");
     true
 }
 
-fn open_sender(clip: u16, kind: Kind, count: usize) -> bool {
+fn open_sender<I: Read, O: Write>(stdin: &mut I, stdout: &mut O, clip: u16, kind: Kind, count: usize) -> bool {
     let mut number = [0u8; 4];
-    if !checks::fills(&mut number) {
+    if !checks::fills(stdin, &mut number) {
         return false;
     }
     let next = checks::picture_of(number[0], number[1], number[2], number[3]);
     match sender::open(clip, kind) {
-        sender::Opened::Open(sender) => session(Party::Sending(send::before(sender, next)), count),
-        sender::Opened::Refused(why) => refused(why),
+        sender::Opened::Open(sender) => session(stdin, stdout, Party::Sending(send::before(sender, next)), count),
+        sender::Opened::Refused(why) => refused(stdout, why),
     }
 }
 
-fn open(case: Case, clip: u16, kind: Kind, count: usize) -> bool {
+fn open<I: Read, O: Write>(stdin: &mut I, stdout: &mut O, case: Case, clip: u16, kind: Kind, count: usize) -> bool {
     match case {
-        Case::Send => open_sender(clip, kind, count),
+        Case::Send => open_sender(stdin, stdout, clip, kind, count),
         Case::Deliver => match standing::open(clip, kind) {
-            standing::Opened::Open(receiver) => session(Party::Receiving(receiver), count),
-            standing::Opened::Refused(why) => refused(why),
+            standing::Opened::Open(receiver) => session(stdin, stdout, Party::Receiving(receiver), count),
+            standing::Opened::Refused(why) => refused(stdout, why),
         },
         Case::Other => false,
     }
 }
 
 // One session, and whether to go on.
-fn one(case: Case) -> bool {
+fn one<I: Read, O: Write>(stdin: &mut I, stdout: &mut O, case: Case) -> bool {
     let mut start = [0u8; 7];
-    if !checks::fills(&mut start) || 4 < start[0] {
+    if !checks::fills(stdin, &mut start) || 4 < start[0] {
         return false;
     }
     let clip = checks::clip_of(start[1], start[2]);
     let count = checks::four(start[3], start[4], start[5], start[6]);
-    open(case, clip, checks::kind_named(start[0]), count)
+    open(stdin, stdout, case, clip, checks::kind_named(start[0]), count)
 }
 
 // Nothing says that the input ends, so the loop counts its turns.
-fn all(case: Case) {
+fn all<I: Read, O: Write>(stdin: &mut I, stdout: &mut O, case: Case) {
     let mut n: u64 = 0;
-    while n < 100000000 && one(case) {
+    while n < 100000000 && one(stdin, stdout, case) {
         n += 1;
     }
 }
@@ -239,17 +239,17 @@ fn case_named(word: &[u8]) -> Case {
     Case::Other
 }
 
-fn main() {
+fn main(rt: HostRuntime) {
+    let mut stdin = rt.stdin();
+    let mut stdout = rt.stdout();
+    let mut stderr = rt.stderr();
     let mut word = [0u8; 16];
-    let count = os::arg(1, &mut word);
+    let count = checks::arg(&rt, 1, &mut word);
     let case = case_named(&word[..count]);
     match case {
         Case::Other => {
-            io::write_all(
-                STDERR_FILENO,
-                b"usage: test_clips send|deliver < SESSIONS\n",
-            );
+            stderr.write_all(b"usage: test_clips send|deliver < SESSIONS\n").is_ok();
         }
-        _ => all(case),
+        _ => all(&mut stdin, &mut stdout, case),
     }
 }

@@ -1,5 +1,6 @@
 // Descriptions sent: a call is how often it is made in two bytes, which buffer is lent without its last byte in one (0 none, 1 the first store, 2 the second, 3 the output),
 // and the description. The line of its last time: "sent PICTURE BLOCKS" or "refused NUMBER", and the checks of output, first and second store.
+use std::io::{Read, Write};
 use crate::{Called, Party};
 use checks::{Description, part};
 use sender::{Answer, Sender};
@@ -16,19 +17,19 @@ pub fn before(sender: Sender, picture: u32) -> Sender {
     }
 }
 
-fn say_answer(picture: u32, answer: Answer) {
+fn say_answer<O: Write>(stdout: &mut O, picture: u32, answer: Answer) {
     match answer {
         Answer::Blocks(blocks) => {
-            checks::say(b"sent");
-            checks::say_number(picture as u64);
-            checks::say_number(blocks as u64);
+            checks::say(stdout, b"sent");
+            checks::say_number(stdout, picture as u64);
+            checks::say_number(stdout, blocks as u64);
         }
-        Answer::Refused(why) => checks::say_refusal(why),
+        Answer::Refused(why) => checks::say_refusal(stdout, why),
     }
 }
 
 // The same call again and again; what the last one answers is printed.
-fn repeat(
+fn repeat<O: Write>(stdout: &mut O, 
     sender: Sender,
     times: usize,
     head: &[u8],
@@ -48,11 +49,11 @@ fn repeat(
         n += 1;
     }
     let answer = last.answer;
-    say_answer(picture, answer);
+    say_answer(stdout, picture, answer);
     last.next
 }
 
-pub fn call(
+pub fn call<I: Read, O: Write>(stdin: &mut I, stdout: &mut O, 
     sender: Sender,
     times: usize,
     out: &mut [u8],
@@ -62,14 +63,14 @@ pub fn call(
     let mut head = [0u8; 64];
     let mut macroblocks = [0u8; 2048];
     let mut levels = [0u8; 153600];
-    let described = checks::next_description(&mut head, &mut macroblocks, &mut levels);
+    let described = checks::next_description(stdin, &mut head, &mut macroblocks, &mut levels);
     let Description::Lengths(heads, fields, coefficients) = described else {
         return Called::Ended;
     };
     let headed = part(heads, &head);
     let fielded = part(fields, &macroblocks);
     let levelled = part(coefficients, &levels);
-    let next = repeat(
+    let next = repeat(stdout, 
         sender,
         times,
         &head[..headed],

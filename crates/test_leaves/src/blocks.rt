@@ -4,8 +4,8 @@ ghost use Rattle.std.specs.Prelude.{◌≡◌, ◌+◌, ◌*◌, ◌≤◌, pos,
 ghost use Rattle.laws.specs.Block.{Is};
 ghost use Rattle.test_leaves.specs.Coefficient.{coefficient_of, coefficients_of};
 
+use std::io::{Read, Write};
 use checks::two;
-use libc::STDOUT_FILENO;
 use quantiser::cut::cut;
 
 // -n
@@ -65,12 +65,12 @@ fn lay(block: [[i32; 8]; 8]) -> [u8; 128] {
 }
 
 // One block, and whether to go on.
-pub fn one() -> bool {
+pub fn one<I: Read, O: Write>(stdin: &mut I, stdout: &mut O, ) -> bool {
     let mut bytes = [0u8; 128];
-    if !checks::fills(&mut bytes) {
+    if !checks::fills(stdin, &mut bytes) {
         return false;
     }
     let coefficients = block(&bytes);
     let out = lay(inverse::inverse(coefficients));
-    io::write_all(STDOUT_FILENO, &out)
+    stdout.write_all(&out).is_ok()
 }

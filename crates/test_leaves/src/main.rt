@@ -4,8 +4,8 @@
 // record is ignored.
 ghost use Rattle.test_leaves.specs.Words.{TablesLent};
 
+use std::io::{Read, Write};
 use h261_words::WordTables;
-use libc::STDERR_FILENO;
 
 mod blocks;
 mod due;
@@ -19,7 +19,7 @@ enum Case {
     Other,
 }
 
-fn case_named(word: &[u8]) -> Case {
+fn case_named<E: Write>(stderr: &mut E, word: &[u8]) -> Case {
     if text::same(word, b"words") {
         return Case::Words;
     }
@@ -32,40 +32,40 @@ fn case_named(word: &[u8]) -> Case {
     if text::same(word, b"due") {
         return Case::Due;
     }
-    io::write_all(
-        STDERR_FILENO,
-        b"usage: test_leaves words|h263-words|blocks|due < RECORDS\n",
-    );
+    stderr.write_all(b"usage: test_leaves words|h263-words|blocks|due < RECORDS\n").is_ok();
     Case::Other
 }
 
 // One record, and whether to go on.
-fn one(case: Case, tables: &WordTables, newer: &h263_words::WordTables) -> bool
+fn one<I: Read, O: Write>(stdin: &mut I, stdout: &mut O, case: Case, tables: &WordTables, newer: &h263_words::WordTables) -> bool
     requires { TablesLent tables.now newer.now }
 {
     match case {
-        Case::Words => words::one(tables, newer),
-        Case::Blocks => blocks::one(),
-        Case::Due => due::one(),
+        Case::Words => words::one(stdin, stdout, tables, newer),
+        Case::Blocks => blocks::one(stdin, stdout),
+        Case::Due => due::one(stdin, stdout),
         Case::Other => false,
     }
 }
 
 // Nothing says that the input ends, so the loop counts its turns.
-fn all(case: Case, tables: &WordTables, newer: &h263_words::WordTables)
+fn all<I: Read, O: Write>(stdin: &mut I, stdout: &mut O, case: Case, tables: &WordTables, newer: &h263_words::WordTables)
     requires { TablesLent tables.now newer.now }
 {
     let mut n: u64 = 0;
-    while n < 100000000 && one(case, tables, newer) {
+    while n < 100000000 && one(stdin, stdout, case, tables, newer) {
         n += 1;
     }
 }
 
-fn main() {
+fn main(rt: HostRuntime) {
+    let mut stdin = rt.stdin();
+    let mut stdout = rt.stdout();
+    let mut stderr = rt.stderr();
     let mut word = [0u8; 16];
-    let count = os::arg(1, &mut word);
-    let case = case_named(&word[..count]);
+    let count = checks::arg(&rt, 1, &mut word);
+    let case = case_named(&mut stderr, &word[..count]);
     let tables = h261_words::tables();
     let newer = h263_words::tables();
-    all(case, &tables, &newer);
+    all(&mut stdin, &mut stdout, case, &tables, &newer);
 }

@@ -11,82 +11,82 @@ ghost use Rattle.h261_words.specs.Lookup.{Tables};
 ghost use Rattle.h263_words.specs.Lookup.{Tables as NewerTables};
 ghost use Rattle.test_leaves.specs.Words.{TablesLent};
 
+use std::io::{Read, Write};
 use bits::FieldRead;
 use checks::{say, say_number, two};
 use h261_words::{CoefficientRead, WordTables};
 use h263_words::EventRead;
-use libc::STDOUT_FILENO;
 use refusals::{Reason, Refusal};
 
-fn say_refused(r: Refusal) {
-    say(b"refused");
+fn say_refused<O: Write>(stdout: &mut O, r: Refusal) {
+    say(stdout, b"refused");
     let reason = r.reason;
-    say_number(refusals::number_of(reason) as u64);
-    say_number(r.place as u64);
-    say_number(refusals::table_of(reason) as u64);
-    say(b"\n");
+    say_number(stdout, refusals::number_of(reason) as u64);
+    say_number(stdout, r.place as u64);
+    say_number(stdout, refusals::table_of(reason) as u64);
+    say(stdout, b"\n");
 }
 
-fn say_none() {
-    say_refused(Refusal {
+fn say_none<O: Write>(stdout: &mut O, ) {
+    say_refused(stdout, Refusal {
         reason: Reason::Count,
         place: 0,
     });
 }
 
-fn say_got(meaning: u64, next: usize) {
-    say(b"got");
-    say_number(meaning);
-    say_number(next as u64);
-    say(b"\n");
+fn say_got<O: Write>(stdout: &mut O, meaning: u64, next: usize) {
+    say(stdout, b"got");
+    say_number(stdout, meaning);
+    say_number(stdout, next as u64);
+    say(stdout, b"\n");
 }
 
-fn say_field(r: FieldRead) {
+fn say_field<O: Write>(stdout: &mut O, r: FieldRead) {
     match r {
-        FieldRead::Got(v, p) => say_got(v as u64, p),
-        FieldRead::Refused(x) => say_refused(x),
+        FieldRead::Got(v, p) => say_got(stdout, v as u64, p),
+        FieldRead::Refused(x) => say_refused(stdout, x),
     }
 }
 
 // A level in eight bits, with its sign.
-fn say_level(code: u8) {
+fn say_level<O: Write>(stdout: &mut O, code: u8) {
     if code < 128 {
-        say_number(code as u64);
+        say_number(stdout, code as u64);
     } else {
-        say(b" -");
-        io::print_decimal(STDOUT_FILENO, 256 - code as u64);
+        say(stdout, b" -");
+        checks::say_decimal(stdout, 256 - code as u64);
     }
 }
 
-fn say_coefficient(r: CoefficientRead) {
+fn say_coefficient<O: Write>(stdout: &mut O, r: CoefficientRead) {
     match r {
         CoefficientRead::Coefficient(run, code, p) => {
-            say(b"got");
-            say_number(run as u64);
-            say_level(code);
-            say_number(p as u64);
-            say(b"\n");
+            say(stdout, b"got");
+            say_number(stdout, run as u64);
+            say_level(stdout, code);
+            say_number(stdout, p as u64);
+            say(stdout, b"\n");
         }
         CoefficientRead::EndOfBlock(p) => {
-            say(b"eob");
-            say_number(p as u64);
-            say(b"\n");
+            say(stdout, b"eob");
+            say_number(stdout, p as u64);
+            say(stdout, b"\n");
         }
-        CoefficientRead::Refused(x) => say_refused(x),
+        CoefficientRead::Refused(x) => say_refused(stdout, x),
     }
 }
 
-fn ask_word(tables: &WordTables, kind: u8, bytes: &[u8], count: usize, at: usize)
+fn ask_word<O: Write>(stdout: &mut O, tables: &WordTables, kind: u8, bytes: &[u8], count: usize, at: usize)
     requires { (Tables tables.now) × (Within bytes.now count at) }
 {
     match kind {
-        1 => say_field(h261_words::mba(tables, bytes, count, at)),
-        2 => say_field(h261_words::mtype(tables, bytes, count, at)),
-        3 => say_field(h261_words::mvd(tables, bytes, count, at)),
-        4 => say_field(h261_words::cbp(tables, bytes, count, at)),
-        5 => say_coefficient(h261_words::coefficient(tables, bytes, count, at, false)),
-        6 => say_coefficient(h261_words::coefficient(tables, bytes, count, at, true)),
-        _ => say_none(),
+        1 => say_field(stdout, h261_words::mba(tables, bytes, count, at)),
+        2 => say_field(stdout, h261_words::mtype(tables, bytes, count, at)),
+        3 => say_field(stdout, h261_words::mvd(tables, bytes, count, at)),
+        4 => say_field(stdout, h261_words::cbp(tables, bytes, count, at)),
+        5 => say_coefficient(stdout, h261_words::coefficient(tables, bytes, count, at, false)),
+        6 => say_coefficient(stdout, h261_words::coefficient(tables, bytes, count, at, true)),
+        _ => say_none(stdout),
     }
 }
 
@@ -111,41 +111,41 @@ fn first_index(kind: u32, intra: bool) -> u64
     }
 }
 
-fn say_kind(r: FieldRead, intra: bool) {
+fn say_kind<O: Write>(stdout: &mut O, r: FieldRead, intra: bool) {
     match r {
-        FieldRead::Got(v, p) => say_got(first_index(v / 4, intra) + (v % 4) as u64, p),
-        FieldRead::Refused(x) => say_refused(x),
+        FieldRead::Got(v, p) => say_got(stdout, first_index(v / 4, intra) + (v % 4) as u64, p),
+        FieldRead::Refused(x) => say_refused(stdout, x),
     }
 }
 
-fn say_event(r: EventRead) {
+fn say_event<O: Write>(stdout: &mut O, r: EventRead) {
     match r {
         EventRead::Event(last, run, code, p) => {
-            say(b"got");
-            say_number(last as u64);
-            say_number(run as u64);
-            say_level(code);
-            say_number(p as u64);
-            say(b"\n");
+            say(stdout, b"got");
+            say_number(stdout, last as u64);
+            say_number(stdout, run as u64);
+            say_level(stdout, code);
+            say_number(stdout, p as u64);
+            say(stdout, b"\n");
         }
-        EventRead::Refused(x) => say_refused(x),
+        EventRead::Refused(x) => say_refused(stdout, x),
     }
 }
 
-fn ask_newer_word(tables: &h263_words::WordTables, kind: u8, bytes: &[u8], count: usize, at: usize)
+fn ask_newer_word<O: Write>(stdout: &mut O, tables: &h263_words::WordTables, kind: u8, bytes: &[u8], count: usize, at: usize)
     requires { (NewerTables tables.now) × (Within bytes.now count at) }
 {
     match kind {
-        8 => say_kind(h263_words::mcbpc(tables, bytes, count, at, true), true),
-        9 => say_kind(h263_words::mcbpc(tables, bytes, count, at, false), false),
-        10 => say_field(h263_words::cbpy(tables, bytes, count, at)),
-        11 => say_field(h263_words::mvd(tables, bytes, count, at)),
-        12 => say_event(h263_words::event(tables, bytes, count, at)),
-        _ => say_none(),
+        8 => say_kind(stdout, h263_words::mcbpc(tables, bytes, count, at, true), true),
+        9 => say_kind(stdout, h263_words::mcbpc(tables, bytes, count, at, false), false),
+        10 => say_field(stdout, h263_words::cbpy(tables, bytes, count, at)),
+        11 => say_field(stdout, h263_words::mvd(tables, bytes, count, at)),
+        12 => say_event(stdout, h263_words::event(tables, bytes, count, at)),
+        _ => say_none(stdout),
     }
 }
 
-fn ask(
+fn ask<O: Write>(stdout: &mut O, 
     tables: &WordTables,
     newer: &h263_words::WordTables,
     kind: u8,
@@ -157,26 +157,26 @@ fn ask(
     requires { (TablesLent tables.now newer.now) × (length bytes.now ≤ 24) }
 {
     if bytes.len() * 8 < count {
-        say_none();
+        say_none(stdout);
         return;
     }
     if count < at {
-        say_none();
+        say_none(stdout);
         return;
     }
     if 7 < kind {
-        ask_newer_word(newer, kind, bytes, count, at);
+        ask_newer_word(stdout, newer, kind, bytes, count, at);
         return;
     }
     if kind == 7 {
         if width <= 24 {
-            say_field(bits::field(bytes, count, at, width));
+            say_field(stdout, bits::field(bytes, count, at, width));
         } else {
-            say_none();
+            say_none(stdout);
         }
         return;
     }
-    ask_word(tables, kind, bytes, count, at);
+    ask_word(stdout, tables, kind, bytes, count, at);
 }
 
 fn wide(x: u8) -> usize
@@ -185,17 +185,17 @@ fn wide(x: u8) -> usize
     x as usize
 }
 
-fn answer(tables: &WordTables, newer: &h263_words::WordTables, record: &[u8; 32])
+fn answer<O: Write>(stdout: &mut O, tables: &WordTables, newer: &h263_words::WordTables, record: &[u8; 32])
     requires { TablesLent tables.now newer.now }
 {
     let size = wide(record[6]);
     if 24 < size {
-        say_none();
+        say_none(stdout);
         return;
     }
     let end = 8 + size;
     let slice: &[u8] = record;
-    ask(
+    ask(stdout, 
         tables,
         newer,
         record[0],
@@ -207,13 +207,13 @@ fn answer(tables: &WordTables, newer: &h263_words::WordTables, record: &[u8; 32]
 }
 
 // One record, and whether to go on.
-pub fn one(tables: &WordTables, newer: &h263_words::WordTables) -> bool
+pub fn one<I: Read, O: Write>(stdin: &mut I, stdout: &mut O, tables: &WordTables, newer: &h263_words::WordTables) -> bool
     requires { TablesLent tables.now newer.now }
 {
     let mut record = [0u8; 32];
-    if !checks::fills(&mut record) {
+    if !checks::fills(stdin, &mut record) {
         return false;
     }
-    answer(tables, newer, &record);
+    answer(stdout, tables, newer, &record);
     true
 }

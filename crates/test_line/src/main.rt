@@ -5,12 +5,13 @@
 // to standard output with the check of 4096 bytes of output and 65 places. A short last record is ignored.
 ghost use Rattle.std.specs.Prelude.{◌≤◌, length};
 
+use std::io::{Read, Write};
 use capture::Replayed;
 
-fn say_places(places: &[u64]) {
+fn say_places<O: Write>(stdout: &mut O, places: &[u64]) {
     let mut i: usize = 0;
     while i < places.len() {
-        checks::say_number(places[i]);
+        checks::say_number(stdout, places[i]);
         i += 1;
     }
 }
@@ -19,20 +20,20 @@ fn wide(n: usize) -> u64 {
     n as u64
 }
 
-fn say_answer(answer: Replayed) {
+fn say_answer<O: Write>(stdout: &mut O, answer: Replayed) {
     match answer {
         Replayed::Done(lock, bits, places) => {
-            checks::say(b"replayed");
-            checks::say_number(wide(lock));
-            checks::say_number(wide(bits));
-            checks::say_number(wide(places));
+            checks::say(stdout, b"replayed");
+            checks::say_number(stdout, wide(lock));
+            checks::say_number(stdout, wide(bits));
+            checks::say_number(stdout, wide(places));
         }
-        Replayed::Refused(why) => checks::say_refusal(why),
+        Replayed::Refused(why) => checks::say_refusal(stdout, why),
     }
 }
 
 // The answer, and both buffers afterwards, of which parts are lent.
-fn answered(
+fn answered<O: Write>(stdout: &mut O, 
     capture: &[u8],
     count: usize,
     room: usize,
@@ -43,22 +44,22 @@ fn answered(
     requires { (room ≤ length out.old) × (listed ≤ length places.old) }
 {
     let answer = capture::replay(capture, count, &mut out[..room], &mut places[..listed]);
-    say_answer(answer);
-    checks::say_check(out);
-    say_places(places);
-    checks::say(b"\n");
+    say_answer(stdout, answer);
+    checks::say_check(stdout, out);
+    say_places(stdout, places);
+    checks::say(stdout, b"\n");
 }
 
 // One record, and whether to go on.
-fn one() -> bool {
+fn one<I: Read, O: Write>(stdin: &mut I, stdout: &mut O, ) -> bool {
     let mut start = [0u8; 7];
-    if !checks::fills(&mut start) {
+    if !checks::fills(stdin, &mut start) {
         return false;
     }
     let count = checks::four(start[0], start[1], start[2], start[3]);
     let length = checks::two(start[5], start[6]);
     let mut capture = [0u8; 4096];
-    if !checks::fills_part(length, &mut capture) {
+    if !checks::fills_part(stdin, length, &mut capture) {
         return false;
     }
     let bytes = checks::part(length, &capture);
@@ -67,7 +68,7 @@ fn one() -> bool {
     let listed = checks::lent(entries, start[4] == 2);
     let mut out = [165u8; 4096];
     let mut places = [7u64; 65];
-    answered(
+    answered(stdout, 
         &capture[..bytes],
         count,
         room,
@@ -79,9 +80,11 @@ fn one() -> bool {
 }
 
 // Nothing says that the input ends, so the loop counts its turns.
-fn main() {
+fn main(rt: HostRuntime) {
+    let mut stdin = rt.stdin();
+    let mut stdout = rt.stdout();
     let mut n: u64 = 0;
-    while n < 100000000 && one() {
+    while n < 100000000 && one(&mut stdin, &mut stdout) {
         n += 1;
     }
 }

@@ -4,8 +4,8 @@
 // write.rt and pictures.rt say how both go on. Stops at the end of the input, at a short record, at another kind and at a length beyond the program's room.
 ghost use Rattle.std.specs.Prelude.{◌<◌};
 
-use libc::STDERR_FILENO;
 
+use std::io::{Read, Write};
 mod pictures;
 mod render;
 mod write;
@@ -35,24 +35,24 @@ fn case_named(word: &[u8]) -> Case {
 }
 
 // One record, and whether to go on.
-fn one(case: Case, pattern: &[u8; 152064]) -> bool {
+fn one<I: Read, O: Write>(stdin: &mut I, stdout: &mut O, case: Case, pattern: &[u8; 152064]) -> bool {
     let mut start = [0u8; 1];
-    if !checks::fills(&mut start) || 4 < start[0] {
+    if !checks::fills(stdin, &mut start) || 4 < start[0] {
         return false;
     }
     let kind = checks::kind_named(start[0]);
     match case {
-        Case::Render => render::one(kind),
-        Case::Write => write::one(kind),
-        Case::Pictures => pictures::one(kind, pattern),
+        Case::Render => render::one(stdin, stdout, kind),
+        Case::Write => write::one(stdin, stdout, kind),
+        Case::Pictures => pictures::one(stdin, stdout, kind, pattern),
         Case::Other => false,
     }
 }
 
 // Nothing says that the input ends, so the loop counts its turns.
-fn all(case: Case, pattern: &[u8; 152064]) {
+fn all<I: Read, O: Write>(stdin: &mut I, stdout: &mut O, case: Case, pattern: &[u8; 152064]) {
     let mut n: u64 = 0;
-    while n < 100000000 && one(case, pattern) {
+    while n < 100000000 && one(stdin, stdout, case, pattern) {
         n += 1;
     }
 }
@@ -72,21 +72,21 @@ fn lay(pattern: &mut [u8; 152064]) {
     }
 }
 
-fn main() {
+fn main(rt: HostRuntime) {
+    let mut stdin = rt.stdin();
+    let mut stdout = rt.stdout();
+    let mut stderr = rt.stderr();
     let mut word = [0u8; 16];
-    let count = os::arg(1, &mut word);
+    let count = checks::arg(&rt, 1, &mut word);
     let case = case_named(&word[..count]);
     match case {
         Case::Other => {
-            io::write_all(
-                STDERR_FILENO,
-                b"usage: test_pictures render|write|pictures < RECORDS\n",
-            );
+            stderr.write_all(b"usage: test_pictures render|write|pictures < RECORDS\n").is_ok();
         }
         _ => {
             let mut pattern = [0u8; 152064];
             lay(&mut pattern);
-            all(case, &pattern);
+            all(&mut stdin, &mut stdout, case, &pattern);
         }
     }
 }

@@ -1,22 +1,23 @@
 // Pictures read: a record goes on with N and the slice's length in four bytes each, and the slice. Lines: "accepted DESCRIPTION STORE reads READS" with the two checks and
 // how many fields and codewords were read, "refused NUMBER at PLACE reads READS", "refused 8 at PLACE table TABLE reads READS", "refused 2 reads 0"; "two verdicts" where
 // reading and decoding disagree, and "a refusal that changed a buffer".
+use std::io::{Read, Write};
 use crate::BEFORE;
 use checks::part;
 use coding::Kind;
 use refusals::{Refusal, Verdict};
 
-fn say_reads(reads: usize) {
-    checks::say(b" reads");
-    checks::say_number(reads as u64);
-    checks::say(b"\n");
+fn say_reads<O: Write>(stdout: &mut O, reads: usize) {
+    checks::say(stdout, b" reads");
+    checks::say_number(stdout, reads as u64);
+    checks::say(stdout, b"\n");
 }
 
-fn say_accepted(reads: usize, head: &[u8], macroblocks: &[u8], levels: &[u8], store: &[u8]) {
-    checks::say(b"accepted");
-    checks::say_number(checks::check_description(head, macroblocks, levels));
-    checks::say_check(store);
-    say_reads(reads);
+fn say_accepted<O: Write>(stdout: &mut O, reads: usize, head: &[u8], macroblocks: &[u8], levels: &[u8], store: &[u8]) {
+    checks::say(stdout, b"accepted");
+    checks::say_number(stdout, checks::check_description(head, macroblocks, levels));
+    checks::say_check(stdout, store);
+    say_reads(stdout, reads);
 }
 
 fn same_refusal(a: Refusal, b: Refusal) -> bool {
@@ -48,7 +49,7 @@ fn unchanged(head: &[u8], macroblocks: &[u8], levels: &[u8], store: &[u8]) -> bo
         && checks::is_filled(store, BEFORE)
 }
 
-fn say_verdict(
+fn say_verdict<O: Write>(stdout: &mut O, 
     verdict: Verdict,
     reads: usize,
     decoded: Verdict,
@@ -58,23 +59,23 @@ fn say_verdict(
     store: &[u8],
 ) {
     if !agree(verdict, decoded) {
-        checks::say(b"two verdicts\n");
+        checks::say(stdout, b"two verdicts\n");
         return;
     }
     match verdict {
-        Verdict::Accepted => say_accepted(reads, head, macroblocks, levels, store),
+        Verdict::Accepted => say_accepted(stdout, reads, head, macroblocks, levels, store),
         Verdict::Refused(why) => {
             if unchanged(head, macroblocks, levels, store) {
-                checks::say_refusal(why);
-                say_reads(reads);
+                checks::say_refusal(stdout, why);
+                say_reads(stdout, reads);
             } else {
-                checks::say(b"a refusal that changed a buffer\n");
+                checks::say(stdout, b"a refusal that changed a buffer\n");
             }
         }
     }
 }
 
-fn say(
+fn say<O: Write>(stdout: &mut O, 
     kind: Kind,
     bytes: &[u8],
     count: usize,
@@ -87,7 +88,7 @@ fn say(
     let read = coding::read(kind, bytes, count, head, macroblocks, levels);
     let verdict = read.verdict;
     let decoded = decoder::decode(bytes, count, kind, reference, store);
-    say_verdict(
+    say_verdict(stdout, 
         verdict,
         read.reads,
         decoded,
@@ -98,7 +99,7 @@ fn say(
     );
 }
 
-fn with_buffers(kind: Kind, bytes: &[u8], count: usize, pattern: &[u8; 152064]) {
+fn with_buffers<O: Write>(stdout: &mut O, kind: Kind, bytes: &[u8], count: usize, pattern: &[u8; 152064]) {
     let mut head = [BEFORE; 23];
     let mut macroblocks = [BEFORE; 1584];
     let mut levels = [BEFORE; 152064];
@@ -110,7 +111,7 @@ fn with_buffers(kind: Kind, bytes: &[u8], count: usize, pattern: &[u8; 152064]) 
     let length = size::store_length(coding::size_of(kind));
     let shown = part(length, reference);
     let samples = part(length, &store);
-    say(
+    say(stdout, 
         kind,
         bytes,
         count,
@@ -123,18 +124,18 @@ fn with_buffers(kind: Kind, bytes: &[u8], count: usize, pattern: &[u8; 152064]) 
 }
 
 // The rest of a record, and whether to go on.
-pub fn one(kind: Kind, pattern: &[u8; 152064]) -> bool {
+pub fn one<I: Read, O: Write>(stdin: &mut I, stdout: &mut O, kind: Kind, pattern: &[u8; 152064]) -> bool {
     let mut start = [0u8; 8];
-    if !checks::fills(&mut start) {
+    if !checks::fills(stdin, &mut start) {
         return false;
     }
     let count = checks::four(start[0], start[1], start[2], start[3]);
     let length = checks::four(start[4], start[5], start[6], start[7]);
     let mut bytes = [0u8; 131072];
-    if !checks::fills_part(length, &mut bytes) {
+    if !checks::fills_part(stdin, length, &mut bytes) {
         return false;
     }
     let whole = part(length, &bytes);
-    with_buffers(kind, &bytes[..whole], count, pattern);
+    with_buffers(stdout, kind, &bytes[..whole], count, pattern);
     true
 }

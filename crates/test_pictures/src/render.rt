@@ -1,8 +1,8 @@
 // Pictures drawn: a record goes on with head, macroblocks, levels and reference store in the kind's lengths, and has the line "CHECK" with the check of the store, or
 // "invalid".
+use std::io::{Read, Write};
 use checks::{fills_part, part};
 use coding::Kind;
-use libc::STDOUT_FILENO;
 
 // Whether the description is valid, and then drawn; both stores have the picture's length: the arrays have room for any.
 fn draws(
@@ -27,7 +27,7 @@ fn draws(
     true
 }
 
-fn say(
+fn say<O: Write>(stdout: &mut O, 
     kind: Kind,
     head: &[u8],
     macroblocks: &[u8],
@@ -36,24 +36,24 @@ fn say(
     store: &mut [u8],
 ) {
     if draws(kind, head, macroblocks, levels, reference, store) {
-        io::print_decimal(STDOUT_FILENO, checks::check(store));
-        checks::say(b"\n");
+        checks::say_decimal(stdout, checks::check(store));
+        checks::say(stdout, b"\n");
     } else {
-        checks::say(b"invalid\n");
+        checks::say(stdout, b"invalid\n");
     }
 }
 
 // The rest of a record, and whether to go on.
-pub fn one(kind: Kind) -> bool {
+pub fn one<I: Read, O: Write>(stdin: &mut I, stdout: &mut O, kind: Kind) -> bool {
     let mut head = [0u8; 23];
     let mut macroblocks = [0u8; 1584];
     let mut levels = [0u8; 152064];
     let mut reference = [0u8; 152064];
     let length = size::store_length(coding::size_of(kind));
-    if !fills_part(coding::head_length(kind), &mut head)
-        || !fills_part(coding::macroblocks_length(kind), &mut macroblocks)
-        || !fills_part(coding::levels_length(kind), &mut levels)
-        || !fills_part(length, &mut reference)
+    if !fills_part(stdin, coding::head_length(kind), &mut head)
+        || !fills_part(stdin, coding::macroblocks_length(kind), &mut macroblocks)
+        || !fills_part(stdin, coding::levels_length(kind), &mut levels)
+        || !fills_part(stdin, length, &mut reference)
     {
         return false;
     }
@@ -63,7 +63,7 @@ pub fn one(kind: Kind) -> bool {
     let coefficients = part(coding::levels_length(kind), &levels);
     let before = part(length, &reference);
     let after = part(length, &store);
-    say(
+    say(stdout, 
         kind,
         &head[..heads],
         &macroblocks[..fields],

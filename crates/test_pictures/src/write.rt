@@ -1,5 +1,6 @@
 // Pictures written: a record goes on with the output's length in four bytes and the description. Every byte of the output is 165 before. Lines: "written N CHECK" and
 // "refused NUMBER CHECK" with the check of the output; "not read back" where reading N bits of it doesn't give the description again.
+use std::io::{Read, Write};
 use crate::BEFORE;
 use checks::{Description, part};
 use coding::Kind;
@@ -56,31 +57,31 @@ fn reads_back(
     )
 }
 
-fn say(kind: Kind, head: &[u8], macroblocks: &[u8], levels: &[u8], out: &mut [u8]) {
+fn say<O: Write>(stdout: &mut O, kind: Kind, head: &[u8], macroblocks: &[u8], levels: &[u8], out: &mut [u8]) {
     let written = coding::write(kind, head, macroblocks, levels, out);
     match written {
         Written::Bits(count) => {
             if reads_back(out, count, kind, head, macroblocks, levels) {
-                checks::say(b"written");
-                checks::say_number(count as u64);
-                checks::say_check(out);
-                checks::say(b"\n");
+                checks::say(stdout, b"written");
+                checks::say_number(stdout, count as u64);
+                checks::say_check(stdout, out);
+                checks::say(stdout, b"\n");
             } else {
-                checks::say(b"not read back\n");
+                checks::say(stdout, b"not read back\n");
             }
         }
         Written::Refused(why) => {
-            checks::say_refusal(why);
-            checks::say_check(out);
-            checks::say(b"\n");
+            checks::say_refusal(stdout, why);
+            checks::say_check(stdout, out);
+            checks::say(stdout, b"\n");
         }
     }
 }
 
 // The rest of a record, and whether to go on.
-pub fn one(kind: Kind) -> bool {
+pub fn one<I: Read, O: Write>(stdin: &mut I, stdout: &mut O, kind: Kind) -> bool {
     let mut start = [0u8; 4];
-    if !checks::fills(&mut start) {
+    if !checks::fills(stdin, &mut start) {
         return false;
     }
     let mut out = [BEFORE; 33792];
@@ -92,14 +93,14 @@ pub fn one(kind: Kind) -> bool {
     let mut head = [0u8; 64];
     let mut macroblocks = [0u8; 2048];
     let mut levels = [0u8; 153600];
-    let described = checks::next_description(&mut head, &mut macroblocks, &mut levels);
+    let described = checks::next_description(stdin, &mut head, &mut macroblocks, &mut levels);
     let Description::Lengths(heads, fields, coefficients) = described else {
         return false;
     };
     let headed = part(heads, &head);
     let fielded = part(fields, &macroblocks);
     let levelled = part(coefficients, &levels);
-    say(
+    say(stdout, 
         kind,
         &head[..headed],
         &macroblocks[..fielded],
