@@ -44,6 +44,7 @@ fn cut_by(met: Met, picture: u32) -> bool
     true
 }
 
+#[tactic(auto, unfolding(crate::specs::Blocks::finished))]
 fn finish(met: Met, picture: u32) -> Met
     ensures { result ≡ finished met picture }
 {
@@ -54,6 +55,7 @@ fn finish(met: Met, picture: u32) -> Met
     }
 }
 
+#[tactic(auto, unfolding(crate::specs::Blocks::finished, crate::specs::Blocks::met_after))]
 pub fn after(met: Met, answer: Answer) -> Met
     ensures { result ≡ met_after met answer }
 {
@@ -85,6 +87,7 @@ pub fn short(met: Met) -> Met
     next
 }
 
+#[tactic(auto, unfolding(crate::specs::Blocks::end_of))]
 pub fn end(met: Met) -> End
     ensures { result ≡ end_of met }
 {

@@ -43,6 +43,7 @@ fn first_of(idle: Idle, n: u64) -> u64
 }
 
 // The picture that has begun is dropped: its blocks led to none.
+#[tactic(auto, unfolding(crate::specs::Idle::dropped))]
 pub fn drop(idle: Idle) -> Idle
     ensures { result ≡ dropped idle }
 {
@@ -61,6 +62,7 @@ pub fn drop(idle: Idle) -> Idle
 }
 
 // Block n led to no picture.
+#[tactic(auto, unfolding(crate::specs::Idle::wasted))]
 fn waste(idle: Idle, n: u64) -> Idle
     ensures { result ≡ wasted idle n }
 {
@@ -76,6 +78,7 @@ fn waste(idle: Idle, n: u64) -> Idle
 }
 
 // A picture begins with block n.
+#[tactic(auto, unfolding(crate::specs::Idle::beginning))]
 fn begin(idle: Idle, n: u64) -> Idle
     ensures { result ≡ beginning idle n }
 {
@@ -87,6 +90,7 @@ fn begin(idle: Idle, n: u64) -> Idle
 }
 
 // It goes on with block n.
+#[tactic(auto, unfolding(crate::specs::Idle::beginning, crate::specs::Idle::going_on))]
 fn go_on(idle: Idle, n: u64) -> Idle
     ensures { result ≡ going_on idle n }
 {
@@ -108,6 +112,7 @@ fn of_block(number: u32) -> bool
     number <= 23
 }
 
+#[tactic(auto, unfolding(crate::specs::Idle::beginning, crate::specs::Idle::dropped, crate::specs::Idle::going_on, crate::specs::Idle::idle_after, crate::specs::Idle::wasted))]
 pub fn after(idle: Idle, n: u64, answer: Answer) -> Idle
     ensures { result ≡ idle_after idle n answer }
 {

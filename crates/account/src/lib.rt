@@ -1,7 +1,9 @@
 // What a program's run met, whether it goes on, and the status that it ends with; what it says of blocks that led to no picture; an input that fails told from its end.
+#![tactic(auto)]
+
 ghost use Rattle.std.specs.Prelude.{◌≡◌, true, false};
-ghost use Rattle.account.specs.Status.{done_status, status_of};
 ghost use Rattle.io.specs.Counts.{IsPrefixLen};
+ghost use Rattle.account.specs.Status.{done_status, status_of};
 ghost use Rattle.std.specs.Process.{exit_status};
 
 use crate::streams::Streams;
@@ -39,6 +41,7 @@ fn done(cut: bool, pictures: u64) -> u8
 }
 
 // 0 where all that came in went out whole, 1 where something was cut, 2 where nothing came out or could, 3 where the output can't be written.
+#[tactic(auto, unfolding(crate::specs::Status::status_of))]
 pub fn status(end: End) -> u8
     ensures { result ≡ status_of end }
 {
@@ -51,6 +54,7 @@ pub fn status(end: End) -> u8
 }
 
 // The status that the process ends with.
+#[tactic(auto, unfolding(crate::specs::Status::status_of))]
 pub fn tell(end: End) -> ExitCode
     ensures { exit_status result ≡ status_of end }
 {
@@ -58,6 +62,7 @@ pub fn tell(end: End) -> ExitCode
 }
 
 // The same of a run over its streams: 141, as a shell has it of SIGPIPE, where nobody reads what is written.
+#[tactic(auto, unfolding(crate::specs::Status::status_of))]
 pub fn tell_over<I, O, E>(streams: &Streams<I, O, E>, end: End) -> ExitCode
     ensures broken { streams.now.broken ≡ true → exit_status result ≡ 141 }
     ensures whole { streams.now.broken ≡ false → exit_status result ≡ status_of end }

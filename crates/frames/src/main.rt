@@ -12,19 +12,19 @@ ghost use Rattle.text.specs.Text.{over};
 ghost use Rattle.frames.specs.Header.{header_text};
 ghost use Rattle.frames.specs.Timing.{timing_text};
 
-use account::streams::Streams;
-use std::io::{Read, Write};
-use std::process::ExitCode;
 use account::End;
 use account::blocks::Met;
 use account::going::Going;
 use account::idle::Idle;
 use account::input::Next;
+use account::streams::Streams;
 use arguments::VaultWords;
 use listing::Clip;
 use pace::Between;
 use size::Size;
 use standing::{Answer, Received, Receiver};
+use std::io::{Read, Write};
+use std::process::ExitCode;
 use ticks::Tick;
 
 // Whether there is a frame for each tick, and the frames that were written between pictures.
@@ -105,7 +105,8 @@ fn more(n: u64, count: u32) -> u64 {
     n
 }
 
-fn fill_with<'a, I, O: Write, E>(streams: &mut Streams<I, O, E>, 
+fn fill_with<'a, I, O: Write, E>(
+    streams: &mut Streams<I, O, E>,
     timing: Timing,
     receiver: Receiver,
     between: Between,
@@ -118,7 +119,11 @@ fn fill_with<'a, I, O: Write, E>(streams: &mut Streams<I, O, E>,
         Between::Repeated(count) => {
             let last = receiver.last;
             let holder = last.holder;
-            let all = frames(streams, standing::store_shown(size, holder, first, second), count);
+            let all = frames(
+                streams,
+                standing::store_shown(size, holder, first, second),
+                count,
+            );
             Filled {
                 timing: Timing {
                     timed: timing.timed,
@@ -143,7 +148,8 @@ fn fill_with<'a, I, O: Write, E>(streams: &mut Streams<I, O, E>,
 }
 
 // The frames between the picture before and this one, by the clip as it was before the block that finished it.
-fn fill_before<'a, I, O: Write, E>(streams: &mut Streams<I, O, E>, 
+fn fill_before<'a, I, O: Write, E>(
+    streams: &mut Streams<I, O, E>,
     timing: Timing,
     before: Clip,
     picture: u32,
@@ -160,7 +166,8 @@ fn fill_before<'a, I, O: Write, E>(streams: &mut Streams<I, O, E>,
     }
 }
 
-fn fill<'a, I, O: Write, E>(streams: &mut Streams<I, O, E>, 
+fn fill<'a, I, O: Write, E>(
+    streams: &mut Streams<I, O, E>,
     timing: Timing,
     before: Clip,
     answer: Answer,
@@ -180,7 +187,13 @@ fn fill<'a, I, O: Write, E>(streams: &mut Streams<I, O, E>,
 }
 
 // The picture that is finished.
-fn show<'a, I, O: Write, E>(streams: &mut Streams<I, O, E>, answer: Answer, clip: Clip, first: &'a [u8], second: &'a [u8]) -> bool {
+fn show<'a, I, O: Write, E>(
+    streams: &mut Streams<I, O, E>,
+    answer: Answer,
+    clip: Clip,
+    first: &'a [u8],
+    second: &'a [u8],
+) -> bool {
     match clip {
         Clip::Known(receiver) => {
             let received = Received {
@@ -260,7 +273,8 @@ fn say_pictures<I, O, E: Write>(streams: &mut Streams<I, O, E>, pictures: u64) {
 // ---- a block
 
 // What is said of a block, and whether a picture that it finished was written.
-fn follow<'a, I, O: Write, E: Write>(streams: &mut Streams<I, O, E>, 
+fn follow<'a, I, O: Write, E: Write>(
+    streams: &mut Streams<I, O, E>,
     n: u64,
     answer: Answer,
     clip: Clip,
@@ -283,7 +297,8 @@ fn follow<'a, I, O: Write, E: Write>(streams: &mut Streams<I, O, E>,
 }
 
 // What the block's answer leads to: frames up to its picture, then the picture and what is said. After a failed write nothing more is done.
-fn shown<'a, I, O: Write, E: Write>(streams: &mut Streams<I, O, E>, 
+fn shown<'a, I, O: Write, E: Write>(
+    streams: &mut Streams<I, O, E>,
     n: u64,
     before: Clip,
     clip: Clip,
@@ -309,7 +324,8 @@ fn shown<'a, I, O: Write, E: Write>(streams: &mut Streams<I, O, E>,
     }
 }
 
-fn whole<I, O: Write, E: Write>(streams: &mut Streams<I, O, E>, 
+fn whole<I, O: Write, E: Write>(
+    streams: &mut Streams<I, O, E>,
     n: u64,
     size: Size,
     clip: Clip,
@@ -325,10 +341,19 @@ fn whole<I, O: Write, E: Write>(streams: &mut Streams<I, O, E>,
     let answer = listed.answer;
     let next = listed.next;
     account::say_chosen(streams, n, listing::chosen(clip, next));
-    shown(streams, n, clip, next, answer, met, idle, timing, first, second)
+    shown(
+        streams, n, clip, next, answer, met, idle, timing, first, second,
+    )
 }
 
-fn short<I, O, E: Write>(streams: &mut Streams<I, O, E>, n: u64, clip: Clip, met: Met, idle: Idle, timing: Timing) -> Turn {
+fn short<I, O, E: Write>(
+    streams: &mut Streams<I, O, E>,
+    n: u64,
+    clip: Clip,
+    met: Met,
+    idle: Idle,
+    timing: Timing,
+) -> Turn {
     say_short(streams, n);
     Turn {
         going: Going::Ended,
@@ -339,7 +364,8 @@ fn short<I, O, E: Write>(streams: &mut Streams<I, O, E>, n: u64, clip: Clip, met
     }
 }
 
-fn one<I: Read, O: Write, E: Write>(streams: &mut Streams<I, O, E>, 
+fn one<I: Read, O: Write, E: Write>(
+    streams: &mut Streams<I, O, E>,
     n: u64,
     size: Size,
     clip: Clip,
@@ -353,8 +379,8 @@ fn one<I: Read, O: Write, E: Write>(streams: &mut Streams<I, O, E>,
     let mut block = [0u8; 512];
     let filled = account::input::fill(streams, &mut block);
     match account::input::next_of(filled) {
-        Next::Block => whole(streams, 
-            n, size, clip, met, idle, timing, &block, collection, first, second,
+        Next::Block => whole(
+            streams, n, size, clip, met, idle, timing, &block, collection, first, second,
         ),
         Next::Short => short(streams, n, clip, met, idle, timing),
         Next::End => Turn {
@@ -376,19 +402,24 @@ fn one<I: Read, O: Write, E: Write>(streams: &mut Streams<I, O, E>,
 
 // ---- the end
 
-fn unread<I, O, E: Write>(streams: &mut Streams<I, O, E>, ) -> End {
+fn unread<I, O, E: Write>(streams: &mut Streams<I, O, E>) -> End {
     let why = streams.stdin.failure;
     account::streams::fail(streams, b"frames: the input could not be read", why);
     End::Unread
 }
 
-fn unwritten<I, O, E: Write>(streams: &mut Streams<I, O, E>, ) -> End {
+fn unwritten<I, O, E: Write>(streams: &mut Streams<I, O, E>) -> End {
     let why = streams.failure;
     account::streams::fail(streams, b"frames: a picture could not be written", why);
     End::Unwritten
 }
 
-fn end<I, O, E: Write>(streams: &mut Streams<I, O, E>, met: Met, idle: Idle, timing: Timing) -> End {
+fn end<I, O, E: Write>(
+    streams: &mut Streams<I, O, E>,
+    met: Met,
+    idle: Idle,
+    timing: Timing,
+) -> End {
     let left = account::idle::drop(idle);
     say_idle(streams, left);
     say_rest(streams, left);
@@ -397,7 +428,13 @@ fn end<I, O, E: Write>(streams: &mut Streams<I, O, E>, met: Met, idle: Idle, tim
     account::blocks::end(met)
 }
 
-fn finish<I, O, E: Write>(streams: &mut Streams<I, O, E>, going: Going, met: Met, idle: Idle, timing: Timing) -> End {
+fn finish<I, O, E: Write>(
+    streams: &mut Streams<I, O, E>,
+    going: Going,
+    met: Met,
+    idle: Idle,
+    timing: Timing,
+) -> End {
     match going {
         Going::Unread => unread(streams),
         Going::Unwritten => unwritten(streams),
@@ -406,7 +443,8 @@ fn finish<I, O, E: Write>(streams: &mut Streams<I, O, E>, going: Going, met: Met
 }
 
 // Nothing says that the input ends, so the loop counts its turns.
-fn all<I: Read, O: Write, E: Write>(streams: &mut Streams<I, O, E>, 
+fn all<I: Read, O: Write, E: Write>(
+    streams: &mut Streams<I, O, E>,
     size: Size,
     opened: Clip,
     timed: bool,
@@ -425,7 +463,9 @@ fn all<I: Read, O: Write, E: Write>(streams: &mut Streams<I, O, E>,
     let mut going = account::going::written(begin(streams, size));
     let mut n: u64 = 0;
     while n < 18446744073709551615 && account::going::goes_on(going) {
-        let turn = one(streams, n, size, clip, met, idle, timing, collection, first, second);
+        let turn = one(
+            streams, n, size, clip, met, idle, timing, collection, first, second,
+        );
         clip = turn.clip;
         met = turn.met;
         idle = turn.idle;
@@ -437,13 +477,19 @@ fn all<I: Read, O: Write, E: Write>(streams: &mut Streams<I, O, E>,
 }
 
 // The buffers have room for any size.
-fn run<I: Read, O: Write, E: Write>(streams: &mut Streams<I, O, E>, size: Size, clip: Clip, timed: bool) -> End {
+fn run<I: Read, O: Write, E: Write>(
+    streams: &mut Streams<I, O, E>,
+    size: Size,
+    clip: Clip,
+    timed: bool,
+) -> End {
     let bytes = size::collection_length(size);
     let samples = size::store_length(size);
     let mut collection = [0u8; 33000];
     let mut first = [0u8; 152064];
     let mut second = [0u8; 152064];
-    all(streams, 
+    all(
+        streams,
         size,
         clip,
         timed,
@@ -455,13 +501,22 @@ fn run<I: Read, O: Write, E: Write>(streams: &mut Streams<I, O, E>, size: Size, 
 
 // ---- the words
 
-fn usage<I, O, E: Write>(streams: &mut Streams<I, O, E>, ) -> End {
-    account::streams::say(streams, b"usage: frames sqcif|qcif|cif [CLIP] [timed] < BLOCKS > PICTURES.y4m, with CLIP from 1 to 65535\n");
+fn usage<I, O, E: Write>(streams: &mut Streams<I, O, E>) -> End {
+    account::streams::say(
+        streams,
+        b"usage: frames sqcif|qcif|cif [CLIP] [timed] < BLOCKS > PICTURES.y4m, with CLIP from 1 to 65535\n",
+    );
     End::Misnamed
 }
 
 // How many words there are, the program's own name among them and `timed` not, and the two after it.
-fn of_words<I: Read, O: Write, E: Write>(streams: &mut Streams<I, O, E>, count: usize, size: &[u8], clip: &[u8], timed: bool) -> End {
+fn of_words<I: Read, O: Write, E: Write>(
+    streams: &mut Streams<I, O, E>,
+    count: usize,
+    size: &[u8],
+    clip: &[u8],
+    timed: bool,
+) -> End {
     match arguments::vault_named(count, size, clip) {
         VaultWords::Size(named) => run(streams, named, Clip::Unknown, timed),
         VaultWords::Clip(named, number) => run(streams, named, Clip::Asked(number), timed),
@@ -470,7 +525,13 @@ fn of_words<I: Read, O: Write, E: Write>(streams: &mut Streams<I, O, E>, count: 
 }
 
 // The words without a last one that is `timed`.
-fn of_timed<I: Read, O: Write, E: Write>(streams: &mut Streams<I, O, E>, count: usize, size: &[u8], clip: &[u8], last: &[u8]) -> End {
+fn of_timed<I: Read, O: Write, E: Write>(
+    streams: &mut Streams<I, O, E>,
+    count: usize,
+    size: &[u8],
+    clip: &[u8],
+    last: &[u8],
+) -> End {
     if 3 <= count && text::same(last, b"timed") {
         return of_words(streams, count - 1, size, clip, true);
     }
@@ -494,6 +555,12 @@ fn main(rt: HostRuntime) -> ExitCode {
     let mut last = [0u8; 16];
     let count = account::arg_count(&rt);
     let lasts = account::arg(&rt, last_of(count), &mut last);
-    let end = of_timed(&mut streams, count, &size[..sizes], &clip[..clips], &last[..lasts]);
+    let end = of_timed(
+        &mut streams,
+        count,
+        &size[..sizes],
+        &clip[..clips],
+        &last[..lasts],
+    );
     account::tell_over(&streams, end)
 }

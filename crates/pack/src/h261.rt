@@ -1,12 +1,12 @@
 // A raw H.261 stream packed: each picture reaches from its start code, at any bit, to the next one or to the stream's end.
 ghost use Rattle.std.specs.Prelude.{◌≤◌, length};
 
-use account::streams::Streams;
-use std::io::Write;
 use crate::recording;
 use crate::recording::{Recording, Whole};
 use account::End;
+use account::streams::Streams;
 use h261_groups::Format;
+use std::io::Write;
 use stream::Stream;
 
 // What has gone by of the stream, and the recording so far.
@@ -34,7 +34,8 @@ fn bits_before(count: usize) -> usize {
 }
 
 // The picture that has begun is whole: it has `count` bits, the last one of them before `ones`.
-fn close<I, O: Write, E: Write>(streams: &mut Streams<I, O, E>, 
+fn close<I, O: Write, E: Write>(
+    streams: &mut Streams<I, O, E>,
     before: H261Pack,
     count: usize,
     ones: usize,
@@ -49,17 +50,39 @@ fn close<I, O: Write, E: Write>(streams: &mut Streams<I, O, E>,
     let format = before.format;
     let recording = before.recording;
     let whole = Whole::H261(format, count, ones);
-    let next = recording::finish(streams, recording, whole, stream.offset, picture, first, second);
+    let next = recording::finish(
+        streams,
+        recording,
+        whole,
+        stream.offset,
+        picture,
+        first,
+        second,
+    );
     let mut pack = before;
     pack.recording = next;
     pack
 }
 
 // A start code ends with the next bit, which is the last of its zeros: the picture before it is whole.
-fn start<I, O: Write, E: Write>(streams: &mut Streams<I, O, E>, before: H261Pack, picture: &mut [u8], first: &mut [u8], second: &mut [u8]) -> H261Pack {
+fn start<I, O: Write, E: Write>(
+    streams: &mut Streams<I, O, E>,
+    before: H261Pack,
+    picture: &mut [u8],
+    first: &mut [u8],
+    second: &mut [u8],
+) -> H261Pack {
     let stream = before.stream;
     let count = bits_before(stream.count);
-    let mut pack = close(streams, before, count, stream.before, picture, first, second);
+    let mut pack = close(
+        streams,
+        before,
+        count,
+        stream.before,
+        picture,
+        first,
+        second,
+    );
     let next = stream::push(stream, false, picture);
     pack.stream = next;
     if stream.begun {
@@ -72,7 +95,8 @@ fn start<I, O: Write, E: Write>(streams: &mut Streams<I, O, E>, before: H261Pack
 }
 
 // What was read of the stream, from one start code to the next.
-pub fn chunk<I, O: Write, E: Write>(streams: &mut Streams<I, O, E>, 
+pub fn chunk<I, O: Write, E: Write>(
+    streams: &mut Streams<I, O, E>,
     before: H261Pack,
     bytes: &[u8],
     picture: &mut [u8],
@@ -99,9 +123,23 @@ pub fn chunk<I, O: Write, E: Write>(streams: &mut Streams<I, O, E>,
 }
 
 // The picture at the stream's end.
-pub fn end<I, O: Write, E: Write>(streams: &mut Streams<I, O, E>, before: H261Pack, picture: &[u8], first: &mut [u8], second: &mut [u8]) -> End {
+pub fn end<I, O: Write, E: Write>(
+    streams: &mut Streams<I, O, E>,
+    before: H261Pack,
+    picture: &[u8],
+    first: &mut [u8],
+    second: &mut [u8],
+) -> End {
     let stream = before.stream;
-    let pack = close(streams, before, stream.count, stream.last, picture, first, second);
+    let pack = close(
+        streams,
+        before,
+        stream.count,
+        stream.last,
+        picture,
+        first,
+        second,
+    );
     let recording = pack.recording;
     recording::end(streams, recording, stream.begun, stream.place / 8)
 }

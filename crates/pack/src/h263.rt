@@ -1,11 +1,11 @@
 // A raw H.263 stream packed: each picture reaches from its start code, at a byte, to the next one or an end code, or to the stream's end.
-use account::streams::Streams;
-use std::io::Write;
 use crate::recording;
 use crate::recording::{Recording, Whole};
 use account::End;
+use account::streams::Streams;
 use h263_stream::Stream;
 use size::Size;
+use std::io::Write;
 
 // What has gone by of the stream, and the recording so far.
 #[derive(Clone, Copy)]
@@ -32,7 +32,8 @@ fn bytes_before(count: usize) -> usize {
 }
 
 // The picture that is open, if one is, is whole: it has `count` bytes.
-fn close<I, O: Write, E: Write>(streams: &mut Streams<I, O, E>, 
+fn close<I, O: Write, E: Write>(
+    streams: &mut Streams<I, O, E>,
     before: H263Pack,
     count: usize,
     picture: &[u8],
@@ -46,14 +47,23 @@ fn close<I, O: Write, E: Write>(streams: &mut Streams<I, O, E>,
     let size = before.size;
     let recording = before.recording;
     let whole = Whole::H263(size, count);
-    let next = recording::finish(streams, recording, whole, stream.offset, picture, first, second);
+    let next = recording::finish(
+        streams,
+        recording,
+        whole,
+        stream.offset,
+        picture,
+        first,
+        second,
+    );
     let mut pack = before;
     pack.recording = next;
     pack
 }
 
 // The next byte completes a code: the picture before it is whole.
-fn complete<I, O: Write, E: Write>(streams: &mut Streams<I, O, E>, 
+fn complete<I, O: Write, E: Write>(
+    streams: &mut Streams<I, O, E>,
     before: H263Pack,
     byte: u8,
     picture: &mut [u8],
@@ -77,7 +87,8 @@ fn complete<I, O: Write, E: Write>(streams: &mut Streams<I, O, E>,
 }
 
 // What was read of the stream, from one code to the next.
-pub fn chunk<I, O: Write, E: Write>(streams: &mut Streams<I, O, E>, 
+pub fn chunk<I, O: Write, E: Write>(
+    streams: &mut Streams<I, O, E>,
     before: H263Pack,
     bytes: &[u8],
     picture: &mut [u8],
@@ -102,7 +113,13 @@ pub fn chunk<I, O: Write, E: Write>(streams: &mut Streams<I, O, E>,
 }
 
 // The picture at the stream's end.
-pub fn end<I, O: Write, E: Write>(streams: &mut Streams<I, O, E>, before: H263Pack, picture: &[u8], first: &mut [u8], second: &mut [u8]) -> End {
+pub fn end<I, O: Write, E: Write>(
+    streams: &mut Streams<I, O, E>,
+    before: H263Pack,
+    picture: &[u8],
+    first: &mut [u8],
+    second: &mut [u8],
+) -> End {
     let stream = before.stream;
     let pack = close(streams, before, stream.count, picture, first, second);
     let recording = pack.recording;

@@ -7,16 +7,16 @@
 //     ./pagesorrel pack qcif 7 < clips/testsrc2-qcif-fine.h261 > clip.blocks
 ghost use Rattle.std.specs.Prelude.{◌≤◌, length};
 
-use account::streams::Streams;
-use std::io::{IsTerminal, Read, Write};
-use std::process::ExitCode;
 use crate::h261::H261Pack;
 use crate::h263::H263Pack;
 use crate::recording::Recording;
 use account::End;
+use account::streams::Streams;
 use arguments::{ClipWord, KindWord};
 use coding::Kind;
 use sender::{Opened, Sender};
+use std::io::{IsTerminal, Read, Write};
+use std::process::ExitCode;
 
 mod h261;
 mod h263;
@@ -64,16 +64,34 @@ fn room(kind: Kind) -> usize
     }
 }
 
-fn chunk<I, O: Write, E: Write>(streams: &mut Streams<I, O, E>, pack: Pack, bytes: &[u8], picture: &mut [u8], first: &mut [u8], second: &mut [u8]) -> Pack
+fn chunk<I, O: Write, E: Write>(
+    streams: &mut Streams<I, O, E>,
+    pack: Pack,
+    bytes: &[u8],
+    picture: &mut [u8],
+    first: &mut [u8],
+    second: &mut [u8],
+) -> Pack
     requires { length bytes.now ≤ 4096 }
 {
     match pack {
-        Pack::H261(before) => Pack::H261(h261::chunk(streams, before, bytes, picture, first, second)),
-        Pack::H263(before) => Pack::H263(h263::chunk(streams, before, bytes, picture, first, second)),
+        Pack::H261(before) => Pack::H261(h261::chunk(
+            streams, before, bytes, picture, first, second,
+        )),
+        Pack::H263(before) => Pack::H263(h263::chunk(
+            streams, before, bytes, picture, first, second,
+        )),
     }
 }
 
-fn ended<I, O: Write, E: Write>(streams: &mut Streams<I, O, E>, pack: Pack, reads: bool, picture: &[u8], first: &mut [u8], second: &mut [u8]) -> End {
+fn ended<I, O: Write, E: Write>(
+    streams: &mut Streams<I, O, E>,
+    pack: Pack,
+    reads: bool,
+    picture: &[u8],
+    first: &mut [u8],
+    second: &mut [u8],
+) -> End {
     if !reads {
         return recording::unread(streams, recording_of(pack));
     }
@@ -85,7 +103,13 @@ fn ended<I, O: Write, E: Write>(streams: &mut Streams<I, O, E>, pack: Pack, read
 
 // ---- from its beginning to its end
 
-fn one<I: Read, O: Write, E: Write>(streams: &mut Streams<I, O, E>, pack: Pack, picture: &mut [u8], first: &mut [u8], second: &mut [u8]) -> Turn {
+fn one<I: Read, O: Write, E: Write>(
+    streams: &mut Streams<I, O, E>,
+    pack: Pack,
+    picture: &mut [u8],
+    first: &mut [u8],
+    second: &mut [u8],
+) -> Turn {
     let mut input = [0u8; 4096];
     let filled = account::input::fill(streams, &mut input);
     let got = filled.count;
@@ -98,7 +122,13 @@ fn one<I: Read, O: Write, E: Write>(streams: &mut Streams<I, O, E>, pack: Pack, 
 }
 
 // The stream, and the picture at its end. Nothing says that the input ends, so the loop counts its turns.
-fn all<I: Read, O: Write, E: Write>(streams: &mut Streams<I, O, E>, opened: Pack, picture: &mut [u8], first: &mut [u8], second: &mut [u8]) -> End {
+fn all<I: Read, O: Write, E: Write>(
+    streams: &mut Streams<I, O, E>,
+    opened: Pack,
+    picture: &mut [u8],
+    first: &mut [u8],
+    second: &mut [u8],
+) -> End {
     let mut pack = opened;
     let mut more = true;
     let mut reads = true;
@@ -114,7 +144,11 @@ fn all<I: Read, O: Write, E: Write>(streams: &mut Streams<I, O, E>, opened: Pack
 }
 
 // The buffers that last as long as the stream have room for any size.
-fn record<I: Read, O: Write, E: Write>(streams: &mut Streams<I, O, E>, sender: Sender, terminal: bool) -> End {
+fn record<I: Read, O: Write, E: Write>(
+    streams: &mut Streams<I, O, E>,
+    sender: Sender,
+    terminal: bool,
+) -> End {
     let kind = sender.kind;
     let size = coding::size_of(kind);
     let bytes = room(kind);
@@ -122,7 +156,8 @@ fn record<I: Read, O: Write, E: Write>(streams: &mut Streams<I, O, E>, sender: S
     let mut picture = [0u8; 32776];
     let mut first = [0u8; 152064];
     let mut second = [0u8; 152064];
-    all(streams, 
+    all(
+        streams,
         open(sender, terminal),
         &mut picture[..bytes],
         &mut first[..samples],
@@ -132,19 +167,33 @@ fn record<I: Read, O: Write, E: Write>(streams: &mut Streams<I, O, E>, sender: S
 
 // ---- the words
 
-fn usage<I, O, E: Write>(streams: &mut Streams<I, O, E>, ) -> End {
-    account::streams::say(streams, b"usage: pack qcif|cif|h263-sqcif|h263-qcif|h263-cif CLIP < STREAM > BLOCKS, with CLIP from 1 to 65535\n");
+fn usage<I, O, E: Write>(streams: &mut Streams<I, O, E>) -> End {
+    account::streams::say(
+        streams,
+        b"usage: pack qcif|cif|h263-sqcif|h263-qcif|h263-cif CLIP < STREAM > BLOCKS, with CLIP from 1 to 65535\n",
+    );
     End::Misnamed
 }
 
-fn begin<I: Read, O: Write, E: Write>(streams: &mut Streams<I, O, E>, kind: Kind, clip: u16, terminal: bool) -> End {
+fn begin<I: Read, O: Write, E: Write>(
+    streams: &mut Streams<I, O, E>,
+    kind: Kind,
+    clip: u16,
+    terminal: bool,
+) -> End {
     match sender::open(clip, kind) {
         Opened::Open(sender) => record(streams, sender, terminal),
         Opened::Refused(_) => usage(streams),
     }
 }
 
-fn of_words<I: Read, O: Write, E: Write>(streams: &mut Streams<I, O, E>, count: usize, kind: &[u8], clip: &[u8], terminal: bool) -> End {
+fn of_words<I: Read, O: Write, E: Write>(
+    streams: &mut Streams<I, O, E>,
+    count: usize,
+    kind: &[u8],
+    clip: &[u8],
+    terminal: bool,
+) -> End {
     if count != 3 {
         return usage(streams);
     }
@@ -163,6 +212,12 @@ fn main(rt: HostRuntime) -> ExitCode {
     let mut clip = [0u8; 16];
     let kinds = account::arg(&rt, 1, &mut kind);
     let clips = account::arg(&rt, 2, &mut clip);
-    let end = of_words(&mut streams, account::arg_count(&rt), &kind[..kinds], &clip[..clips], rt.stderr().is_terminal());
+    let end = of_words(
+        &mut streams,
+        account::arg_count(&rt),
+        &kind[..kinds],
+        &clip[..clips],
+        rt.stderr().is_terminal(),
+    );
     account::tell_over(&streams, end)
 }

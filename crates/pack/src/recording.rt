@@ -1,14 +1,14 @@
 // The pictures of a stream recorded as a clip, and what is said of them: the same for both standards.
 ghost use Rattle.coding.specs.Described.{RoomIn};
 
-use account::streams::Streams;
-use std::io::Write;
 use account::End;
+use account::streams::Streams;
 use coding::Kind;
 use h261_groups::Format;
 use refusals::{Refusal, Verdict};
 use sender::{Answer, Sender};
 use size::Size;
+use std::io::Write;
 
 // The sender so far; whether the blocks can still be written; whether something was cut; whether a terminal shows how far it has come.
 #[derive(Clone, Copy)]
@@ -44,7 +44,12 @@ fn clear<I, O, E: Write>(streams: &mut Streams<I, O, E>, terminal: bool) {
     }
 }
 
-fn say_progress<I, O, E: Write>(streams: &mut Streams<I, O, E>, terminal: bool, pictures: u32, offset: usize) {
+fn say_progress<I, O, E: Write>(
+    streams: &mut Streams<I, O, E>,
+    terminal: bool,
+    pictures: u32,
+    offset: usize,
+) {
     if terminal {
         let mut text = [0u8; 128];
         let count = text::remarks::progress(pictures as u64, offset as u64, &mut text);
@@ -59,7 +64,12 @@ fn end_progress<I, O, E: Write>(streams: &mut Streams<I, O, E>, terminal: bool) 
     }
 }
 
-fn say_refused<I, O, E: Write>(streams: &mut Streams<I, O, E>, terminal: bool, offset: usize, why: Refusal) {
+fn say_refused<I, O, E: Write>(
+    streams: &mut Streams<I, O, E>,
+    terminal: bool,
+    offset: usize,
+    why: Refusal,
+) {
     clear(streams, terminal);
     let mut text = [0u8; 128];
     let count = text::remarks::refused(offset as u64, why, &mut text);
@@ -89,7 +99,12 @@ fn say_pictures<I, O, E: Write>(streams: &mut Streams<I, O, E>, pictures: u32) {
 // ---- a picture
 
 // One that isn't recorded is cut.
-fn refused<I, O, E: Write>(streams: &mut Streams<I, O, E>, before: Recording, offset: usize, why: Refusal) -> Recording {
+fn refused<I, O, E: Write>(
+    streams: &mut Streams<I, O, E>,
+    before: Recording,
+    offset: usize,
+    why: Refusal,
+) -> Recording {
     say_refused(streams, before.terminal, offset, why);
     let mut recording = before;
     recording.cut = true;
@@ -108,7 +123,8 @@ fn put_blocks<I, O: Write, E>(streams: &mut Streams<I, O, E>, blocks: usize, out
 }
 
 // A description goes under the next number.
-fn send<I, O: Write, E: Write>(streams: &mut Streams<I, O, E>, 
+fn send<I, O: Write, E: Write>(
+    streams: &mut Streams<I, O, E>,
     before: Recording,
     offset: usize,
     head: &[u8],
@@ -154,7 +170,8 @@ fn read(
 }
 
 // It is read, and its description sent.
-fn finish_in<I, O: Write, E: Write>(streams: &mut Streams<I, O, E>, 
+fn finish_in<I, O: Write, E: Write>(
+    streams: &mut Streams<I, O, E>,
     recording: Recording,
     whole: Whole,
     offset: usize,
@@ -167,7 +184,8 @@ fn finish_in<I, O: Write, E: Write>(streams: &mut Streams<I, O, E>,
     second: &mut [u8],
 ) -> Recording {
     match read(whole, picture, head, macroblocks, levels) {
-        Verdict::Accepted => send(streams, 
+        Verdict::Accepted => send(
+            streams,
             recording,
             offset,
             head,
@@ -184,7 +202,8 @@ fn finish_in<I, O: Write, E: Write>(streams: &mut Streams<I, O, E>,
 // ---- scratch by size: a picture clears no more than its own size needs
 
 // QCIF and smaller.
-fn finish_small<I, O: Write, E: Write>(streams: &mut Streams<I, O, E>, 
+fn finish_small<I, O: Write, E: Write>(
+    streams: &mut Streams<I, O, E>,
     recording: Recording,
     kind: Kind,
     whole: Whole,
@@ -202,7 +221,8 @@ fn finish_small<I, O: Write, E: Write>(streams: &mut Streams<I, O, E>,
     let heads = coding::head_length(kind);
     let fields = coding::macroblocks_length(kind);
     let coefficients = coding::levels_length(kind);
-    finish_in(streams, 
+    finish_in(
+        streams,
         recording,
         whole,
         offset,
@@ -217,7 +237,8 @@ fn finish_small<I, O: Write, E: Write>(streams: &mut Streams<I, O, E>,
 }
 
 // CIF, which has room for any size.
-fn finish_large<I, O: Write, E: Write>(streams: &mut Streams<I, O, E>, 
+fn finish_large<I, O: Write, E: Write>(
+    streams: &mut Streams<I, O, E>,
     recording: Recording,
     kind: Kind,
     whole: Whole,
@@ -235,7 +256,8 @@ fn finish_large<I, O: Write, E: Write>(streams: &mut Streams<I, O, E>,
     let heads = coding::head_length(kind);
     let fields = coding::macroblocks_length(kind);
     let coefficients = coding::levels_length(kind);
-    finish_in(streams, 
+    finish_in(
+        streams,
         recording,
         whole,
         offset,
@@ -250,7 +272,8 @@ fn finish_large<I, O: Write, E: Write>(streams: &mut Streams<I, O, E>,
 }
 
 // A picture that begins at a byte of the stream, and stands in `picture`. After a failed write nothing more is done.
-pub fn finish<I, O: Write, E: Write>(streams: &mut Streams<I, O, E>, 
+pub fn finish<I, O: Write, E: Write>(
+    streams: &mut Streams<I, O, E>,
     recording: Recording,
     whole: Whole,
     offset: usize,
@@ -265,14 +288,24 @@ pub fn finish<I, O: Write, E: Write>(streams: &mut Streams<I, O, E>,
     let kind = sender.kind;
     let size = coding::size_of(kind);
     match size {
-        Size::SubQcif => finish_small(streams, recording, kind, whole, offset, picture, first, second),
-        Size::Qcif => finish_small(streams, recording, kind, whole, offset, picture, first, second),
-        Size::Cif => finish_large(streams, recording, kind, whole, offset, picture, first, second),
+        Size::SubQcif => finish_small(
+            streams, recording, kind, whole, offset, picture, first, second,
+        ),
+        Size::Qcif => finish_small(
+            streams, recording, kind, whole, offset, picture, first, second,
+        ),
+        Size::Cif => finish_large(
+            streams, recording, kind, whole, offset, picture, first, second,
+        ),
     }
 }
 
 // The first picture has begun: bytes before it are no picture's.
-pub fn begin<I, O, E: Write>(streams: &mut Streams<I, O, E>, before: Recording, offset: usize) -> Recording {
+pub fn begin<I, O, E: Write>(
+    streams: &mut Streams<I, O, E>,
+    before: Recording,
+    offset: usize,
+) -> Recording {
     if 0 < offset {
         say_before(streams, before.terminal, offset);
         let mut recording = before;
@@ -295,7 +328,11 @@ pub fn goes_on(recording: Recording, got: usize) -> bool {
 fn unwritten<I, O, E: Write>(streams: &mut Streams<I, O, E>, terminal: bool) -> End {
     clear(streams, terminal);
     let why = streams.failure;
-    account::streams::fail(streams, b"pack: a picture's blocks could not be written", why);
+    account::streams::fail(
+        streams,
+        b"pack: a picture's blocks could not be written",
+        why,
+    );
     End::Unwritten
 }
 
@@ -310,7 +347,12 @@ pub fn unread<I, O, E: Write>(streams: &mut Streams<I, O, E>, recording: Recordi
 }
 
 // A stream of so many bytes, in which a picture has begun or none has.
-pub fn end<I, O, E: Write>(streams: &mut Streams<I, O, E>, recording: Recording, begun: bool, bytes: usize) -> End {
+pub fn end<I, O, E: Write>(
+    streams: &mut Streams<I, O, E>,
+    recording: Recording,
+    begun: bool,
+    bytes: usize,
+) -> End {
     if !recording.writes {
         return unwritten(streams, recording.terminal);
     }

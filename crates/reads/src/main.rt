@@ -6,19 +6,19 @@
 // standard. The status is the lister's.
 //
 //     ./pagesorrel reads qcif 7 < clip.blocks
-use account::streams::Streams;
-use std::io::{Read, Write};
-use std::process::ExitCode;
 use account::End;
 use account::blocks::Met;
 use account::going::Going;
 use account::input::Next;
+use account::streams::Streams;
 use arguments::VaultWords;
 use coding::Kind;
 use counting::Ending;
 use listing::Clip;
 use size::Size;
 use standing::Answer;
+use std::io::{Read, Write};
+use std::process::ExitCode;
 
 // After a turn: whether there is more to do, the clip, and what was met so far.
 #[derive(Clone, Copy)]
@@ -30,7 +30,14 @@ struct Turn {
 
 // ---- what is said
 
-fn say_reads<I, O: Write, E>(streams: &mut Streams<I, O, E>, n: u64, kind: Kind, answer: Answer, bits: usize, collection: &[u8]) -> bool {
+fn say_reads<I, O: Write, E>(
+    streams: &mut Streams<I, O, E>,
+    n: u64,
+    kind: Kind,
+    answer: Answer,
+    bits: usize,
+    collection: &[u8],
+) -> bool {
     let reads = counting::reads(kind, collection, bits);
     let mut text = [0u8; 256];
     let count = counting::line(n, answer, bits, reads, &mut text);
@@ -38,7 +45,14 @@ fn say_reads<I, O: Write, E>(streams: &mut Streams<I, O, E>, n: u64, kind: Kind,
 }
 
 // Where the block ended a picture, its line; whether it was written. A clip that ended one is known.
-fn say<I, O: Write, E>(streams: &mut Streams<I, O, E>, n: u64, clip: Clip, answer: Answer, ending: Ending, collection: &[u8]) -> bool {
+fn say<I, O: Write, E>(
+    streams: &mut Streams<I, O, E>,
+    n: u64,
+    clip: Clip,
+    answer: Answer,
+    ending: Ending,
+    collection: &[u8],
+) -> bool {
     match ending {
         Ending::Nothing => true,
         Ending::Picture(bits) => match clip {
@@ -53,7 +67,8 @@ fn say<I, O: Write, E>(streams: &mut Streams<I, O, E>, n: u64, clip: Clip, answe
 
 // ---- a block
 
-fn whole<I, O: Write, E: Write>(streams: &mut Streams<I, O, E>, 
+fn whole<I, O: Write, E: Write>(
+    streams: &mut Streams<I, O, E>,
     n: u64,
     size: Size,
     clip: Clip,
@@ -93,7 +108,8 @@ fn short<I, O: Write, E>(streams: &mut Streams<I, O, E>, n: u64, clip: Clip, met
     }
 }
 
-fn one<I: Read, O: Write, E: Write>(streams: &mut Streams<I, O, E>, 
+fn one<I: Read, O: Write, E: Write>(
+    streams: &mut Streams<I, O, E>,
     n: u64,
     size: Size,
     clip: Clip,
@@ -105,7 +121,9 @@ fn one<I: Read, O: Write, E: Write>(streams: &mut Streams<I, O, E>,
     let mut block = [0u8; 512];
     let filled = account::input::fill(streams, &mut block);
     match account::input::next_of(filled) {
-        Next::Block => whole(streams, n, size, clip, met, &block, collection, first, second),
+        Next::Block => whole(
+            streams, n, size, clip, met, &block, collection, first, second,
+        ),
         Next::Short => short(streams, n, clip, met),
         Next::End => Turn {
             going: Going::Ended,
@@ -122,13 +140,13 @@ fn one<I: Read, O: Write, E: Write>(streams: &mut Streams<I, O, E>,
 
 // ---- the end
 
-fn unread<I, O, E: Write>(streams: &mut Streams<I, O, E>, ) -> End {
+fn unread<I, O, E: Write>(streams: &mut Streams<I, O, E>) -> End {
     let why = streams.stdin.failure;
     account::streams::fail(streams, b"reads: the input could not be read", why);
     End::Unread
 }
 
-fn unwritten<I, O, E: Write>(streams: &mut Streams<I, O, E>, ) -> End {
+fn unwritten<I, O, E: Write>(streams: &mut Streams<I, O, E>) -> End {
     let why = streams.failure;
     account::streams::fail(streams, b"reads: a line could not be written", why);
     End::Unwritten
@@ -143,7 +161,12 @@ fn end<I, O: Write, E: Write>(streams: &mut Streams<I, O, E>, clip: Clip, met: M
     unwritten(streams)
 }
 
-fn finish<I, O: Write, E: Write>(streams: &mut Streams<I, O, E>, going: Going, clip: Clip, met: Met) -> End {
+fn finish<I, O: Write, E: Write>(
+    streams: &mut Streams<I, O, E>,
+    going: Going,
+    clip: Clip,
+    met: Met,
+) -> End {
     match going {
         Going::Unread => unread(streams),
         Going::Unwritten => unwritten(streams),
@@ -152,7 +175,8 @@ fn finish<I, O: Write, E: Write>(streams: &mut Streams<I, O, E>, going: Going, c
 }
 
 // Nothing says that the input ends, so the loop counts its turns.
-fn all<I: Read, O: Write, E: Write>(streams: &mut Streams<I, O, E>, 
+fn all<I: Read, O: Write, E: Write>(
+    streams: &mut Streams<I, O, E>,
     size: Size,
     opened: Clip,
     collection: &mut [u8],
@@ -180,7 +204,8 @@ fn run<I: Read, O: Write, E: Write>(streams: &mut Streams<I, O, E>, size: Size, 
     let mut collection = [0u8; 33000];
     let mut first = [0u8; 152064];
     let mut second = [0u8; 152064];
-    all(streams, 
+    all(
+        streams,
         size,
         clip,
         &mut collection[..bytes],
@@ -191,13 +216,21 @@ fn run<I: Read, O: Write, E: Write>(streams: &mut Streams<I, O, E>, size: Size, 
 
 // ---- the words
 
-fn usage<I, O, E: Write>(streams: &mut Streams<I, O, E>, ) -> End {
-    account::streams::say(streams, b"usage: reads sqcif|qcif|cif [CLIP] < BLOCKS, with CLIP from 1 to 65535\n");
+fn usage<I, O, E: Write>(streams: &mut Streams<I, O, E>) -> End {
+    account::streams::say(
+        streams,
+        b"usage: reads sqcif|qcif|cif [CLIP] < BLOCKS, with CLIP from 1 to 65535\n",
+    );
     End::Misnamed
 }
 
 // How many words there are, the program's own name among them, and the two after it.
-fn of_words<I: Read, O: Write, E: Write>(streams: &mut Streams<I, O, E>, count: usize, size: &[u8], clip: &[u8]) -> End {
+fn of_words<I: Read, O: Write, E: Write>(
+    streams: &mut Streams<I, O, E>,
+    count: usize,
+    size: &[u8],
+    clip: &[u8],
+) -> End {
     match arguments::vault_named(count, size, clip) {
         VaultWords::Size(named) => run(streams, named, Clip::Unknown),
         VaultWords::Clip(named, number) => run(streams, named, Clip::Asked(number)),
@@ -211,6 +244,11 @@ fn main(rt: HostRuntime) -> ExitCode {
     let mut clip = [0u8; 16];
     let sizes = account::arg(&rt, 1, &mut size);
     let clips = account::arg(&rt, 2, &mut clip);
-    let end = of_words(&mut streams, account::arg_count(&rt), &size[..sizes], &clip[..clips]);
+    let end = of_words(
+        &mut streams,
+        account::arg_count(&rt),
+        &size[..sizes],
+        &clip[..clips],
+    );
     account::tell_over(&streams, end)
 }

@@ -1,4 +1,6 @@
 // Document 01's table of refusals: each reason by name, and the refusal with its bit place. A refusal is passed on unopened.
+#![tactic(auto)]
+
 ghost use Rattle.std.specs.Prelude.{◌≡◌};
 ghost use Rattle.refusals.specs.Number.{number, table_number, read_table, refusal};
 
@@ -73,6 +75,7 @@ pub fn not_written(reason: Reason) -> Written
 }
 
 // A refusal's number in the table, for programs that print it.
+#[tactic(auto, unfolding(crate::specs::Number::number))]
 pub fn number_of(reason: Reason) -> u32
     ensures { result ≡ number reason }
 {
@@ -105,6 +108,7 @@ pub fn number_of(reason: Reason) -> u32
 }
 
 // A table's number.
+#[tactic(auto, unfolding(crate::specs::Number::table_number))]
 fn table_number(table: Table) -> u32
     ensures { result ≡ table_number table }
 {
@@ -123,6 +127,7 @@ fn table_number(table: Table) -> u32
 }
 
 // The table that a refusal carries: "Other refusals carry table 0."
+#[tactic(auto, unfolding(crate::specs::Number::read_table, crate::specs::Number::table_number))]
 pub fn table_of(reason: Reason) -> u32
     ensures { result ≡ read_table reason }
 {

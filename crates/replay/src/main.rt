@@ -7,12 +7,12 @@
 ghost use Rattle.std.specs.Prelude.{◌≡◌, ◌+◌, ◌*◌, ◌≤◌, ◌<◌, length};
 ghost use Rattle.bch.specs.Frame.{byte_steps};
 
-use account::streams::Streams;
-use std::io::{Read, Write};
-use std::process::ExitCode;
 use account::End;
 use account::input::Filled;
+use account::streams::Streams;
 use capture::{Came, LockFound};
+use std::io::{Read, Write};
+use std::process::ExitCode;
 
 #[derive(Clone, Copy)]
 struct State {
@@ -66,7 +66,11 @@ fn flush<I, O: Write, E>(streams: &mut Streams<I, O, E>, out: &mut [u8], waiting
 }
 
 // Room for the data bits of another frame.
-fn roomy<I, O: Write, E>(streams: &mut Streams<I, O, E>, before: State, out: &mut [u8; 65536]) -> State
+fn roomy<I, O: Write, E>(
+    streams: &mut Streams<I, O, E>,
+    before: State,
+    out: &mut [u8; 65536],
+) -> State
     requires { before.waiting ≤ 524280 }
     ensures { (result.waiting ≤ 523788) × (result.at ≡ before.at) }
 {
@@ -92,7 +96,13 @@ fn finish<I, O: Write, E>(streams: &mut Streams<I, O, E>, waiting: usize, out: &
 
 // ---- frames
 
-fn frame<I, O, E: Write>(streams: &mut Streams<I, O, E>, steps: &[u32; 256], input: &[u8; 65536], before: State, out: &mut [u8; 65536]) -> State
+fn frame<I, O, E: Write>(
+    streams: &mut Streams<I, O, E>,
+    steps: &[u32; 256],
+    input: &[u8; 65536],
+    before: State,
+    out: &mut [u8; 65536],
+) -> State
     requires { (steps.now ≡ byte_steps) × (before.at ≤ 523776) × (before.waiting ≤ 523788) }
     ensures { (result.waiting ≤ 524280) × (result.at ≡ before.at + 512) }
 {
@@ -116,7 +126,8 @@ fn frame<I, O, E: Write>(streams: &mut Streams<I, O, E>, steps: &[u32; 256], inp
 }
 
 // The whole frames of the buffer's `count` bits, as long as what is written is taken.
-fn frames<I, O: Write, E: Write>(streams: &mut Streams<I, O, E>, 
+fn frames<I, O: Write, E: Write>(
+    streams: &mut Streams<I, O, E>,
     steps: &[u32; 256],
     input: &[u8; 65536],
     count: usize,
@@ -143,7 +154,12 @@ fn frames<I, O: Write, E: Write>(streams: &mut Streams<I, O, E>,
 // ---- lock
 
 // Where nothing locks yet, what can still be the first of 24 framing bits is looked at again once more is there.
-fn search<I, O, E: Write>(streams: &mut Streams<I, O, E>, input: &[u8; 65536], count: usize, before: State) -> State
+fn search<I, O, E: Write>(
+    streams: &mut Streams<I, O, E>,
+    input: &[u8; 65536],
+    count: usize,
+    before: State,
+) -> State
     requires { count ≤ 524288 }
     ensures { result.waiting ≡ before.waiting }
 {
@@ -210,7 +226,12 @@ fn dropped(before: State, input: &mut [u8; 65536]) -> State
     state
 }
 
-fn located<I, O, E: Write>(streams: &mut Streams<I, O, E>, input: &[u8; 65536], count: usize, before: State) -> State
+fn located<I, O, E: Write>(
+    streams: &mut Streams<I, O, E>,
+    input: &[u8; 65536],
+    count: usize,
+    before: State,
+) -> State
     requires { count ≤ 524288 }
     ensures { result.waiting ≡ before.waiting }
 {
@@ -220,7 +241,8 @@ fn located<I, O, E: Write>(streams: &mut Streams<I, O, E>, input: &[u8; 65536], 
     search(streams, input, count, before)
 }
 
-fn replayed<I, O: Write, E: Write>(streams: &mut Streams<I, O, E>, 
+fn replayed<I, O: Write, E: Write>(
+    streams: &mut Streams<I, O, E>,
     steps: &[u32; 256],
     input: &[u8; 65536],
     count: usize,
@@ -246,7 +268,13 @@ fn goes_on(bytes: usize, writes: bool) -> bool {
 }
 
 // A buffer of the capture. The tests of the bytes never fail.
-fn turn<I: Read, O: Write, E: Write>(streams: &mut Streams<I, O, E>, steps: &[u32; 256], input: &mut [u8; 65536], before: State, out: &mut [u8; 65536]) -> State
+fn turn<I: Read, O: Write, E: Write>(
+    streams: &mut Streams<I, O, E>,
+    steps: &[u32; 256],
+    input: &mut [u8; 65536],
+    before: State,
+    out: &mut [u8; 65536],
+) -> State
     requires { (steps.now ≡ byte_steps) × (before.waiting ≤ 524280) }
     ensures { result.waiting ≤ 524280 }
 {
@@ -271,13 +299,13 @@ fn turn<I: Read, O: Write, E: Write>(streams: &mut Streams<I, O, E>, steps: &[u3
 
 // ---- the end
 
-fn unread<I, O, E: Write>(streams: &mut Streams<I, O, E>, ) -> End {
+fn unread<I, O, E: Write>(streams: &mut Streams<I, O, E>) -> End {
     let why = streams.stdin.failure;
     account::streams::fail(streams, b"replay: the recording could not be read", why);
     End::Unread
 }
 
-fn unwritten<I, O, E: Write>(streams: &mut Streams<I, O, E>, ) -> End {
+fn unwritten<I, O, E: Write>(streams: &mut Streams<I, O, E>) -> End {
     let why = streams.failure;
     account::streams::fail(streams, b"replay: the data could not be written", why);
     End::Unwritten
@@ -295,7 +323,11 @@ fn say_cut<I, O, E: Write>(streams: &mut Streams<I, O, E>, state: State) -> bool
 }
 
 // The data bits that wait are written, and all are counted.
-fn told<I, O: Write, E: Write>(streams: &mut Streams<I, O, E>, state: State, out: &[u8; 65536]) -> End
+fn told<I, O: Write, E: Write>(
+    streams: &mut Streams<I, O, E>,
+    state: State,
+    out: &[u8; 65536],
+) -> End
     requires { state.waiting ≤ 524280 }
 {
     let cut = say_cut(streams, state);
@@ -309,7 +341,11 @@ fn told<I, O: Write, E: Write>(streams: &mut Streams<I, O, E>, state: State, out
 }
 
 // What came of it all.
-fn close<I, O: Write, E: Write>(streams: &mut Streams<I, O, E>, state: State, out: &[u8; 65536]) -> End
+fn close<I, O: Write, E: Write>(
+    streams: &mut Streams<I, O, E>,
+    state: State,
+    out: &[u8; 65536],
+) -> End
     requires { state.waiting ≤ 524280 }
 {
     if !state.reads {
@@ -326,7 +362,12 @@ fn close<I, O: Write, E: Write>(streams: &mut Streams<I, O, E>, state: State, ou
 }
 
 // Nothing says that the input ends, so the loop counts its turns.
-fn all<I: Read, O: Write, E: Write>(streams: &mut Streams<I, O, E>, steps: &[u32; 256], input: &mut [u8; 65536], out: &mut [u8; 65536]) -> State
+fn all<I: Read, O: Write, E: Write>(
+    streams: &mut Streams<I, O, E>,
+    steps: &[u32; 256],
+    input: &mut [u8; 65536],
+    out: &mut [u8; 65536],
+) -> State
     requires { steps.now ≡ byte_steps }
     ensures { result.waiting ≤ 524280 }
 {
@@ -350,7 +391,7 @@ fn all<I: Read, O: Write, E: Write>(streams: &mut Streams<I, O, E>, steps: &[u32
     state
 }
 
-fn run<I: Read, O: Write, E: Write>(streams: &mut Streams<I, O, E>, ) -> End {
+fn run<I: Read, O: Write, E: Write>(streams: &mut Streams<I, O, E>) -> End {
     let steps = bch::byte_steps();
     let mut input = [0u8; 65536];
     let mut out = [0u8; 65536];

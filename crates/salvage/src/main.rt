@@ -6,19 +6,19 @@
 // second runs ahead to where the picture that is collected is finished or dropped.
 //
 //     ./pagesorrel salvage qcif 7 9 lossy.blocks > new.blocks 2> new.log
-use account::streams::{Source, Streams};
-use std::io::{Read, Seek, SeekFrom, Write};
-use std::rt::Files;
-use std::{fs, io};
-use std::process::ExitCode;
 use account::End;
 use account::going::Going;
 use account::input::Next;
+use account::streams::{Source, Streams};
 use arguments::{ClipWord, KindWord};
 use coding::Kind;
 use refusals::Reason;
 use salvaging::{Asked, Entries, Entry, Fate, Sight, Tally};
 use standing::{Answer, Opened, Received, Receiver};
+use std::io::{Read, Seek, SeekFrom, Write};
+use std::process::ExitCode;
+use std::rt::Files;
+use std::{fs, io};
 
 // ---- the file
 
@@ -241,7 +241,12 @@ fn settle<F: Read + Seek>(
 // ---- what is written
 
 // A new number is no greater than the old one, so that the test never fails.
-fn put_renewed<I, O: Write, E>(streams: &mut Streams<I, O, E>, clip: u16, picture: u64, block: &[u8; 512]) -> bool {
+fn put_renewed<I, O: Write, E>(
+    streams: &mut Streams<I, O, E>,
+    clip: u16,
+    picture: u64,
+    block: &[u8; 512],
+) -> bool {
     if picture < 1048576 {
         let mut renewed = [0u8; 512];
         vault::renew(clip, picture as u32, block, &mut renewed);
@@ -251,7 +256,13 @@ fn put_renewed<I, O: Write, E>(streams: &mut Streams<I, O, E>, clip: u16, pictur
 }
 
 // A block that goes on.
-fn put_block<I, O: Write, E>(streams: &mut Streams<I, O, E>, goes: bool, clip: u16, picture: u64, block: &[u8; 512]) -> bool {
+fn put_block<I, O: Write, E>(
+    streams: &mut Streams<I, O, E>,
+    goes: bool,
+    clip: u16,
+    picture: u64,
+    block: &[u8; 512],
+) -> bool {
     if goes {
         return put_renewed(streams, clip, picture, block);
     }
@@ -303,7 +314,8 @@ fn counted(tally: Tally, answer: Answer) -> Tally {
 }
 
 // Block n, by its answer and whether its picture is finished: it goes to the new clip, or to the log.
-fn write<I, O: Write, E: Write>(streams: &mut Streams<I, O, E>, 
+fn write<I, O: Write, E: Write>(
+    streams: &mut Streams<I, O, E>,
     n: u64,
     clip: u16,
     before: State,
@@ -335,7 +347,8 @@ fn write<I, O: Write, E: Write>(streams: &mut Streams<I, O, E>,
 }
 
 // Once the first receiver has answered.
-fn answered<F: Read + Seek, I, O: Write, E: Write>(streams: &mut Streams<I, O, E>, 
+fn answered<F: Read + Seek, I, O: Write, E: Write>(
+    streams: &mut Streams<I, O, E>,
     n: u64,
     file: &mut Source<F>,
     ahead: &mut Source<F>,
@@ -373,7 +386,8 @@ fn answered<F: Read + Seek, I, O: Write, E: Write>(streams: &mut Streams<I, O, E
     }
 }
 
-fn whole<F: Read + Seek, I, O: Write, E: Write>(streams: &mut Streams<I, O, E>, 
+fn whole<F: Read + Seek, I, O: Write, E: Write>(
+    streams: &mut Streams<I, O, E>,
     n: u64,
     file: &mut Source<F>,
     ahead: &mut Source<F>,
@@ -389,7 +403,8 @@ fn whole<F: Read + Seek, I, O: Write, E: Write>(streams: &mut Streams<I, O, E>,
 ) -> Turn {
     let receiver = before.receiver;
     let received = receiver::receive(receiver, block, collection, first, second);
-    answered(streams, 
+    answered(
+        streams,
         n,
         file,
         ahead,
@@ -406,7 +421,8 @@ fn whole<F: Read + Seek, I, O: Write, E: Write>(streams: &mut Streams<I, O, E>,
     )
 }
 
-fn one<F: Read + Seek, I, O: Write, E: Write>(streams: &mut Streams<I, O, E>, 
+fn one<F: Read + Seek, I, O: Write, E: Write>(
+    streams: &mut Streams<I, O, E>,
     n: u64,
     file: &mut Source<F>,
     ahead: &mut Source<F>,
@@ -421,7 +437,8 @@ fn one<F: Read + Seek, I, O: Write, E: Write>(streams: &mut Streams<I, O, E>,
 ) -> Turn {
     let mut block = [0u8; 512];
     match read_block(file, &mut block) {
-        Next::Block => whole(streams, 
+        Next::Block => whole(
+            streams,
             n,
             file,
             ahead,
@@ -448,7 +465,11 @@ fn one<F: Read + Seek, I, O: Write, E: Write>(streams: &mut Streams<I, O, E>,
 
 // ---- the end
 
-fn unread<F, I, O, E: Write>(streams: &mut Streams<I, O, E>, file: &Source<F>, ahead: &Source<F>) -> End {
+fn unread<F, I, O, E: Write>(
+    streams: &mut Streams<I, O, E>,
+    file: &Source<F>,
+    ahead: &Source<F>,
+) -> End {
     let why = match file.failure {
         Some(why) => Some(why),
         None => ahead.failure,
@@ -457,7 +478,7 @@ fn unread<F, I, O, E: Write>(streams: &mut Streams<I, O, E>, file: &Source<F>, a
     End::Unread
 }
 
-fn unwritten<I, O, E: Write>(streams: &mut Streams<I, O, E>, ) -> End {
+fn unwritten<I, O, E: Write>(streams: &mut Streams<I, O, E>) -> End {
     let why = streams.failure;
     account::streams::fail(streams, b"salvage: the new clip could not be written", why);
     End::Unwritten
@@ -472,7 +493,13 @@ fn refused<I, O, E: Write>(streams: &mut Streams<I, O, E>, reason: Reason) -> En
     unwritten(streams)
 }
 
-fn finish<F, I, O, E: Write>(streams: &mut Streams<I, O, E>, file: &Source<F>, ahead: &Source<F>, going: Going, state: State) -> End {
+fn finish<F, I, O, E: Write>(
+    streams: &mut Streams<I, O, E>,
+    file: &Source<F>,
+    ahead: &Source<F>,
+    going: Going,
+    state: State,
+) -> End {
     match going {
         Going::Unread => unread(streams, file, ahead),
         Going::Unwritten => unwritten(streams),
@@ -484,7 +511,8 @@ fn finish<F, I, O, E: Write>(streams: &mut Streams<I, O, E>, file: &Source<F>, a
 }
 
 // Nothing says that the file ends, so the loop counts its turns.
-fn all<F: Read + Seek, I, O: Write, E: Write>(streams: &mut Streams<I, O, E>, 
+fn all<F: Read + Seek, I, O: Write, E: Write>(
+    streams: &mut Streams<I, O, E>,
     file: &mut Source<F>,
     ahead: &mut Source<F>,
     clip: u16,
@@ -508,7 +536,8 @@ fn all<F: Read + Seek, I, O: Write, E: Write>(streams: &mut Streams<I, O, E>,
     let mut going = Going::On;
     let mut n: u64 = 0;
     while n < 18446744073709551615 && account::going::goes_on(going) {
-        let turn = one(streams, 
+        let turn = one(
+            streams,
             n,
             file,
             ahead,
@@ -529,7 +558,8 @@ fn all<F: Read + Seek, I, O: Write, E: Write>(streams: &mut Streams<I, O, E>,
 }
 
 // Whether anything is kept is settled first.
-fn begin<F: Read + Seek, I, O: Write, E: Write>(streams: &mut Streams<I, O, E>, 
+fn begin<F: Read + Seek, I, O: Write, E: Write>(
+    streams: &mut Streams<I, O, E>,
     file: &mut Source<F>,
     ahead: &mut Source<F>,
     clip: u16,
@@ -551,7 +581,8 @@ fn begin<F: Read + Seek, I, O: Write, E: Write>(streams: &mut Streams<I, O, E>,
     );
     match found {
         Found::Unread => unread(streams, file, ahead),
-        Found::Yes => all(streams, 
+        Found::Yes => all(
+            streams,
             file,
             ahead,
             clip,
@@ -568,7 +599,14 @@ fn begin<F: Read + Seek, I, O: Write, E: Write>(streams: &mut Streams<I, O, E>,
 }
 
 // The buffers have room for any size.
-fn run<F: Read + Seek, I, O: Write, E: Write>(streams: &mut Streams<I, O, E>, kind: Kind, file: &mut Source<F>, ahead: &mut Source<F>, clip: u16, opened: Receiver) -> End {
+fn run<F: Read + Seek, I, O: Write, E: Write>(
+    streams: &mut Streams<I, O, E>,
+    kind: Kind,
+    file: &mut Source<F>,
+    ahead: &mut Source<F>,
+    clip: u16,
+    opened: Receiver,
+) -> End {
     let size = coding::size_of(kind);
     let bytes = size::collection_length(size);
     let samples = size::store_length(size);
@@ -578,7 +616,8 @@ fn run<F: Read + Seek, I, O: Write, E: Write>(streams: &mut Streams<I, O, E>, ki
     let mut collection_ahead = [0u8; 33000];
     let mut first_ahead = [0u8; 152064];
     let mut second_ahead = [0u8; 152064];
-    begin(streams, 
+    begin(
+        streams,
         file,
         ahead,
         clip,
@@ -636,7 +675,14 @@ fn measured<F: Read + Seek>(file: &mut Source<F>, end: u64) -> Length {
     Length::Part
 }
 
-fn opened_as<F: Read + Seek, I, O: Write, E: Write>(streams: &mut Streams<I, O, E>, kind: Kind, old: u16, new: u16, file: &mut Source<F>, ahead: &mut Source<F>) -> End {
+fn opened_as<F: Read + Seek, I, O: Write, E: Write>(
+    streams: &mut Streams<I, O, E>,
+    kind: Kind,
+    old: u16,
+    new: u16,
+    file: &mut Source<F>,
+    ahead: &mut Source<F>,
+) -> End {
     match standing::open(old, kind) {
         Opened::Refused(why) => {
             let reason = why.reason;
@@ -652,7 +698,14 @@ fn opened_as<F: Read + Seek, I, O: Write, E: Write>(streams: &mut Streams<I, O, 
 }
 
 // The file is opened twice, once for each receiver.
-fn over<F: Read + Seek, I, O: Write, E: Write>(streams: &mut Streams<I, O, E>, kind: Kind, old: u16, new: u16, file: &mut Source<F>, ahead: &mut Source<F>) -> End {
+fn over<F: Read + Seek, I, O: Write, E: Write>(
+    streams: &mut Streams<I, O, E>,
+    kind: Kind,
+    old: u16,
+    new: u16,
+    file: &mut Source<F>,
+    ahead: &mut Source<F>,
+) -> End {
     match measure(ahead) {
         Length::Unread => unread(streams, file, ahead),
         Length::Part => refused(streams, Reason::Length),
@@ -662,8 +715,11 @@ fn over<F: Read + Seek, I, O: Write, E: Write>(streams: &mut Streams<I, O, E>, k
 
 // ---- the words
 
-fn usage<I, O, E: Write>(streams: &mut Streams<I, O, E>, ) -> End {
-    account::streams::say(streams, b"usage: salvage qcif|cif|h263-sqcif|h263-qcif|h263-cif OLD NEW BLOCKS > NEWBLOCKS 2> LOG, with OLD and NEW from 1 to 65535\n");
+fn usage<I, O, E: Write>(streams: &mut Streams<I, O, E>) -> End {
+    account::streams::say(
+        streams,
+        b"usage: salvage qcif|cif|h263-sqcif|h263-qcif|h263-cif OLD NEW BLOCKS > NEWBLOCKS 2> LOG, with OLD and NEW from 1 to 65535\n",
+    );
     End::Misnamed
 }
 
@@ -680,7 +736,14 @@ fn opened<R: Files>(rt: &R, path: &[u8]) -> io::Result<Source<R::File>> {
     }
 }
 
-fn of_file<R: Files, I, O: Write, E: Write>(rt: &R, streams: &mut Streams<I, O, E>, kind: Kind, old: u16, new: u16, path: &[u8]) -> End {
+fn of_file<R: Files, I, O: Write, E: Write>(
+    rt: &R,
+    streams: &mut Streams<I, O, E>,
+    kind: Kind,
+    old: u16,
+    new: u16,
+    path: &[u8],
+) -> End {
     match opened(rt, path) {
         Ok(mut file) => match opened(rt, path) {
             Ok(mut ahead) => over(streams, kind, old, new, &mut file, &mut ahead),
@@ -690,14 +753,28 @@ fn of_file<R: Files, I, O: Write, E: Write>(rt: &R, streams: &mut Streams<I, O, 
     }
 }
 
-fn of_new<R: Files, I, O: Write, E: Write>(rt: &R, streams: &mut Streams<I, O, E>, kind: Kind, old: u16, new: &[u8], path: &[u8]) -> End {
+fn of_new<R: Files, I, O: Write, E: Write>(
+    rt: &R,
+    streams: &mut Streams<I, O, E>,
+    kind: Kind,
+    old: u16,
+    new: &[u8],
+    path: &[u8],
+) -> End {
     match arguments::clip_named(new) {
         ClipWord::Names(clip) => of_file(rt, streams, kind, old, clip, path),
         ClipWord::Other => usage(streams),
     }
 }
 
-fn of_old<R: Files, I, O: Write, E: Write>(rt: &R, streams: &mut Streams<I, O, E>, kind: Kind, old: &[u8], new: &[u8], path: &[u8]) -> End {
+fn of_old<R: Files, I, O: Write, E: Write>(
+    rt: &R,
+    streams: &mut Streams<I, O, E>,
+    kind: Kind,
+    old: &[u8],
+    new: &[u8],
+    path: &[u8],
+) -> End {
     match arguments::clip_named(old) {
         ClipWord::Names(clip) => of_new(rt, streams, kind, clip, new, path),
         ClipWord::Other => usage(streams),
@@ -705,7 +782,15 @@ fn of_old<R: Files, I, O: Write, E: Write>(rt: &R, streams: &mut Streams<I, O, E
 }
 
 // How many words there are, the program's own name among them, and the four after it.
-fn of_words<R: Files, I, O: Write, E: Write>(rt: &R, streams: &mut Streams<I, O, E>, count: usize, kind: &[u8], old: &[u8], new: &[u8], path: &[u8]) -> End {
+fn of_words<R: Files, I, O: Write, E: Write>(
+    rt: &R,
+    streams: &mut Streams<I, O, E>,
+    count: usize,
+    kind: &[u8],
+    old: &[u8],
+    new: &[u8],
+    path: &[u8],
+) -> End {
     if count != 5 || path.len() == 0 {
         return usage(streams);
     }
@@ -725,7 +810,9 @@ fn main(rt: HostRuntime) -> ExitCode {
     let olds = account::arg(&rt, 2, &mut old);
     let news = account::arg(&rt, 3, &mut new);
     let paths = account::arg(&rt, 4, &mut path);
-    let end = of_words(&rt, &mut streams, 
+    let end = of_words(
+        &rt,
+        &mut streams,
         account::arg_count(&rt),
         &kind[..kinds],
         &old[..olds],

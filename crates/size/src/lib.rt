@@ -1,4 +1,6 @@
 // Sub-QCIF, QCIF and CIF: what a picture's size decides, for both standards: limits, lengths of lent buffers, and where everything lies in a store.
+#![tactic(auto)]
+
 ghost use Rattle.std.specs.Prelude.{◌≡◌};
 ghost use Rattle.size.specs.Size.{width, height, limit, store_length, output_length, collection_length, blocks_length};
 

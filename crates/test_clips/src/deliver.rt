@@ -1,8 +1,8 @@
 // Blocks delivered: a call is which buffer is lent without its last byte (0 none, 1 collection, 2 first store, 3 second store), the block's length in two bytes, the block.
 // Its line: "ANSWER, STAND, SHOWN", the answer as the lister writes it, and after a last part was read also ", COLLECTION FIRST SECOND", the checks of the three buffers.
-use std::io::{Read, Write};
 use crate::{Called, Party};
 use standing::{Answer, Holder, Received, Receiver, Standing};
+use std::io::{Read, Write};
 
 // Whether a last part was read.
 fn was_read(answer: Answer) -> bool {
@@ -76,7 +76,8 @@ fn say_answer<O: Write>(stdout: &mut O, answer: Answer, standing: Standing) {
     checks::say_unspaced(stdout, stood, &text);
 }
 
-fn receive<O: Write>(stdout: &mut O, 
+fn receive<O: Write>(
+    stdout: &mut O,
     receiver: Receiver,
     block: &[u8],
     collection: &mut [u8],
@@ -98,7 +99,9 @@ fn receive<O: Write>(stdout: &mut O,
     Called::Next(Party::Receiving(next), told)
 }
 
-pub fn call<I: Read, O: Write>(stdin: &mut I, stdout: &mut O, 
+pub fn call<I: Read, O: Write>(
+    stdin: &mut I,
+    stdout: &mut O,
     receiver: Receiver,
     length: usize,
     collection: &mut [u8],

@@ -4,13 +4,13 @@
 // sender also the number of its next picture in four, and the calls; src/send.rt and deliver.rt say how a call and its line look. Before a session every byte of the
 // sender's output is 165, of the receiver's collection buffer 51, of the first store 17, of the second 34. Lines: "opened" or "refused 22", those of the calls, and after a
 // receiver's calls "end COLLECTION FIRST SECOND" with the checks of the buffers. Stops at the end of the input and at a record that has no such form.
-use std::io::{Read, Write};
 use checks::{lent, part, two};
 use coding::Kind;
 use refusals::Refusal;
 use sender::Sender;
 use size::Size;
 use standing::Receiver;
+use std::io::{Read, Write};
 
 mod deliver;
 mod send;
@@ -92,7 +92,9 @@ fn short_of(party: Party, start: &[u8; 3]) -> u8 {
     }
 }
 
-fn lend<I: Read, O: Write>(stdin: &mut I, stdout: &mut O, 
+fn lend<I: Read, O: Write>(
+    stdin: &mut I,
+    stdout: &mut O,
     party: Party,
     start: &[u8; 3],
     buffer: &mut [u8],
@@ -105,14 +107,18 @@ fn lend<I: Read, O: Write>(stdin: &mut I, stdout: &mut O,
     let firsts = part(lent(samples, short == 2), first);
     let seconds = part(lent(samples, short == 3), second);
     match party {
-        Party::Sending(sender) => send::call(stdin, stdout, 
+        Party::Sending(sender) => send::call(
+            stdin,
+            stdout,
             sender,
             two(start[0], start[1]),
             &mut buffer[..most],
             &mut first[..firsts],
             &mut second[..seconds],
         ),
-        Party::Receiving(receiver) => deliver::call(stdin, stdout, 
+        Party::Receiving(receiver) => deliver::call(
+            stdin,
+            stdout,
             receiver,
             two(start[1], start[2]),
             &mut buffer[..most],
@@ -123,7 +129,14 @@ fn lend<I: Read, O: Write>(stdin: &mut I, stdout: &mut O,
 }
 
 // A call, and its line.
-fn next_call<I: Read, O: Write>(stdin: &mut I, stdout: &mut O, party: Party, buffer: &mut [u8], first: &mut [u8], second: &mut [u8]) -> Called {
+fn next_call<I: Read, O: Write>(
+    stdin: &mut I,
+    stdout: &mut O,
+    party: Party,
+    buffer: &mut [u8],
+    first: &mut [u8],
+    second: &mut [u8],
+) -> Called {
     let mut start = [0u8; 3];
     if !checks::fills(stdin, &mut start) {
         return Called::Ended;
@@ -142,7 +155,9 @@ fn next_call<I: Read, O: Write>(stdin: &mut I, stdout: &mut O, party: Party, buf
 // ---- a session
 
 // Whether the input has all calls.
-fn calls<I: Read, O: Write>(stdin: &mut I, stdout: &mut O, 
+fn calls<I: Read, O: Write>(
+    stdin: &mut I,
+    stdout: &mut O,
     opened: Party,
     count: usize,
     buffer: &mut [u8],
@@ -167,7 +182,15 @@ fn session<I: Read, O: Write>(stdin: &mut I, stdout: &mut O, opened: Party, coun
     let mut first = [17u8; 152064];
     let mut second = [34u8; 152064];
     checks::say(stdout, b"opened\n");
-    if !calls(stdin, stdout, opened, count, &mut buffer, &mut first, &mut second) {
+    if !calls(
+        stdin,
+        stdout,
+        opened,
+        count,
+        &mut buffer,
+        &mut first,
+        &mut second,
+    ) {
         return false;
     }
     match opened {
@@ -187,23 +210,46 @@ fn refused<O: Write>(stdout: &mut O, why: Refusal) -> bool {
     true
 }
 
-fn open_sender<I: Read, O: Write>(stdin: &mut I, stdout: &mut O, clip: u16, kind: Kind, count: usize) -> bool {
+fn open_sender<I: Read, O: Write>(
+    stdin: &mut I,
+    stdout: &mut O,
+    clip: u16,
+    kind: Kind,
+    count: usize,
+) -> bool {
     let mut number = [0u8; 4];
     if !checks::fills(stdin, &mut number) {
         return false;
     }
     let next = checks::picture_of(number[0], number[1], number[2], number[3]);
     match sender::open(clip, kind) {
-        sender::Opened::Open(sender) => session(stdin, stdout, Party::Sending(send::before(sender, next)), count),
+        sender::Opened::Open(sender) => session(
+            stdin,
+            stdout,
+            Party::Sending(send::before(sender, next)),
+            count,
+        ),
         sender::Opened::Refused(why) => refused(stdout, why),
     }
 }
 
-fn open<I: Read, O: Write>(stdin: &mut I, stdout: &mut O, case: Case, clip: u16, kind: Kind, count: usize) -> bool {
+fn open<I: Read, O: Write>(
+    stdin: &mut I,
+    stdout: &mut O,
+    case: Case,
+    clip: u16,
+    kind: Kind,
+    count: usize,
+) -> bool {
     match case {
         Case::Send => open_sender(stdin, stdout, clip, kind, count),
         Case::Deliver => match standing::open(clip, kind) {
-            standing::Opened::Open(receiver) => session(stdin, stdout, Party::Receiving(receiver), count),
+            standing::Opened::Open(receiver) => session(
+                stdin,
+                stdout,
+                Party::Receiving(receiver),
+                count,
+            ),
             standing::Opened::Refused(why) => refused(stdout, why),
         },
         Case::Other => false,
@@ -218,7 +264,14 @@ fn one<I: Read, O: Write>(stdin: &mut I, stdout: &mut O, case: Case) -> bool {
     }
     let clip = checks::clip_of(start[1], start[2]);
     let count = checks::four(start[3], start[4], start[5], start[6]);
-    open(stdin, stdout, case, clip, checks::kind_named(start[0]), count)
+    open(
+        stdin,
+        stdout,
+        case,
+        clip,
+        checks::kind_named(start[0]),
+        count,
+    )
 }
 
 // Nothing says that the input ends, so the loop counts its turns.
@@ -248,7 +301,9 @@ fn main(rt: HostRuntime) {
     let case = case_named(&word[..count]);
     match case {
         Case::Other => {
-            stderr.write_all(b"usage: test_clips send|deliver < SESSIONS\n").is_ok();
+            stderr
+                .write_all(b"usage: test_clips send|deliver < SESSIONS\n")
+                .is_ok();
         }
         _ => all(&mut stdin, &mut stdout, case),
     }

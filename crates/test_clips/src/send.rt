@@ -1,9 +1,9 @@
 // Descriptions sent: a call is how often it is made in two bytes, which buffer is lent without its last byte in one (0 none, 1 the first store, 2 the second, 3 the output),
 // and the description. The line of its last time: "sent PICTURE BLOCKS" or "refused NUMBER", and the checks of output, first and second store.
-use std::io::{Read, Write};
 use crate::{Called, Party};
 use checks::{Description, part};
 use sender::{Answer, Sender};
+use std::io::{Read, Write};
 
 // The sender as it stands before a later picture: a state is a value, so the clip's end need not be reached by sending.
 pub fn before(sender: Sender, picture: u32) -> Sender {
@@ -29,7 +29,8 @@ fn say_answer<O: Write>(stdout: &mut O, picture: u32, answer: Answer) {
 }
 
 // The same call again and again; what the last one answers is printed.
-fn repeat<O: Write>(stdout: &mut O, 
+fn repeat<O: Write>(
+    stdout: &mut O,
     sender: Sender,
     times: usize,
     head: &[u8],
@@ -53,7 +54,9 @@ fn repeat<O: Write>(stdout: &mut O,
     last.next
 }
 
-pub fn call<I: Read, O: Write>(stdin: &mut I, stdout: &mut O, 
+pub fn call<I: Read, O: Write>(
+    stdin: &mut I,
+    stdout: &mut O,
     sender: Sender,
     times: usize,
     out: &mut [u8],
@@ -70,7 +73,8 @@ pub fn call<I: Read, O: Write>(stdin: &mut I, stdout: &mut O,
     let headed = part(heads, &head);
     let fielded = part(fields, &macroblocks);
     let levelled = part(coefficients, &levels);
-    let next = repeat(stdout, 
+    let next = repeat(
+        stdout,
         sender,
         times,
         &head[..headed],

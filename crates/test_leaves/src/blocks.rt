@@ -4,9 +4,9 @@ ghost use Rattle.std.specs.Prelude.{◌≡◌, ◌+◌, ◌*◌, ◌≤◌, pos,
 ghost use Rattle.laws.specs.Block.{Is};
 ghost use Rattle.test_leaves.specs.Coefficient.{coefficient_of, coefficients_of};
 
-use std::io::{Read, Write};
 use checks::two;
 use quantiser::cut::cut;
+use std::io::{Read, Write};
 
 // -n
 fn minus(n: usize) -> i32
@@ -65,7 +65,7 @@ fn lay(block: [[i32; 8]; 8]) -> [u8; 128] {
 }
 
 // One block, and whether to go on.
-pub fn one<I: Read, O: Write>(stdin: &mut I, stdout: &mut O, ) -> bool {
+pub fn one<I: Read, O: Write>(stdin: &mut I, stdout: &mut O) -> bool {
     let mut bytes = [0u8; 128];
     if !checks::fills(stdin, &mut bytes) {
         return false;

@@ -38,7 +38,7 @@ fn answer<O: Write>(stdout: &mut O, tick: Tick) {
 }
 
 // One tick, and whether to go on.
-pub fn one<I: Read, O: Write>(stdin: &mut I, stdout: &mut O, ) -> bool {
+pub fn one<I: Read, O: Write>(stdin: &mut I, stdout: &mut O) -> bool {
     let mut record = [0u8; 5];
     if !checks::fills(stdin, &mut record) {
         return false;

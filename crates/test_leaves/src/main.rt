@@ -4,8 +4,8 @@
 // record is ignored.
 ghost use Rattle.test_leaves.specs.Words.{TablesLent};
 
-use std::io::{Read, Write};
 use h261_words::WordTables;
+use std::io::{Read, Write};
 
 mod blocks;
 mod due;
@@ -32,12 +32,20 @@ fn case_named<E: Write>(stderr: &mut E, word: &[u8]) -> Case {
     if text::same(word, b"due") {
         return Case::Due;
     }
-    stderr.write_all(b"usage: test_leaves words|h263-words|blocks|due < RECORDS\n").is_ok();
+    stderr
+        .write_all(b"usage: test_leaves words|h263-words|blocks|due < RECORDS\n")
+        .is_ok();
     Case::Other
 }
 
 // One record, and whether to go on.
-fn one<I: Read, O: Write>(stdin: &mut I, stdout: &mut O, case: Case, tables: &WordTables, newer: &h263_words::WordTables) -> bool
+fn one<I: Read, O: Write>(
+    stdin: &mut I,
+    stdout: &mut O,
+    case: Case,
+    tables: &WordTables,
+    newer: &h263_words::WordTables,
+) -> bool
     requires { TablesLent tables.now newer.now }
 {
     match case {
@@ -49,7 +57,13 @@ fn one<I: Read, O: Write>(stdin: &mut I, stdout: &mut O, case: Case, tables: &Wo
 }
 
 // Nothing says that the input ends, so the loop counts its turns.
-fn all<I: Read, O: Write>(stdin: &mut I, stdout: &mut O, case: Case, tables: &WordTables, newer: &h263_words::WordTables)
+fn all<I: Read, O: Write>(
+    stdin: &mut I,
+    stdout: &mut O,
+    case: Case,
+    tables: &WordTables,
+    newer: &h263_words::WordTables,
+)
     requires { TablesLent tables.now newer.now }
 {
     let mut n: u64 = 0;

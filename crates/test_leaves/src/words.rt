@@ -11,12 +11,12 @@ ghost use Rattle.h261_words.specs.Lookup.{Tables};
 ghost use Rattle.h263_words.specs.Lookup.{Tables as NewerTables};
 ghost use Rattle.test_leaves.specs.Words.{TablesLent};
 
-use std::io::{Read, Write};
 use bits::FieldRead;
 use checks::{say, say_number, two};
 use h261_words::{CoefficientRead, WordTables};
 use h263_words::EventRead;
 use refusals::{Reason, Refusal};
+use std::io::{Read, Write};
 
 fn say_refused<O: Write>(stdout: &mut O, r: Refusal) {
     say(stdout, b"refused");
@@ -27,11 +27,14 @@ fn say_refused<O: Write>(stdout: &mut O, r: Refusal) {
     say(stdout, b"\n");
 }
 
-fn say_none<O: Write>(stdout: &mut O, ) {
-    say_refused(stdout, Refusal {
-        reason: Reason::Count,
-        place: 0,
-    });
+fn say_none<O: Write>(stdout: &mut O) {
+    say_refused(
+        stdout,
+        Refusal {
+            reason: Reason::Count,
+            place: 0,
+        },
+    );
 }
 
 fn say_got<O: Write>(stdout: &mut O, meaning: u64, next: usize) {
@@ -76,7 +79,14 @@ fn say_coefficient<O: Write>(stdout: &mut O, r: CoefficientRead) {
     }
 }
 
-fn ask_word<O: Write>(stdout: &mut O, tables: &WordTables, kind: u8, bytes: &[u8], count: usize, at: usize)
+fn ask_word<O: Write>(
+    stdout: &mut O,
+    tables: &WordTables,
+    kind: u8,
+    bytes: &[u8],
+    count: usize,
+    at: usize,
+)
     requires { (Tables tables.now) × (Within bytes.now count at) }
 {
     match kind {
@@ -84,8 +94,14 @@ fn ask_word<O: Write>(stdout: &mut O, tables: &WordTables, kind: u8, bytes: &[u8
         2 => say_field(stdout, h261_words::mtype(tables, bytes, count, at)),
         3 => say_field(stdout, h261_words::mvd(tables, bytes, count, at)),
         4 => say_field(stdout, h261_words::cbp(tables, bytes, count, at)),
-        5 => say_coefficient(stdout, h261_words::coefficient(tables, bytes, count, at, false)),
-        6 => say_coefficient(stdout, h261_words::coefficient(tables, bytes, count, at, true)),
+        5 => say_coefficient(
+            stdout,
+            h261_words::coefficient(tables, bytes, count, at, false),
+        ),
+        6 => say_coefficient(
+            stdout,
+            h261_words::coefficient(tables, bytes, count, at, true),
+        ),
         _ => say_none(stdout),
     }
 }
@@ -132,12 +148,27 @@ fn say_event<O: Write>(stdout: &mut O, r: EventRead) {
     }
 }
 
-fn ask_newer_word<O: Write>(stdout: &mut O, tables: &h263_words::WordTables, kind: u8, bytes: &[u8], count: usize, at: usize)
+fn ask_newer_word<O: Write>(
+    stdout: &mut O,
+    tables: &h263_words::WordTables,
+    kind: u8,
+    bytes: &[u8],
+    count: usize,
+    at: usize,
+)
     requires { (NewerTables tables.now) × (Within bytes.now count at) }
 {
     match kind {
-        8 => say_kind(stdout, h263_words::mcbpc(tables, bytes, count, at, true), true),
-        9 => say_kind(stdout, h263_words::mcbpc(tables, bytes, count, at, false), false),
+        8 => say_kind(
+            stdout,
+            h263_words::mcbpc(tables, bytes, count, at, true),
+            true,
+        ),
+        9 => say_kind(
+            stdout,
+            h263_words::mcbpc(tables, bytes, count, at, false),
+            false,
+        ),
         10 => say_field(stdout, h263_words::cbpy(tables, bytes, count, at)),
         11 => say_field(stdout, h263_words::mvd(tables, bytes, count, at)),
         12 => say_event(stdout, h263_words::event(tables, bytes, count, at)),
@@ -145,7 +176,8 @@ fn ask_newer_word<O: Write>(stdout: &mut O, tables: &h263_words::WordTables, kin
     }
 }
 
-fn ask<O: Write>(stdout: &mut O, 
+fn ask<O: Write>(
+    stdout: &mut O,
     tables: &WordTables,
     newer: &h263_words::WordTables,
     kind: u8,
@@ -185,7 +217,12 @@ fn wide(x: u8) -> usize
     x as usize
 }
 
-fn answer<O: Write>(stdout: &mut O, tables: &WordTables, newer: &h263_words::WordTables, record: &[u8; 32])
+fn answer<O: Write>(
+    stdout: &mut O,
+    tables: &WordTables,
+    newer: &h263_words::WordTables,
+    record: &[u8; 32],
+)
     requires { TablesLent tables.now newer.now }
 {
     let size = wide(record[6]);
@@ -195,7 +232,8 @@ fn answer<O: Write>(stdout: &mut O, tables: &WordTables, newer: &h263_words::Wor
     }
     let end = 8 + size;
     let slice: &[u8] = record;
-    ask(stdout, 
+    ask(
+        stdout,
         tables,
         newer,
         record[0],
@@ -207,7 +245,12 @@ fn answer<O: Write>(stdout: &mut O, tables: &WordTables, newer: &h263_words::Wor
 }
 
 // One record, and whether to go on.
-pub fn one<I: Read, O: Write>(stdin: &mut I, stdout: &mut O, tables: &WordTables, newer: &h263_words::WordTables) -> bool
+pub fn one<I: Read, O: Write>(
+    stdin: &mut I,
+    stdout: &mut O,
+    tables: &WordTables,
+    newer: &h263_words::WordTables,
+) -> bool
     requires { TablesLent tables.now newer.now }
 {
     let mut record = [0u8; 32];

@@ -5,8 +5,8 @@
 // to standard output with the check of 4096 bytes of output and 65 places. A short last record is ignored.
 ghost use Rattle.std.specs.Prelude.{◌≤◌, length};
 
-use std::io::{Read, Write};
 use capture::Replayed;
+use std::io::{Read, Write};
 
 fn say_places<O: Write>(stdout: &mut O, places: &[u64]) {
     let mut i: usize = 0;
@@ -33,7 +33,8 @@ fn say_answer<O: Write>(stdout: &mut O, answer: Replayed) {
 }
 
 // The answer, and both buffers afterwards, of which parts are lent.
-fn answered<O: Write>(stdout: &mut O, 
+fn answered<O: Write>(
+    stdout: &mut O,
     capture: &[u8],
     count: usize,
     room: usize,
@@ -51,7 +52,7 @@ fn answered<O: Write>(stdout: &mut O,
 }
 
 // One record, and whether to go on.
-fn one<I: Read, O: Write>(stdin: &mut I, stdout: &mut O, ) -> bool {
+fn one<I: Read, O: Write>(stdin: &mut I, stdout: &mut O) -> bool {
     let mut start = [0u8; 7];
     if !checks::fills(stdin, &mut start) {
         return false;
@@ -68,7 +69,8 @@ fn one<I: Read, O: Write>(stdin: &mut I, stdout: &mut O, ) -> bool {
     let listed = checks::lent(entries, start[4] == 2);
     let mut out = [165u8; 4096];
     let mut places = [7u64; 65];
-    answered(stdout, 
+    answered(
+        stdout,
         &capture[..bytes],
         count,
         room,

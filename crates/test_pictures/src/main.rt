@@ -4,8 +4,8 @@
 // write.rt and pictures.rt say how both go on. Stops at the end of the input, at a short record, at another kind and at a length beyond the program's room.
 ghost use Rattle.std.specs.Prelude.{◌<◌};
 
-
 use std::io::{Read, Write};
+
 mod pictures;
 mod render;
 mod write;
@@ -35,7 +35,12 @@ fn case_named(word: &[u8]) -> Case {
 }
 
 // One record, and whether to go on.
-fn one<I: Read, O: Write>(stdin: &mut I, stdout: &mut O, case: Case, pattern: &[u8; 152064]) -> bool {
+fn one<I: Read, O: Write>(
+    stdin: &mut I,
+    stdout: &mut O,
+    case: Case,
+    pattern: &[u8; 152064],
+) -> bool {
     let mut start = [0u8; 1];
     if !checks::fills(stdin, &mut start) || 4 < start[0] {
         return false;
@@ -81,7 +86,9 @@ fn main(rt: HostRuntime) {
     let case = case_named(&word[..count]);
     match case {
         Case::Other => {
-            stderr.write_all(b"usage: test_pictures render|write|pictures < RECORDS\n").is_ok();
+            stderr
+                .write_all(b"usage: test_pictures render|write|pictures < RECORDS\n")
+                .is_ok();
         }
         _ => {
             let mut pattern = [0u8; 152064];

@@ -1,11 +1,11 @@
 // Pictures read: a record goes on with N and the slice's length in four bytes each, and the slice. Lines: "accepted DESCRIPTION STORE reads READS" with the two checks and
 // how many fields and codewords were read, "refused NUMBER at PLACE reads READS", "refused 8 at PLACE table TABLE reads READS", "refused 2 reads 0"; "two verdicts" where
 // reading and decoding disagree, and "a refusal that changed a buffer".
-use std::io::{Read, Write};
 use crate::BEFORE;
 use checks::part;
 use coding::Kind;
 use refusals::{Refusal, Verdict};
+use std::io::{Read, Write};
 
 fn say_reads<O: Write>(stdout: &mut O, reads: usize) {
     checks::say(stdout, b" reads");
@@ -13,7 +13,14 @@ fn say_reads<O: Write>(stdout: &mut O, reads: usize) {
     checks::say(stdout, b"\n");
 }
 
-fn say_accepted<O: Write>(stdout: &mut O, reads: usize, head: &[u8], macroblocks: &[u8], levels: &[u8], store: &[u8]) {
+fn say_accepted<O: Write>(
+    stdout: &mut O,
+    reads: usize,
+    head: &[u8],
+    macroblocks: &[u8],
+    levels: &[u8],
+    store: &[u8],
+) {
     checks::say(stdout, b"accepted");
     checks::say_number(stdout, checks::check_description(head, macroblocks, levels));
     checks::say_check(stdout, store);
@@ -49,7 +56,8 @@ fn unchanged(head: &[u8], macroblocks: &[u8], levels: &[u8], store: &[u8]) -> bo
         && checks::is_filled(store, BEFORE)
 }
 
-fn say_verdict<O: Write>(stdout: &mut O, 
+fn say_verdict<O: Write>(
+    stdout: &mut O,
     verdict: Verdict,
     reads: usize,
     decoded: Verdict,
@@ -75,7 +83,8 @@ fn say_verdict<O: Write>(stdout: &mut O,
     }
 }
 
-fn say<O: Write>(stdout: &mut O, 
+fn say<O: Write>(
+    stdout: &mut O,
     kind: Kind,
     bytes: &[u8],
     count: usize,
@@ -88,7 +97,8 @@ fn say<O: Write>(stdout: &mut O,
     let read = coding::read(kind, bytes, count, head, macroblocks, levels);
     let verdict = read.verdict;
     let decoded = decoder::decode(bytes, count, kind, reference, store);
-    say_verdict(stdout, 
+    say_verdict(
+        stdout,
         verdict,
         read.reads,
         decoded,
@@ -99,7 +109,13 @@ fn say<O: Write>(stdout: &mut O,
     );
 }
 
-fn with_buffers<O: Write>(stdout: &mut O, kind: Kind, bytes: &[u8], count: usize, pattern: &[u8; 152064]) {
+fn with_buffers<O: Write>(
+    stdout: &mut O,
+    kind: Kind,
+    bytes: &[u8],
+    count: usize,
+    pattern: &[u8; 152064],
+) {
     let mut head = [BEFORE; 23];
     let mut macroblocks = [BEFORE; 1584];
     let mut levels = [BEFORE; 152064];
@@ -111,7 +127,8 @@ fn with_buffers<O: Write>(stdout: &mut O, kind: Kind, bytes: &[u8], count: usize
     let length = size::store_length(coding::size_of(kind));
     let shown = part(length, reference);
     let samples = part(length, &store);
-    say(stdout, 
+    say(
+        stdout,
         kind,
         bytes,
         count,
@@ -124,7 +141,12 @@ fn with_buffers<O: Write>(stdout: &mut O, kind: Kind, bytes: &[u8], count: usize
 }
 
 // The rest of a record, and whether to go on.
-pub fn one<I: Read, O: Write>(stdin: &mut I, stdout: &mut O, kind: Kind, pattern: &[u8; 152064]) -> bool {
+pub fn one<I: Read, O: Write>(
+    stdin: &mut I,
+    stdout: &mut O,
+    kind: Kind,
+    pattern: &[u8; 152064],
+) -> bool {
     let mut start = [0u8; 8];
     if !checks::fills(stdin, &mut start) {
         return false;

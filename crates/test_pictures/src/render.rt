@@ -1,8 +1,8 @@
 // Pictures drawn: a record goes on with head, macroblocks, levels and reference store in the kind's lengths, and has the line "CHECK" with the check of the store, or
 // "invalid".
-use std::io::{Read, Write};
 use checks::{fills_part, part};
 use coding::Kind;
+use std::io::{Read, Write};
 
 // Whether the description is valid, and then drawn; both stores have the picture's length: the arrays have room for any.
 fn draws(
@@ -27,7 +27,8 @@ fn draws(
     true
 }
 
-fn say<O: Write>(stdout: &mut O, 
+fn say<O: Write>(
+    stdout: &mut O,
     kind: Kind,
     head: &[u8],
     macroblocks: &[u8],
@@ -63,7 +64,8 @@ pub fn one<I: Read, O: Write>(stdin: &mut I, stdout: &mut O, kind: Kind) -> bool
     let coefficients = part(coding::levels_length(kind), &levels);
     let before = part(length, &reference);
     let after = part(length, &store);
-    say(stdout, 
+    say(
+        stdout,
         kind,
         &head[..heads],
         &macroblocks[..fields],

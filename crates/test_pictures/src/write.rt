@@ -1,10 +1,10 @@
 // Pictures written: a record goes on with the output's length in four bytes and the description. Every byte of the output is 165 before. Lines: "written N CHECK" and
 // "refused NUMBER CHECK" with the check of the output; "not read back" where reading N bits of it doesn't give the description again.
-use std::io::{Read, Write};
 use crate::BEFORE;
 use checks::{Description, part};
 use coding::Kind;
 use refusals::{Verdict, Written};
+use std::io::{Read, Write};
 
 // Whether the bits are read as this description, into lent scratch.
 fn gives(
@@ -57,7 +57,14 @@ fn reads_back(
     )
 }
 
-fn say<O: Write>(stdout: &mut O, kind: Kind, head: &[u8], macroblocks: &[u8], levels: &[u8], out: &mut [u8]) {
+fn say<O: Write>(
+    stdout: &mut O,
+    kind: Kind,
+    head: &[u8],
+    macroblocks: &[u8],
+    levels: &[u8],
+    out: &mut [u8],
+) {
     let written = coding::write(kind, head, macroblocks, levels, out);
     match written {
         Written::Bits(count) => {
@@ -100,7 +107,8 @@ pub fn one<I: Read, O: Write>(stdin: &mut I, stdout: &mut O, kind: Kind) -> bool
     let headed = part(heads, &head);
     let fielded = part(fields, &macroblocks);
     let levelled = part(coefficients, &levels);
-    say(stdout, 
+    say(
+        stdout,
         kind,
         &head[..headed],
         &macroblocks[..fielded],

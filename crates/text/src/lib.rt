@@ -1,4 +1,6 @@
 // Words compared; words and decimal numbers put into a lent buffer one after another.
+#![tactic(auto)]
+
 ghost use Rattle.std.specs.Prelude.{◌≡◌, ◌+◌, ◌≤◌, length};
 ghost use Rattle.laws.specs.Lists.{alike};
 ghost use Rattle.refusals.specs.Told.{numbers_of};
