@@ -6,4 +6,3 @@ pub mod RuleReads
 pub mod Uncounted
 pub mod PictureAnswer
 pub mod HeaderRow
-pub mod Calls
