@@ -1,4 +1,6 @@
 // The tick of a finished picture, and its due time.
+#![tactic(auto)]
+
 ghost use Rattle.std.specs.Prelude.{◌≡◌, ◌+◌, ◌≤◌, eqb};
 ghost use Rattle.laws.specs.Choice.{both};
 ghost use Rattle.ticks.specs.Tick.{tick_number, is_exact, tick_as, tr_difference, tick_above, cut_tick, first_tick, later_tick};

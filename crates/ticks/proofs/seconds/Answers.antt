@@ -9,16 +9,12 @@ use native.Mathlib.Omega.{arith}
 use lib.Ieee.{div, of_int, of_bits, in_float}
 use Rattle.ticks.specs.Due.{seconds_of}
 use Rattle.ticks.proofs.DueLaws.{due_3750}
-use Rattle.ticks.proofs.seconds.Statement.{statement}
-use Rattle.ticks.proofs.seconds.Tie as tie
+use Rattle.ticks.proofs.seconds.Goals as goal
 
-int-to-float-result : tie.Need-int-to-float-result
+pub int_to_float-result : goal.int_to_float-result
 unfolding in_float
-int-to-float-result c = passes _ (le-leb (1001 * c.before.args.tick) (2 ^ 53) (omega arith))
+int_to_float-result c = passes _ (le-leb (1001 * c.args.tick) (2 ^ 53) (omega arith))
 
-returns : tie.Need-returns
+pub returns : goal.returns
 unfolding seconds_of div of_int of_bits
-returns c = (search rules, λ e. ap seconds_of e ∙ due_3750)
-
-pub seconds_spec : {M : Type 1} → statement M
-seconds_spec = tie.close (tie.spec (λ c. search rules) int-to-float-result returns)
+returns c = record { value = search rules; exact = λ e. ap seconds_of e ∙ due_3750 }
