@@ -1,7 +1,7 @@
 // What a program's run met, whether it goes on, and the status that it ends with; what it says of blocks that led to no picture; an input that fails told from its end.
 #![tactic(auto)]
 
-ghost use Rattle.std.specs.Prelude.{◌≡◌, true, false};
+ghost use Rattle.std.specs.Prelude.{◌≡◌, ◌<◌, ◌^◌, true, false};
 ghost use Rattle.io.specs.Counts.{IsPrefixLen};
 ghost use Rattle.account.specs.Status.{done_status, status_of};
 ghost use Rattle.std.specs.Process.{exit_status};
@@ -94,8 +94,10 @@ pub fn arg(env: &impl Env, i: usize, word: &mut [u8]) -> usize
     }
 }
 
-// How many words there are, the program's own name among them.
-pub fn arg_count(env: &impl Env) -> usize {
+// How many words there are, the program's own name among them: no contract can say how many a program is given.
+pub fn arg_count(env: &impl Env) -> usize
+    ensures { result < 2 ^ 64 }
+{
     let mut word = [0u8; 1];
     for i in 0..usize::MAX {
         if let Err(FillError::NotPresent) = env.arg(i, &mut word) {

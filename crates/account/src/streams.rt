@@ -1,7 +1,8 @@
-// A program's streams, and why a read or a write of them failed last. After a write that nobody reads (EPIPE) nothing more is written: the older programs were ended there by
-// SIGPIPE, which today's start-up code ignores.
-ghost use Rattle.std.specs.Prelude.{◌≡◌, true};
+// A program's streams, and why a read or a write of them failed last. After a write that nobody reads (EPIPE) nothing more is written: a program that SIGPIPE ends would stop there,
+// and start-up code ignores that signal here.
+ghost use Rattle.std.specs.Prelude.{◌≡◌, true, false, None, Some};
 ghost use Rattle.std.specs.Io.KnownBytes.{Appends};
+ghost use Rattle.text.specs.Text.{decimal};
 
 use std::io::{Cursor, ErrorKind, Write};
 
@@ -22,14 +23,26 @@ pub struct Streams<I, O, E> {
     pub broken: bool,
 }
 
-pub fn reading<R>(from: R) -> Source<R> {
+// A source of which no read has failed.
+pub fn reading<R>(from: R) -> Source<R>
+    ensures from { result.from ≡ from }
+    ensures failure { result.failure ≡ None }
+{
     Source {
         from,
         failure: None,
     }
 }
 
-pub fn over<I, O, E>(stdin: I, stdout: O, stderr: E) -> Streams<I, O, E> {
+// Streams of which no read and no write has failed.
+pub fn over<I, O, E>(stdin: I, stdout: O, stderr: E) -> Streams<I, O, E>
+    ensures stdin { result.stdin.from ≡ stdin }
+    ensures stdin_failure { result.stdin.failure ≡ None }
+    ensures stdout { result.stdout ≡ stdout }
+    ensures stderr { result.stderr ≡ stderr }
+    ensures failure { result.failure ≡ None }
+    ensures broken { result.broken ≡ false }
+{
     Streams {
         stdin: reading(stdin),
         stdout,
@@ -41,7 +54,10 @@ pub fn over<I, O, E>(stdin: I, stdout: O, stderr: E) -> Streams<I, O, E> {
 
 // What is kept of a write that failed.
 fn note<I, O, E>(streams: &mut Streams<I, O, E>, why: std::io::Error)
-    ensures { streams.new.stdout ≡ streams.old.stdout }
+    ensures stdin { streams.new.stdin ≡ streams.old.stdin }
+    ensures stdout { streams.new.stdout ≡ streams.old.stdout }
+    ensures stderr { streams.new.stderr ≡ streams.old.stderr }
+    ensures failure { streams.new.failure ≡ Some why }
 {
     if why.kind() == ErrorKind::BrokenPipe {
         streams.broken = true;
@@ -49,9 +65,12 @@ fn note<I, O, E>(streams: &mut Streams<I, O, E>, why: std::io::Error)
     streams.failure = Some(why);
 }
 
-// Whether all of the bytes were written to standard output.
+// Whether all of the bytes were written to standard output; after a write that nobody reads nothing is.
 pub fn put<I, O: Write, E>(streams: &mut Streams<I, O, E>, bytes: &[u8]) -> bool
-    ensures { result ≡ true → Appends (O.contents streams.old.stdout) (O.contents streams.new.stdout) bytes.now }
+    ensures written { result ≡ true → Appends (O.contents streams.old.stdout) (O.contents streams.new.stdout) bytes.now }
+    ensures broken { streams.old.broken ≡ true → result ≡ false }
+    ensures stdin { streams.new.stdin ≡ streams.old.stdin }
+    ensures stderr { streams.new.stderr ≡ streams.old.stderr }
 {
     if streams.broken {
         return false;
@@ -66,7 +85,12 @@ pub fn put<I, O: Write, E>(streams: &mut Streams<I, O, E>, bytes: &[u8]) -> bool
 }
 
 // The same of standard error.
-pub fn say<I, O, E: Write>(streams: &mut Streams<I, O, E>, bytes: &[u8]) -> bool {
+pub fn say<I, O, E: Write>(streams: &mut Streams<I, O, E>, bytes: &[u8]) -> bool
+    ensures written { result ≡ true → Appends (E.contents streams.old.stderr) (E.contents streams.new.stderr) bytes.now }
+    ensures broken { streams.old.broken ≡ true → result ≡ false }
+    ensures stdin { streams.new.stdin ≡ streams.old.stdin }
+    ensures stdout { streams.new.stdout ≡ streams.old.stdout }
+{
     if streams.broken {
         return false;
     }
@@ -79,14 +103,23 @@ pub fn say<I, O, E: Write>(streams: &mut Streams<I, O, E>, bytes: &[u8]) -> bool
     }
 }
 
-pub fn say_number<I, O, E: Write>(streams: &mut Streams<I, O, E>, n: u64) -> bool {
+// The same of a number's digits.
+pub fn say_number<I, O, E: Write>(streams: &mut Streams<I, O, E>, n: u64) -> bool
+    ensures written { result ≡ true → Appends (E.contents streams.old.stderr) (E.contents streams.new.stderr) (decimal n) }
+    ensures broken { streams.old.broken ≡ true → result ≡ false }
+    ensures stdin { streams.new.stdin ≡ streams.old.stdin }
+    ensures stdout { streams.new.stdout ≡ streams.old.stdout }
+{
     let mut digits = [0u8; 20];
-    let count = io::decimal(n, &mut digits);
+    let count = text::put_number(n, 0, &mut digits);
     say(streams, &digits[..count])
 }
 
 // The system's words for a failure, without the number that std adds: "Is a directory", of "Is a directory (os error 21)".
-fn say_reason<I, O, E: Write>(streams: &mut Streams<I, O, E>, why: std::io::Error) {
+fn say_reason<I, O, E: Write>(streams: &mut Streams<I, O, E>, why: std::io::Error)
+    ensures stdin { streams.new.stdin ≡ streams.old.stdin }
+    ensures stdout { streams.new.stdout ≡ streams.old.stdout }
+{
     let mut cursor = Cursor::new([0u8; 256]);
     let written = write!(cursor, "{why}");
     let count = cursor.position().min(256) as usize;
@@ -101,12 +134,15 @@ fn say_reason<I, O, E: Write>(streams: &mut Streams<I, O, E>, why: std::io::Erro
     }
 }
 
-// A line on standard error: what failed, and why.
+// A line on standard error: what failed, and why. What the system says of a failure no contract can tell.
 pub fn fail<I, O, E: Write>(
     streams: &mut Streams<I, O, E>,
     what: &[u8],
     why: Option<std::io::Error>,
-) {
+)
+    ensures stdin { streams.new.stdin ≡ streams.old.stdin }
+    ensures stdout { streams.new.stdout ≡ streams.old.stdout }
+{
     say(streams, what);
     say(streams, b": ");
     if let Some(error) = why {

@@ -247,7 +247,9 @@ pub fn say_refusal<O: Write>(stdout: &mut O, why: Refusal)
 }
 
 // Puts word i at the start of `word` and answers its length, or 0 where it is missing or longer than that.
-pub fn arg(env: &impl Env, i: usize, word: &mut [u8]) -> usize {
+pub fn arg(env: &impl Env, i: usize, word: &mut [u8]) -> usize
+    ensures { IsPrefixLen result word.new }
+{
     match env.arg(i, word) {
         Ok(count) => count,
         Err(_) => 0,
