@@ -1,4 +1,6 @@
 // What is shown between two finished pictures, a frame for each tick.
+#![tactic(auto)]
+
 ghost use Rattle.std.specs.Prelude.{◌≡◌, ◌+◌, ◌-◌, eqb};
 ghost use Rattle.pace.specs.Between.{kept_step, ticks_between, frames_between};
 
