@@ -14,14 +14,14 @@ use lib.ListN.{length, drop, replicate, length-append, length-drop, length-repli
 use Rattle.laws.specs.Choice.{pick, both, either}
 use Rattle.laws.proofs.Choice.{both_left, both_right, true-T}
 use Rattle.refusals.specs.declared.Reason.{Reason}
-use Rattle.refusals.specs.declared.Reason.TheVariants.{BitsEnd, NoCodeword, VectorOut}
+use Rattle.refusals.specs.declared.Reason.TheVariants.{BitsEnd, NoCodeword}
 use Rattle.refusals.specs.declared.Table.{Table}
 use Rattle.refusals.specs.declared.Refusal.{Refusal}
 use Rattle.refusals.specs.Number.{number, refusal}
 use Rattle.bits.specs.Bits.{Bit, num}
-use Rattle.bits.specs.Places.{Places, plain, counted, listed, ListedPlace, ListedRefusal, PlaceIn, RefusedIn, bit_in, past_in, stop_in, seen_place, seen_refusal, total_width}
+use Rattle.bits.specs.Places.{Places, plain, counted, listed, ListedPlace, ListedRefusal, past_in, stop_in, seen_place, total_width}
 use Rattle.bits.specs.declared.Place.{Place}
-use Rattle.bits.specs.Read.{ReadIn, Read, got, refused, endless, ReaderIn, AnyReader, Reader, failed, next, ◌>>=◌, done, field_from, field, Judged, fine, against, settle, judged_read, moved_read, whole, or_end, loop, seen_read}
+use Rattle.bits.specs.Read.{ReadIn, Read, got, refused, endless, ReaderIn, AnyReader, Reader, next, ◌>>=◌, done, field_from, field, Judged, fine, against, settle, judged_read, moved_read, whole, or_end, loop, seen_read}
 use Rattle.bits.specs.Code.{Entry, entry, CodeTable, starts, longer, lookup, word}
 use Rattle.bits.proofs.Codes.{each, starts-length}
 use Rattle.bits.proofs.Numbers.{num_small}

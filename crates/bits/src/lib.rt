@@ -1,4 +1,6 @@
 // Bits of lent bytes, most significant first: fields, codewords by a tree and by entries for their first bits, and the bit writer.
+#![tactic(auto)]
+
 ghost use Rattle.std.specs.Prelude.{◌≡◌, ◌+◌, ◌*◌, ◌≤◌, ◌<◌, length, get_or};
 ghost use Rattle.bits.specs.Bits.{bits_of, value, bits_left};
 ghost use Rattle.bits.specs.Read.{field as field_read};
