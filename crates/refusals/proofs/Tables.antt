@@ -9,7 +9,7 @@ use Rattle.refusals.specs.declared.Table.{Table}
 use Rattle.refusals.specs.declared.Table.TheVariants.{Mba, Mtype, Mvd, Cbp, Tcoeff, McbpcIntra, McbpcInter, Cbpy, Mvd263, Tcoef263}
 use Rattle.refusals.specs.declared.Verdict.TheVariants.{Accepted, Refused}
 use Rattle.refusals.specs.Number.{number, table_number, read_table}
-use Rattle.refusals.specs.Told.{Numbers, untabled}
+use Rattle.refusals.specs.Told.{untabled}
 use Rattle.refusals.specs.Tables.{Tabled, TabledExactly, VerdictStays}
 
 -- no table: any number but 8

@@ -1,5 +1,5 @@
 -- What a writer answers is the one answer that is told so. Assumes nothing.
-use mathlib.Core.Path.{◌≡◌, sym, ap}
+use mathlib.Core.Path.{sym, ap}
 use Rattle.refusals.specs.declared.Written.TheVariants.{Bits, Refused}
 use Rattle.refusals.specs.Writing.{WrittenToldOnce}
 use Rattle.refusals.proofs.Told.{accepted_once, refused_once, told_apart}
