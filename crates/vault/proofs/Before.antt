@@ -3,22 +3,22 @@
 use mathlib.Core.Path.{◌≡◌, refl, sym, ap, ◌∙◌}
 use mathlib.Core.Bool.{Bool, true, false}
 use mathlib.Core.List.{List, [], ◌∷◌, ◌++◌}
-use Prim.Native.Nat.{ℕ, zero, suc, ◌+◌, ◌*◌, ◌/◌, ◌%◌, ◌≤◌, ◌<◌}
+use Prim.Native.Nat.{ℕ, zero, suc, ◌/◌, ◌%◌, ◌≤◌, ◌<◌}
 use native.Mathlib.Omega.{arith}
-use lib.ListN.{length, get_or}
+use lib.ListN.{length}
 use lib.Dec.{eqb, leb, ltb}
 use borrow.Author.Tests.{ltb-true, ltb-false, lt-ltb, ne_eqb}
 use Rattle.laws.specs.Choice.{pick, both}
 use Rattle.laws.proofs.Choice.{two_of, first_no, second_no}
 use Rattle.size.specs.declared.Size.{Size}
-use Rattle.refusals.specs.Told.{Told, accepted, refused}
-use Rattle.refusals.proofs.Told.{accepted_once, told_apart}
+use Rattle.refusals.specs.Told.{accepted, refused}
+use Rattle.refusals.proofs.Told.{told_apart}
 use Rattle.vault.specs.declared.Standard.TheVariants.{H261}
 use Rattle.vault.specs.declared.Header.{Header}
-use Rattle.vault.specs.Block.{pair_at, two_bytes, clip_of, picture_of, part_of, marks_of, last_of, refresh_of, standard_bit, standard_in, used_of, payload_of, zero_of, check_sum_of, header_of, pictures, clip_rule, part_rule, refresh_rule, used_rule, header_ruled, unused_clear, fields_follow, sum_of, check_of, of_clip, judge_of, low_marks, head_bytes, end_bytes, body_for, block_for}
+use Rattle.vault.specs.Block.{pair_at, two_bytes, clip_of, picture_of, part_of, marks_of, last_of, refresh_of, standard_bit, standard_in, used_of, payload_of, zero_of, check_sum_of, header_of, pictures, clip_rule, header_ruled, unused_clear, fields_follow, sum_of, check_of, of_clip, judge_of, body_for, block_for}
 use Rattle.vault.specs.Parts.{part_count, payload_at, header_at, block_at, first_blocks}
 use Rattle.vault.specs.Before.{pictures_before, header_before, ruled_before, follow_before, check_before, judge_before, body_before, block_before, first_blocks_before, EarlierJudgedAlike, StoredKept, LaterRefusedBefore, TakenRefusedBefore, LaterNeverGoodBefore, EarlierMadeAlike, LaterPartsRefusedBefore}
-use Rattle.vault.proofs.Judged.{Sound, good_of, good_sound, own_clip, judged_good}
+use Rattle.vault.proofs.Judged.{good_of, good_sound, own_clip, judged_good}
 use Rattle.vault.proofs.Standards.{marks_alike, low_unmarked, stays, marks_kept}
 use Rattle.vault.proofs.Collected.{at_judged}
 

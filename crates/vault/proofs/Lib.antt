@@ -1,9 +1,11 @@
 pub mod Before
+pub mod BlocksStored
 pub mod Clear
 pub mod Collected
 pub mod Cut
 pub mod Judged
 pub mod KeptLaws
 pub mod Made
+pub mod PayloadStored
 pub mod Renewed
 pub mod Standards

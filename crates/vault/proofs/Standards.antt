@@ -2,7 +2,7 @@
 use mathlib.Core.Path.{◌≡◌, refl, sym, ap, ◌∙◌}
 use mathlib.Core.Bool.{Bool, true, false}
 use mathlib.Core.List.{List}
-use Prim.Native.Nat.{ℕ, ◌+◌, ◌/◌, ◌%◌}
+use Prim.Native.Nat.{ℕ, ◌/◌, ◌%◌}
 use native.Mathlib.Omega.{arith}
 use lib.ListN.{length}
 use lib.Dec.{eqb, leb}
@@ -14,7 +14,7 @@ use Rattle.refusals.specs.Told.{Told, accepted, refused_by, refused}
 use Rattle.vault.specs.declared.Standard.{Standard}
 use Rattle.vault.specs.declared.Standard.TheVariants.{H261, H263}
 use Rattle.vault.specs.declared.Header.{Header}
-use Rattle.vault.specs.Block.{marks_of, standard_bit, standard_in, used_of, payload_of, zero_of, check_sum_of, header_of, header_ruled, unused_clear, fields_follow, sum_of, check_of, of_clip, same_standard, of_standard, judge_of, low_marks, standard_mark}
+use Rattle.vault.specs.Block.{marks_of, standard_bit, standard_in, used_of, payload_of, zero_of, check_sum_of, header_of, header_ruled, unused_clear, fields_follow, sum_of, check_of, of_clip, same_standard, of_standard, judge_of, standard_mark}
 use Rattle.vault.specs.Standards.{follow_unmarked, check_unmarked, judge_unmarked, UnmarkedJudgedAlike, MarkedOtherwise, StandardBelieved, MarksKept}
 use Rattle.vault.proofs.Judged.{good_of, good_sound, same_so, own_clip, own_standard, good_of_clip}
 

@@ -1,5 +1,4 @@
 -- `vault::of_clip` meets its contract: by what `check` found. Assumes nothing.
-use borrow.Author.Rules.{rules}
 use borrow.Author.Tests.{eq-eqb, ne_eqb}
 use mathlib.Core.Path.{◌≡◌, sym, ap, ◌∙◌}
 use Prim.Native.Nat.{ℕ}
@@ -7,8 +6,7 @@ use Rattle.refusals.specs.Number.{number, read_table}
 use Rattle.refusals.specs.Told.{Told, accepted, refused}
 use Rattle.vault.specs.declared.Header.{Header}
 use Rattle.vault.specs.Block.{told_checked, of_clip}
-use Rattle.vault.proofs.of_clip.Statement.{statement}
-use Rattle.vault.proofs.of_clip.Tie as tie
+use Rattle.vault.proofs.of_clip.Goals as goal
 
 module _ {clip : ℕ} {found : Told Header} where
   own : (header : Header) → accepted header ≡ found → header.clip ≡ clip → accepted header ≡ of_clip clip found
@@ -23,20 +21,13 @@ module _ {clip : ℕ} {found : Told Header} where
       is : (header : Header) → (header.clip ≡ clip → ⊥) → of_clip clip (accepted header) ≡ refused 23 0
       is header differs = rw (ne_eqb header.clip clip differs)
 
-returns : tie.Need-returns
-returns c = own _ (sym (ap told_checked c.before.before.before.header.given.1) ∙ c.before.before.before.before.before.check.ensures) c.if1.true
+pub returns-then-header-clip : goal.returns-then-header-clip
+returns-then-header-clip c = own _ (sym (ap told_checked c.in-Good.is) ∙ c.check.ensures) c.if-header-clip.true
 
-returns-2 : tie.Need-returns-2
+pub returns-else-header-clip : goal.returns-else-header-clip
 unfolding number read_table
-returns-2 c =
-    let at_header = c.before.before.before.before in
-    let at_check = at_header.before.before in
-    ap told_checked c.refused.ensures ∙ other _ (sym (ap told_checked at_header.header.given.1) ∙ at_check.check.ensures) c.before.if1.false
+returns-else-header-clip c =
+    ap told_checked c.refused.ensures ∙ other _ (sym (ap told_checked c.in-Good.is) ∙ c.check.ensures) c.if-header-clip.false
 
-returns-3 : tie.Need-returns-3
-returns-3 c = ap (of_clip c.before.before.before.before.before.args.clip) (sym (ap told_checked c.before.refusal.given.1) ∙ c.before.before.before.check.ensures)
-
-pub of_clip_spec : {M : Type 1} → statement M
-of_clip_spec =
-    tie.close
-    (tie.spec (λ c κs. search rules) (λ c. search rules) (λ c κs. search rules) (λ c. search rules) returns returns-2 returns-3)
+pub returns-in-Refused : goal.returns-in-Refused
+returns-in-Refused c = ap (of_clip c.args.clip) (sym (ap told_checked c.in-Refused.is) ∙ c.check.ensures)

@@ -1,15 +1,12 @@
 -- `vault::unused_weight` meets its contract: the cases of a byte before, after and around bit number `used`. Assumes nothing.
-use borrow.Author.Rules.{rules}
 use native.Mathlib.Omega.{arith}
 use mathlib.Core.Path.{◌≡◌, ap, ◌∙◌}
 use Prim.Native.Nat.{ℕ, ◌+◌, ◌-◌, ◌*◌, ◌%◌, ◌^◌, ◌≤◌, ◌<◌}
 use lib.Dec.{eqb, eqb→eq}
 use Rattle.laws.proofs.Table.{all_at}
 use Rattle.vault.specs.Block.{unused}
-use Rattle.vault.proofs.unused_weight.Statement.{statement}
-use Rattle.vault.proofs.unused_weight.Tie as tie
+use Rattle.vault.proofs.unused_weight.Goals as goal
 
--- 2 to as many bits as a byte has
 shifted : (n : ℕ) → n < 9 → (1 * 2 ^ n) % 2 ^ 32 ≡ 2 ^ n
 shifted n l = eqb→eq _ _ (all_at 9 (λ k. eqb ((1 * 2 ^ k) % 2 ^ 32) (2 ^ k)) tt n l)
 
@@ -24,17 +21,11 @@ some used i l =
     let e : 8 * (i + 1) - used ≡ unused used i = omega arith in
     shifted (8 * (i + 1) - used) (omega arith) ∙ ap (λ (n : ℕ). 2 ^ n) e
 
-returns : tie.Need-returns
-returns c = none c.before.args.used c.before.args.i c.if1.true
+pub returns-then-end-used : goal.returns-then-end-used
+returns-then-end-used c = none c.args.used c.args.i c.if-end-used.true
 
-returns-2 : tie.Need-returns-2
-returns-2 c = all c.before.before.args.used c.before.before.args.i c.if2.true
+pub returns-then-bits-gt8 : goal.returns-then-bits-gt8
+returns-then-bits-gt8 c = all c.args.used c.args.i c.if-bits-gt8.true
 
-returns-3 : tie.Need-returns-3
-returns-3 c = some c.before.before.args.used c.before.before.args.i c.if2.false
-
-pub unused_weight_spec : {M : Type 1} → statement M
-unused_weight_spec =
-    tie.close
-    (tie.spec (λ c. search rules) (λ c. search rules) returns (λ c. search rules) returns-2 (λ c. search rules) (λ c. search rules)
-    returns-3)
+pub returns : goal.returns
+returns c = some c.args.used c.args.i c.if-bits-gt8.false
