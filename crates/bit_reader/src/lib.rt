@@ -1,6 +1,8 @@
 // "A bit reader carries the lent bytes together with its place." The functions over it are few and thin: `field` takes it apart and calls the
 // covered function on the slice and the numbers, and promises the same by the same definition; `after` goes on with the same bytes. A read
 // answers no reader, since an enum can't hold a reference.
+#![tactic(auto)]
+
 ghost use Rattle.std.specs.Prelude.{◌≡◌, ◌≤◌};
 ghost use Rattle.bits.specs.Read.{field as field_read};
 ghost use Rattle.bits.specs.Answer.{as_field};
