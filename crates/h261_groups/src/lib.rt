@@ -1,4 +1,6 @@
 // QCIF and CIF, the formats of H.261: their sizes, the order of groups and macroblocks, the lengths of a description.
+#![tactic(auto)]
+
 ghost use Rattle.std.specs.Prelude.{◌≡◌};
 ghost use Rattle.size.specs.Size.{width, height, limit, output_length};
 ghost use Rattle.h261_groups.specs.Format.{size_of, format_bit, head_length, macroblocks_length, levels_length};

@@ -1,0 +1,10 @@
+-- `h261_groups::macroblocks_length` meets its contract: four bytes a macroblock. Assumes nothing.
+use mathlib.Core.Path.{sym, ap}
+use Rattle.h261_groups.specs.Format.{macroblocks_length}
+use Rattle.h261_groups.proofs.macroblocks_length.Goals as goal
+
+pub returns-in-Qcif : goal.returns-in-Qcif
+returns-in-Qcif c = sym (ap macroblocks_length c.in-Qcif.is)
+
+pub returns-in-Cif : goal.returns-in-Cif
+returns-in-Cif c = sym (ap macroblocks_length c.in-Cif.is)
