@@ -169,7 +169,7 @@ put_macroblocks_lem : (each g : ℕ) (d : Flat) (ms : List Macroblock)
     → put_macroblocks each g d ms ≡ flat d.head (stores each 4 store_fields g d.macroblocks ms) (stores each 384 store_levels g d.levels ms)
 unfolding put_macroblocks stores
 put_macroblocks_lem each g d [] = refl
-put_macroblocks_lem each g d (m ∷ ms) = put_macroblocks_lem each g _ ms
+put_macroblocks_lem each g d (m ∷ ms) = put_macroblocks_lem each g (record { head = d.head; macroblocks = sets d.macroblocks (index each g m.address * 4) (fields_of m); levels = put_blocks d.levels (index each g m.address * 384) m.blocks }) ms
 
 -- ---- the groups
 unfoldable pub columns : ℕ → ℕ → (Macroblock → List ℕ) → List Group → List ℕ
