@@ -11,7 +11,7 @@ use Rattle.refusals.specs.declared.Verdict.TheVariants.{Accepted}
 use Rattle.refusals.specs.Told.{told_verdict, verdict_on, found_or}
 use Rattle.bits.specs.Bits.{bits_left}
 use Rattle.bits.specs.Places.{counted}
-use Rattle.bits.specs.Read.{ReadIn, Read, got, refused, endless}
+use Rattle.bits.specs.Read.{ReadIn, Read, got, refused}
 use Rattle.bits.specs.declared.Place.{Place}
 use Rattle.bits.specs.declared.Stopped.{Stopped}
 use Rattle.fields.specs.Answer.{found, leaving, refused_picture}

@@ -1,5 +1,7 @@
 // Fields under a rule: a value that is expected, a quantiser, spares; and the answer of a layer that is made of them. From here on a place counts:
 // a layer is given the place and the number of reads before it, and answers both, and a refusal goes up with the number of reads up to it.
+#![tactic(auto)]
+
 ghost use Rattle.std.specs.Prelude.{◌≡◌, ◌*◌, ◌≤◌, ◌<◌, ltb};
 ghost use Rattle.laws.specs.Choice.{either};
 ghost use Rattle.bits.specs.Bits.{bits_left};
