@@ -41,8 +41,8 @@ unfolding along
 along_low f x s = low_sum 8 _ (λ k l. low_mul (s k) (A_low k x))
 
 -- ---- on the way through a column
-pub column_small : {t : List (List ℤ)} (x : ℕ) {g : List ℤ} → Small 46546944 t → Line (down_at t x) g → SmallRow 46555136 g
-column_small {t} x s h = line_low h down_low
+pub column_small : (t : List (List ℤ)) (x : ℕ) {g : List ℤ} → Small 46546944 t → Line (down_at t x) g → SmallRow 46555136 g
+column_small t x s h = line_low h down_low
   where
     down_low : (v : ℕ) → Low 46555136 (down_at t x v)
     down_low zero = low_add {b = pos 8192} {n = 8192} (s 0 x) (record { low = le_refl 8192 })

@@ -4,6 +4,8 @@
 // one sign and then the other, and the compiler doesn't take the sums apart. Both passes stay within 32 bits: what the rows give is split into
 // t = 8192 high + low, and (S + 2^24) / 2^25 is then (H + L / 8192) / 4096, rounded down each time, where H and L are the sums of the two parts and the
 // rounding term 2^24 = 8192 · 2048 stands in the first number of the line.
+#![tactic(auto)]
+
 ghost use Rattle.std.specs.Prelude.{◌≡◌, ◌<◌, pos, negsuc, ◌+ℤ◌, ◌-ℤ◌, ◌*ℤ◌};
 ghost use Rattle.laws.specs.Integer.{Low};
 ghost use Rattle.laws.specs.Floor.{floor_divided};
