@@ -1,6 +1,8 @@
 // Mending a frame of H.261 5.4 by the BCH (511,493) code. A frame is 512 bits, 64 bytes: the framing bit, then a word of 511 bits, the fill
 // indicator and 492 data bits with their 18 parity bits. A place in the word is named by the number of bits after it, so place n is bit 511 - n
 // of the frame. A word without a wrong bit is told by one division, a byte at a time; wrong bits are found by three lookups, not by trying.
+#![tactic(auto)]
+
 ghost use Rattle.std.specs.Prelude.{◌≡◌, [], ◌∷◌, ◌≤◌, ◌<◌, get_or};
 ghost use Rattle.laws.specs.Xor.{◌⊕◌};
 ghost use Rattle.bits.specs.Bits.{bits_of};

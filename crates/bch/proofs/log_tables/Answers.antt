@@ -4,12 +4,8 @@ use Rattle.laws.specs.Row.{row}
 use Rattle.bch.specs.Division.{up}
 use Rattle.bch.specs.Locate.{powers_from, places_of, first_powers, second_powers, first_logs, second_logs, step, lags, gaps, starts}
 use Rattle.bch.specs.Frame.{log_tables}
-use Rattle.bch.proofs.log_tables.Statement.{statement}
-use Rattle.bch.proofs.log_tables.Tie as tie
+use Rattle.bch.proofs.log_tables.Goals as goal
 
-returns : tie.Need-returns
+pub returns : goal.returns
 unfolding log_tables first_powers second_powers first_logs second_logs step lags gaps starts row powers_from places_of up
 returns c = refl
-
-pub log_tables_spec : {M : Type 1} → statement M
-log_tables_spec = tie.close (tie.spec returns)

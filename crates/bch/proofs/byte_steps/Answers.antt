@@ -3,12 +3,8 @@ use mathlib.Core.Path.{refl}
 use Rattle.laws.specs.Row.{row}
 use Rattle.bch.specs.Division.{up, raised}
 use Rattle.bch.specs.Frame.{byte_steps}
-use Rattle.bch.proofs.byte_steps.Statement.{statement}
-use Rattle.bch.proofs.byte_steps.Tie as tie
+use Rattle.bch.proofs.byte_steps.Goals as goal
 
-returns : tie.Need-returns
+pub returns : goal.returns
 unfolding byte_steps row raised up
 returns c = refl
-
-pub byte_steps_spec : {M : Type 1} → statement M
-byte_steps_spec = tie.close (tie.spec returns)
