@@ -1,4 +1,6 @@
 // H.263's tables of codewords, MCBPC, CBPY, MVD and TCOEF: read and written.
+#![tactic(auto)]
+
 ghost use Rattle.std.specs.Prelude.{◌≡◌, ◌+◌, ◌*◌, ◌/◌, ◌≤◌, ◌<◌, ltb, get_or};
 ghost use Rattle.laws.specs.Choice.{pick};
 ghost use Rattle.bits.specs.Bits.{bits_left};

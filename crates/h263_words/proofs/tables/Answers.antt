@@ -4,10 +4,9 @@ use Rattle.bits.specs.Part.{passes}
 use Rattle.bits.specs.Settled.{settles}
 use Rattle.bits.specs.Codewords.{spells}
 use Rattle.h263_words.specs.Tables.{mcbpc_intra, mcbpc_inter, cbpy, mvd, tcoef}
-use Rattle.h263_words.proofs.tables.Statement.{statement}
-use Rattle.h263_words.proofs.tables.Tie as tie
+use Rattle.h263_words.proofs.tables.Goals as goal
 
-returns : tie.Need-returns
+pub returns : goal.returns
 unfolding mcbpc_intra mcbpc_inter cbpy mvd tcoef passes settles spells word_in has_in
 returns c =
     record {
@@ -22,6 +21,3 @@ returns c =
       difference_words = tt;
       event_words = tt;
     }
-
-pub tables_spec : {M : Type 1} → statement M
-tables_spec = tie.close (tie.spec returns)

@@ -8,8 +8,8 @@ use borrow.Author.Tests.{ltb-true}
 use lib.Dec.{ltb}
 use lib.ListN.{get_or}
 use Rattle.laws.specs.Choice.{pick}
-use Rattle.h263_words.proofs.looked_up.Statement.{statement}
-use Rattle.h263_words.proofs.looked_up.Tie as tie
+use Rattle.h263_words.proofs.looked_up.Goals as goal
+use Rattle.h263_words.proofs.looked_up.Goals.{After-entry_place}
 
 place_low : (small number : ℕ) → pick (ltb number small) number (small + number / 32) ≤ small + number / 32
 place_low small number = go (ltb number small) refl
@@ -25,15 +25,22 @@ place_is small start number = go (ltb number small)
     go true = refl
     go false = omega arith
 
-inside : (c : tie.After-entry-place) → c.before.args.start + c.entry_place.result < 4418
-inside c = let a = c.before.args in omega (arith, c.entry_place.ensures, place_low a.small a.number, c.before.requires)
+inside : (c : After-entry_place) → c.args.start + c.entry_place.result < 4418
+inside c = let a = c.args in omega (arith, c.entry_place.ensures, place_low a.small a.number, c.requires)
 
-returns : tie.Need-returns
+pub entry_place-requires : goal.entry_place-requires
+entry_place-requires c = omega (arith, c.requires)
+
+pub overflow_add-result : goal.overflow_add-result
+overflow_add-result c = omega (arith, inside c)
+
+pub offset_bounds-tables-start : goal.offset_bounds-tables-start
+offset_bounds-tables-start c = omega (arith, inside c)
+
+pub bounds-tables-start : goal.bounds-tables-start
+bounds-tables-start c = omega (arith, inside (goal.at.bounds-tables-start c).After-entry_place)
+
+pub returns : goal.returns
 returns c =
-    let a = c.before.before.args in
-    ap (λ (i : ℕ). get_or a.tables.now i 0) (ap (λ (i : ℕ). a.start + i) c.before.entry_place.ensures ∙ place_is a.small a.start a.number)
-
-pub looked_up_spec : {M : Type 1} → statement M
-looked_up_spec =
-    tie.close
-    (tie.spec (λ c κs. omega (arith, c.requires)) (λ c. omega (arith, inside c)) (λ c. omega (arith, inside c)) (λ c. omega (arith, inside c)) returns)
+    let a = c.args in
+    ap (λ (i : ℕ). get_or a.tables.now i 0) (ap (λ (i : ℕ). a.start + i) c.entry_place.ensures ∙ place_is a.small a.start a.number)
