@@ -1,4 +1,6 @@
 // A recording of the raw line, with the error correction frames of H.261 5.4: where they lock, and what each gives.
+#![tactic(auto)]
+
 ghost use Rattle.std.specs.Prelude.{◌≡◌, ◌+◌, ◌*◌, ◌/◌, ◌≤◌, ◌<◌, eqb, length};
 ghost use Rattle.refusals.specs.Number.{refusal};
 ghost use Rattle.bits.specs.Bits.{bit_num, bits_from, bits_left};
