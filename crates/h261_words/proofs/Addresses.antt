@@ -16,7 +16,7 @@ use Rattle.bits.specs.Entries.{entry_of, entries_from, entries_of, entries_at}
 use Rattle.bits.proofs.Entries.{entries_are, entry_of_lem}
 use Rattle.h261_words.specs.Tables.{table1}
 use Rattle.h261_words.specs.Lookup.{Tables, mba_entries_at}
-use Rattle.h261_words.specs.Addresses.{Said, only_start_code, said_by, fitting, agrees_with_table1, is_codeword, is_no_codeword, is_only_start_code, saying, AddressEntries, AddressEntriesAgree}
+use Rattle.h261_words.specs.Addresses.{Said, only_start_code, said_by, fitting, agrees_with_table1, is_codeword, is_no_codeword, is_only_start_code, saying, AddressEntriesAgree}
 
 -- what eleven bits decide, as an entry
 abbrev decided_entry : ℕ → ℕ

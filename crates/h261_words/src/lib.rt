@@ -1,4 +1,6 @@
 // H.261's Tables 1 to 5: codewords read and written.
+#![tactic(auto)]
+
 ghost use Rattle.std.specs.Prelude.{◌≡◌, ◌+◌, ◌*◌, ◌/◌, ◌%◌, ◌≤◌, ◌<◌, get_or};
 ghost use Rattle.bits.specs.Bits.{bits_left};
 ghost use Rattle.bits.specs.Code.{word as word_read, word_of};

@@ -6,10 +6,9 @@ use Rattle.bits.specs.Part.{passes}
 use Rattle.bits.specs.Settled.{settles}
 use Rattle.bits.specs.Codewords.{spells}
 use Rattle.h261_words.specs.Tables.{table1, table2, table3, table4, pairs, first_table5, later_table5}
-use Rattle.h261_words.proofs.tables.Statement.{statement}
-use Rattle.h261_words.proofs.tables.Tie as tie
+use Rattle.h261_words.proofs.tables.Goals as goal
 
-returns : tie.Need-returns
+pub returns : goal.returns
 unfolding table1 table2 table3 table4 pairs first_table5 later_table5 passes settles spells word_in has_in alike entries_from
 returns c =
     record {
@@ -29,6 +28,3 @@ returns c =
       mvd_entries = tt;
       cbp_entries = tt;
     }
-
-pub tables_spec : {M : Type 1} → statement M
-tables_spec = tie.close (tie.spec returns)

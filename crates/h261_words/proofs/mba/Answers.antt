@@ -1,0 +1,29 @@
+-- `h261_words::mba` meets its contract: the entries by 11 bits and the tree are right for Table 1, by two computed tests.
+use mathlib.Core.Path.{◌∙◌}
+use lib.Dec.{lit≤}
+use borrow.Author.Rules.{rules}
+use Rattle.bits.proofs.Entries.{EntryReads, entry_reads}
+use Rattle.h261_words.specs.Tables.{table1}
+use Rattle.h261_words.specs.Lookup.{mba_tree, mba_entries_at}
+use Rattle.h261_words.proofs.mba.Goals as goal
+use Rattle.h261_words.proofs.mba.Goals.{After-without_entry, Else-length-eq0}
+
+read : (c : After-without_entry) → let a = c.args in EntryReads a.tables.now mba_tree table1 a.bytes.now a.count a.at c.entry-e.result
+read c =
+    entry_reads c.args.tables.now mba_tree mba_entries_at 11 table1 c.requires.0.mba c.requires.0.mba_entries (lit≤ tt)
+    c.args.bytes.now c.args.count c.args.at c.entry-e.result c.requires.1.inside c.entry-e.ensures
+
+read-at2 : (c : Else-length-eq0) → let a = c.args in EntryReads a.tables.now mba_tree table1 a.bytes.now a.count a.at c.entry-e.result
+read-at2 c =
+    entry_reads c.args.tables.now mba_tree mba_entries_at 11 table1 c.requires.0.mba c.requires.0.mba_entries (lit≤ tt)
+    c.args.bytes.now c.args.count c.args.at c.entry-e.result c.requires.1.inside c.entry-e.ensures
+
+pub returns-then-length-eq0 : goal.returns-then-length-eq0
+unfolding table1
+returns-then-length-eq0 c = c.without_entry.ensures ∙ (read c).without c.if-length-eq0.true
+
+pub overflow_add-result : goal.overflow_add-result
+overflow_add-result c = let room = ((read-at2 c).found c.if-length-eq0.false).room in search rules
+
+pub returns : goal.returns
+returns c = ((read-at2 c).found c.if-length-eq0.false).word_is
