@@ -7,8 +7,7 @@ use Rattle.size.specs.Place.{wide, base, index}
 use Rattle.size.proofs.Grid.{index_size}
 use Rattle.size.proofs.Room.{store_most}
 use Rattle.samples.specs.Ready.{InPlane}
-use Rattle.samples.proofs.rows.place_from.Statement.{statement}
-use Rattle.samples.proofs.rows.place_from.Tie as tie
+use Rattle.samples.proofs.rows.place_from.Goals as goal
 
 module _ {f : Size} {p y x b w : ℕ} (o : InPlane f p b w y x) where
   sum_is : b + y * w + x ≡ index f p y x
@@ -23,17 +22,14 @@ module _ {f : Size} {p y x b w : ℕ} (o : InPlane f p b w y x) where
       less : {a b n : ℕ} → a ≡ b → b < n → n ≤ 152064 → a < 152064
       less e l m = omega arith
 
-mul-result : tie.Need-overflow-mul-result
-mul-result c = omega (arith, sum_small c.requires)
+pub overflow_mul-result : goal.overflow_mul-result
+overflow_mul-result c = omega (arith, sum_small c.requires)
 
-add-result : tie.Need-overflow-add-result
-add-result c = omega (arith, sum_small c.requires)
+pub overflow_add-result : goal.overflow_add-result
+overflow_add-result c = omega (arith, sum_small c.requires)
 
-add-result-2 : tie.Need-overflow-add-result-2
-add-result-2 c = omega (arith, sum_small c.requires)
+pub overflow_add-result-2 : goal.overflow_add-result-2
+overflow_add-result-2 c = omega (arith, sum_small c.requires)
 
-returns : tie.Need-returns
+pub returns : goal.returns
 returns c = sum_is c.requires
-
-pub place_from_spec : {M : Type 1} → statement M
-place_from_spec = tie.close (tie.spec mul-result add-result add-result-2 returns)
