@@ -1,4 +1,6 @@
 // A description of a picture in three lent slices: its layout and its validity.
+#![tactic(auto)]
+
 ghost use Rattle.std.specs.Prelude.{◌≡◌, ◌+◌, ◌≤◌};
 ghost use Rattle.h261_description.specs.Vector.{restarts as restarts_at};
 
