@@ -1,4 +1,6 @@
 // H.263's descriptions: what a picture's size decides of them, what a macroblock's type says, and what predicts its vector.
+#![tactic(auto)]
+
 ghost use Rattle.std.specs.Prelude.{◌≡◌};
 ghost use Rattle.size.specs.Place.{macroblocks_across, macroblocks_down};
 ghost use Rattle.h263_description.specs.Value.{format_number, format_code, head_length, macroblocks_length, levels_length};
