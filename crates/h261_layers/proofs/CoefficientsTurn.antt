@@ -9,8 +9,8 @@ use lib.ListN.{length, set}
 use Rattle.refusals.specs.declared.Reason.TheVariants.{CoefficientPast}
 use Rattle.refusals.specs.Number.{refusal}
 use Rattle.bits.specs.Bits.{Bit, bits_left}
-use Rattle.bits.specs.Places.{plain, counted, stop_in}
-use Rattle.bits.specs.Read.{ReadIn, Read, got, refused, loop}
+use Rattle.bits.specs.Places.{counted, stop_in}
+use Rattle.bits.specs.Read.{ReadIn, got, refused, loop}
 use Rattle.bits.specs.Answer.{Placed}
 use Rattle.bits.specs.declared.Place.{Place}
 use Rattle.bits.specs.declared.Stopped.{Stopped}

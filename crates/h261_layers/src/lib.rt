@@ -1,4 +1,6 @@
 // The layers of a picture below its groups: header, group head, macroblock, vector and blocks, from bits to the places of a description, or the refusal.
+#![tactic(auto)]
+
 ghost use Rattle.std.specs.Prelude.{◌≡◌};
 ghost use Rattle.h261_layers.specs.Answer.{macroblock_stopped};
 
