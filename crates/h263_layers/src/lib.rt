@@ -1,4 +1,6 @@
 // The layers of an H.263 picture: header, group head, macroblock, vector and blocks, from bits to the places of a description, or the refusal.
+#![tactic(auto)]
+
 use bits::{Place, Stopped};
 
 pub mod block;
