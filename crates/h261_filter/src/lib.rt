@@ -1,4 +1,6 @@
 // The loop filter of a block: weights 1, 2, 1 each way inside the block, 0, 4, 0 at its edge, rounded once.
+#![tactic(auto)]
+
 ghost use Rattle.std.specs.Prelude.{◌≡◌, ◌<◌, pos, ◌+ℤ◌, ◌*ℤ◌};
 ghost use Rattle.laws.specs.Integer.{Low};
 ghost use Rattle.laws.specs.Block.{Is};
