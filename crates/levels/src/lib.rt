@@ -1,4 +1,6 @@
 // Bytes of a description under the rules that both standards have: levels, DC codes, quantisers.
+#![tactic(auto)]
+
 ghost use Rattle.std.specs.Prelude.{◌≡◌, max, length, replicate};
 ghost use Rattle.layout.specs.Flat.{gather};
 ghost use Rattle.layout.specs.Pattern.{presence_of};
