@@ -1,4 +1,6 @@
 // Whether a description of H.263 is valid, and whether it is a refresh: three lent slices.
+#![tactic(auto)]
+
 ghost use Rattle.std.specs.Prelude.{◌≡◌, Bool, [], ◌≤◌, length, drop};
 ghost use Rattle.size.specs.Place.{macroblocks_across};
 ghost use Rattle.layout.specs.Flat.{flat};
