@@ -1,4 +1,6 @@
 // A picture's bits to its description, or the refusal: the picture and its groups, over the layers below.
+#![tactic(auto)]
+
 ghost use Rattle.std.specs.Prelude.{◌≡◌, length};
 ghost use Rattle.refusals.specs.Told.{told_verdict, verdict_on, found_or};
 ghost use Rattle.bits.specs.Bits.{bits_left};
