@@ -1,5 +1,7 @@
 // Blocks of samples half way between others: from a reference, moved by half a sample to the right, down, or both, into a store.
 // Rows are numbers of 16 bits, of which the compiler does eight at once.
+#![tactic(auto)]
+
 ghost use Rattle.std.specs.Prelude.{◌≡◌, ℕ, ◌+◌, ◌*◌, ◌/◌, ◌<◌, ◌≤◌, get_or, length};
 ghost use Rattle.laws.specs.Rows.{Begins, Row, Put};
 ghost use Rattle.samples.specs.Wrote.{rows_of};
