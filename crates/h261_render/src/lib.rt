@@ -1,4 +1,6 @@
 // From a description and a reference to a store.
+#![tactic(auto)]
+
 ghost use Rattle.std.specs.Prelude.{◌≡◌, ◌+◌, ◌/◌, ◌%◌, ◌<◌, ◌≤◌, eqb, get_or, length};
 ghost use Rattle.laws.specs.Choice.{pick};
 ghost use Rattle.samples.specs.Content.{content_values};

@@ -1,0 +1,60 @@
+-- `h261_render::macroblock::sent` meets its contract: each turn of its loop is one block more of the six. Assumes nothing.
+use mathlib.Core.Path.{◌∙◌}
+use mathlib.Core.List.{List}
+use Prim.Native.Nat.{ℕ, ◌+◌, ◌*◌}
+use native.Mathlib.Omega.{arith}
+use borrow.Author.Rules.{rules}
+use Rattle.size.proofs.Blocks.{Placed, placed, size_small}
+use Rattle.h261_description.proofs.Moved.{aims}
+use Rattle.quantiser.specs.Level.{bytes_from}
+use Rattle.samples.specs.Content.{Differences, difference_of}
+use Rattle.samples.proofs.Wrote.{part_none, part_end}
+use Rattle.samples.proofs.Turns.{sent_more}
+use Rattle.h261_groups.specs.Format.{size_of}
+use Rattle.h261_render.specs.declared.Prediction.{Prediction}
+use Rattle.h261_render.specs.Sample.{predictions_from}
+use Rattle.h261_render.specs.Turn.{intra_of, vector_from}
+use Rattle.h261_render.proofs.macroblock.sent.Goals as goal
+use Rattle.h261_render.proofs.macroblock.sent.Goals.{After-block-arg-1}
+
+abbrev added : List ℕ → ℕ → Prediction → ℕ → Differences
+added levels at prediction quantiser b = difference_of (bytes_from levels (at + b * 64)) (intra_of prediction) quantiser
+
+place : (c : After-block-arg-1) → Placed (size_of c.args.format) c.args.row c.args.column c.loop-b.b c.plane_of-plane.result c.grid-y.result
+    c.grid-x.result
+place c =
+    placed (size_of c.args.format) c.args.row c.args.column c.loop-b.b c.plane_of-plane.result c.grid-y.result
+    c.grid-x.result c.requires.ready.row c.requires.ready.column (search rules) c.plane_of-plane.ensures c.grid-y.ensures
+    c.grid-x.ensures
+
+pub loop-b-init : goal.loop-b-init
+loop-b-init c = (search rules, part_none)
+
+pub grid-y-requires : goal.grid-y-requires
+grid-y-requires c = omega (arith, c.requires.ready.row, size_small (size_of c.args.format))
+
+pub grid-x-requires : goal.grid-x-requires
+grid-x-requires c = omega (arith, c.requires.ready.column, size_small (size_of c.args.format))
+
+pub block-requires : goal.block-requires
+block-requires c =
+    let coded = c.requires.coded in
+    record {
+      reference = c.requires.ready.reference;
+      store = c.loop-b.invariant.1.size ∙ c.requires.ready.store;
+      on = (place c).on;
+      aims = aims (place c).row (place c).column c.requires.points;
+      coded = record { room = omega arith; least = coded.least; most = coded.most };
+    }
+
+pub loop-b-preserved : goal.loop-b-preserved
+loop-b-preserved c =
+    let prediction = c.args.prediction in (
+      search rules,
+      sent_more (predictions_from c.args.format c.args.reference.now prediction (vector_from c.args.horizontal c.args.vertical))
+          (added c.args.levels.now c.args.at prediction c.args.quantiser)
+          (place (goal.at.loop-b-preserved c).After-block-arg-1) c.loop-b.invariant.1 c.block.ensures,
+    )
+
+pub returns : goal.returns
+returns c = part_end c.loop-b.invariant.1 (search rules) (search rules)
