@@ -1,4 +1,6 @@
 // Whether a description is valid, under document 01's rules, and whether it is a refresh: three lent slices.
+#![tactic(auto)]
+
 ghost use Rattle.std.specs.Prelude.{◌≡◌, ◌+◌, ◌*◌, ◌≤◌, length, drop};
 ghost use Rattle.h261_groups.specs.Format.{macroblocks_length, levels_length, group_numbers};
 ghost use Rattle.layout.specs.Numbers.{all, is_quantiser};
