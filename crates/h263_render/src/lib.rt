@@ -1,4 +1,6 @@
 // From a description and a reference to a store.
+#![tactic(auto)]
+
 ghost use Rattle.std.specs.Prelude.{◌≡◌, ◌+◌, ◌/◌, ◌%◌, ◌<◌, min, max, eqb, get_or, length};
 ghost use Rattle.laws.specs.Choice.{pick, both};
 ghost use Rattle.size.specs.Place.{macroblocks_across};
