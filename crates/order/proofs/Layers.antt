@@ -13,7 +13,7 @@ use Rattle.refusals.specs.declared.Refusal.{Refusal}
 use Rattle.refusals.specs.Number.{number}
 use Rattle.bits.specs.Bits.{Bit, bit0, bit1, bits_of}
 use Rattle.bits.specs.Places.{plain}
-use Rattle.bits.specs.Read.{Read, got, refused, endless, Reader, next, ◌>>=◌, done, field, fine, against, Judged, settle, judged_read}
+use Rattle.bits.specs.Read.{Read, got, refused, endless, Reader, next, ◌>>=◌, done, fine, against, Judged, settle, judged_read}
 use Rattle.bits.specs.Code.{CodeTable, word}
 use Rattle.bits.proofs.Codes.{each}
 use Rattle.fields.specs.Rules.{expect, quantiser, spares_after, spares_from, spares, optional}
@@ -26,7 +26,7 @@ use Rattle.h261_groups.specs.declared.Format.{Format}
 use Rattle.h261_description.specs.Vector.{Before, at_start, preceding, in_picture}
 use Rattle.h261_description.specs.Value.{before_next}
 use Rattle.h261_layers.specs.Vector.{pair_of, component, component_read, components_read, pointing, vector_read}
-use Rattle.h261_layers.specs.Grammar.{fits, coefficients_after, coefficients, dc_read, intra_block, inter_block, blocks_read, pattern_read, macroblock, Mba, step, stuffed, ended, mba_of, mba, macroblocks_after, macroblocks_from, group_head, group, none, groups_read, ptype_of, header, picture}
+use Rattle.h261_layers.specs.Grammar.{fits, coefficients_after, coefficients, dc_read, intra_block, inter_block, blocks_read, macroblock, Mba, step, stuffed, ended, mba_of, mba, macroblocks_after, macroblocks_from, group_head, group, none, groups_read, ptype_of, header, picture}
 use Rattle.order.specs.Grammar.{backwards}
 use Rattle.order.proofs.Logic.{Moves, Steady, Near, moves_weaker, steady_any, steady_open, moves_done, steady_done, moves_never, moves_bind, steady_then, steady_map, moves_turn, steady_turn, steady_loop, steady_never, steady_none, steady_judged, judged_near, steady_whole, whole_near, steady_field, field_near, moves_or_end, steady_or_end}
 use Rattle.order.proofs.Words.{ordered, some, short, steady_word, word_near, word-short}

@@ -11,7 +11,6 @@ use native.Mathlib.Nat.{le_refl, not-suc-le-zero}
 use lib.Dec.{T}
 use lib.ListN.{length, length-append}
 use Rattle.refusals.specs.declared.Reason.{Reason}
-use Rattle.refusals.specs.declared.Reason.TheVariants.{BitsEnd}
 use Rattle.refusals.specs.declared.Refusal.{Refusal}
 use Rattle.refusals.specs.Number.{number}
 use Rattle.bits.specs.Bits.{Bit, num}

@@ -1,13 +1,12 @@
 -- The smaller number at one place: the theorems. Assumes nothing.
 use Prim.Native.Nat.{ℕ, zero, suc, ◌+◌, ◌*◌, ◌/◌, ◌%◌, ◌≤◌}
-use mathlib.Core.Path.{◌≡◌, refl, sym, ap, subst, ◌∙◌}
+use mathlib.Core.Path.{◌≡◌, refl, ap, subst, ◌∙◌}
 use mathlib.Core.Bool.{Bool, true, false}
 use mathlib.Core.List.{List, [], ◌∷◌}
 use native.Mathlib.Omega.{arith}
 use lib.Dec.{T, eqb, leb, ltb, eqb→eq, lit≤}
 use lib.IntN.{ℤ, ◌+ℤ◌}
 use Rattle.laws.specs.Choice.{pick, both, either, opposite}
-use Rattle.laws.proofs.Choice.{true-T}
 use Rattle.refusals.specs.declared.Reason.{Reason}
 use Rattle.refusals.specs.declared.Reason.TheVariants.{BitsEnd, OtherFormat, NoCodeword, AddressPast, Forbidden, CoefficientPast, VectorOut, AfterLast}
 use Rattle.refusals.specs.declared.Refusal.{Refusal}
@@ -23,8 +22,8 @@ use Rattle.h261_words.specs.Words.{Event, sent, over, escaped, paired, tcoeff, a
 use Rattle.h261_groups.specs.Format.{format_bit}
 use Rattle.h261_description.specs.Vector.{in_range, in_picture}
 use Rattle.h261_layers.specs.Vector.{pair_of, component, component_read, components_read, vector_read}
-use Rattle.h261_layers.specs.Grammar.{fits, Mba, step, stuffed, ended, mba_of}
-use Rattle.order.specs.Order.{first_broken, rising, SmallestNumber}
+use Rattle.h261_layers.specs.Grammar.{fits, step, stuffed, ended, mba_of}
+use Rattle.order.specs.Order.{first_broken, rising}
 use Rattle.order.specs.Grammar.{coefficient_rules, mba_rules, mba_meaning, PictureSmallest}
 use Rattle.order.proofs.Words.{lookup-refused}
 

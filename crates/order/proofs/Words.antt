@@ -1,5 +1,5 @@
 -- A codeword of a table, read beside the same bits with more after them. Each law rests on a test over the table, which antt computes. Assumes nothing.
-use Prim.Native.Nat.{ℕ, suc, ◌+◌, ◌≤◌, ◌<◌}
+use Prim.Native.Nat.{ℕ, suc, ◌+◌, ◌≤◌}
 use mathlib.Core.Path.{◌≡◌, refl, sym, ap, subst, ◌∙◌}
 use mathlib.Core.Bool.{Bool, true, false}
 use mathlib.Core.List.{List, [], ◌∷◌, ◌++◌}
@@ -7,7 +7,7 @@ use mathlib.Core.Logic.{inl}
 use native.Mathlib.Omega.{arith}
 use native.Mathlib.Nat.{le_refl}
 use lib.Dec.{T, leb, leb→le}
-use lib.ListN.{length, drop}
+use lib.ListN.{length}
 use lib.Seq.{drop-append-le}
 use Rattle.laws.specs.Choice.{pick, both, either, opposite}
 use Rattle.laws.proofs.Choice.{both_left, both_right, T_true, true-T}
@@ -22,9 +22,9 @@ use Rattle.bits.specs.Read.{Read, got, refused, endless, bad}
 use Rattle.bits.specs.Code.{Entry, entry, CodeTable, starts, longer, lookup, word}
 use Rattle.bits.proofs.Tree.{hit, miss}
 use Rattle.bits.proofs.Codes.{each}
-use Rattle.bits.proofs.Logic.{Took, Fair, Gives, Reads, gives, reads_word}
+use Rattle.bits.proofs.Logic.{Gives, gives, reads_word}
 use Rattle.order.specs.Order.{bits_end}
-use Rattle.order.proofs.Logic.{Low, Moved, From, Grown, Moves, Steady, Near}
+use Rattle.order.proofs.Logic.{Moved, From, Grown, Moves, Steady, Near}
 
 -- ---- tests
 -- no codeword of the table is a beginning of one before it, so that the first that fits is the only one

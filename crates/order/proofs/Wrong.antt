@@ -1,16 +1,15 @@
 -- Readers that the order of refusals rules out: the theorems. Assumes nothing.
-use Prim.Native.Nat.{ℕ, ◌+◌, ◌≤◌}
+use Prim.Native.Nat.{ℕ, ◌≤◌}
 use mathlib.Core.Path.{◌≡◌, refl, ap}
 use mathlib.Core.List.{List, [], ◌∷◌}
 use native.Mathlib.Omega.{arith}
 use Rattle.refusals.specs.declared.Reason.TheVariants.{OtherGroup, Forbidden, CoefficientPast}
 use Rattle.refusals.specs.Number.{refusal, number}
-use Rattle.bits.specs.Bits.{Bit, bit0, bit1, same}
+use Rattle.bits.specs.Bits.{Bit, bit0, bit1}
 use Rattle.bits.specs.Read.{Read, got, refused, endless, bad, field_from}
 use Rattle.bits.specs.Code.{word, lookup, longer}
 use Rattle.h261_words.specs.Tables.{pairs, later_table5}
 use Rattle.h261_words.specs.Words.{Event, tcoeff}
-use Rattle.order.specs.Order.{bits_end}
 use Rattle.order.specs.Wrong.{LateWrong, ElevenFirstWrong}
 
 -- GN is 0, and GQUANT is 1

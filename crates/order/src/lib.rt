@@ -1,1 +1,2 @@
 // Theorems alone: the order of a picture's refusals. Assumes nothing.
+#![tactic(auto)]
