@@ -8,7 +8,7 @@ use lib.Dec.{T, ltb}
 use lib.ListN.{length, get_or, take, drop, length-append, length-take}
 use lib.IntN.{ℤ, pos, nat_abs, ◌+ℤ◌, ◌-ℤ◌}
 use Rattle.laws.specs.Choice.{both}
-use Rattle.bits.specs.Bits.{Bit, bits_of}
+use Rattle.bits.specs.Bits.{bits_of}
 use Rattle.bits.specs.Code.{CodeTable, word_of, has}
 use Rattle.bits.specs.Appended.{CountablePlace}
 use Rattle.bits.proofs.Fields.{length-bits_of}

@@ -1,4 +1,6 @@
 // From a valid description to the bits of its picture.
+#![tactic(auto)]
+
 ghost use Rattle.std.specs.Prelude.{T};
 ghost use Rattle.bits.specs.Appended.{WroteBits};
 ghost use Rattle.h261_description.specs.Valid.{valid as is_valid};
