@@ -1,4 +1,6 @@
 // All of a receiver but reading and drawing, over any coding: which store holds what, the four lines, the next state, the answer. State by value, in and out.
+#![tactic(auto)]
+
 ghost use Rattle.std.specs.Prelude.{◌≡◌, ◌<◌, ◌≤◌, eqb};
 ghost use Rattle.laws.specs.Choice.{both, opposite};
 ghost use Rattle.refusals.specs.Number.{number};

@@ -1,5 +1,4 @@
 -- `standing::is_length` meets its contract: no other reason has number 1. Assumes nothing.
-use borrow.Author.Rules.{rules}
 use mathlib.Core.Path.{◌≡◌, refl, sym, ap}
 use mathlib.Core.Bool.{true, false}
 use mathlib.Core.List.{List, [], ◌∷◌}
@@ -11,10 +10,9 @@ use Rattle.refusals.specs.contracts.Reason.{the_type}
 use Rattle.refusals.specs.declared.Reason.{Reason}
 use Rattle.refusals.specs.declared.Reason.TheVariants.{Length, Count, BitsEnd, NoStartCode, OtherFormat, OtherGroup, QuantiserZero, NoCodeword, AddressPast, Forbidden, CoefficientPast, VectorOut, AfterLast, OptionalMode, BlockCheck, BlockField, OtherClip, UntrueMark, Invalid, AboveLimit, NotRefresh, AllSent, NoneKept, NoLock}
 use Rattle.refusals.specs.Number.{number}
-use Rattle.standing.proofs.is_length.Statement.{statement}
-use Rattle.standing.proofs.is_length.Tie as tie
+use borrow.Enum.Refused.{opened}
+use Rattle.standing.proofs.is_length.Goals as goal
 
--- the tags of the other reasons
 abbrev others : List ℕ
 others = 1 ∷ 2 ∷ 3 ∷ 4 ∷ 5 ∷ 6 ∷ 7 ∷ 8 ∷ 9 ∷ 10 ∷ 11 ∷ 12 ∷ 13 ∷ 14 ∷ 15 ∷ 16 ∷ 17 ∷ 18 ∷ 19 ∷ 20 ∷ 21 ∷ 22 ∷ 23 ∷ []
 
@@ -49,11 +47,8 @@ is_one : {reason : Reason} → reason ≡ Length → true ≡ eqb (number reason
 unfolding number
 is_one e = sym (ap (λ (r : Reason). eqb (number r) 1) e)
 
-returns : tie.Need-returns
-returns c = is_one c.enum_told.given.1
+pub returns-in-Length : goal.returns-in-Length
+returns-in-Length c = is_one c.in-Length.is
 
-returns-2 : tie.Need-returns-2
-returns-2 c = not_one c.before.args.reason c.match.keys2
-
-pub is_length_spec : {M : Type 1} → statement M
-is_length_spec = tie.close (tie.spec (λ c. search rules) returns returns-2)
+pub returns-in_default : goal.returns-in_default
+returns-in_default c = not_one c.args.reason (opened c.in_default.in_default-own.keys2)

@@ -1,5 +1,4 @@
 -- `standing::sized` meets its contract: by its two tests. Assumes nothing.
-use borrow.Author.Rules.{rules}
 use borrow.Author.Tests.{eq-eqb, ne_eqb}
 use mathlib.Core.Path.{◌≡◌, sym, ap, ◌∙◌}
 use mathlib.Core.Bool.{false}
@@ -8,8 +7,7 @@ use lib.Dec.{eqb}
 use Rattle.size.specs.declared.Size.{Size}
 use Rattle.standing.specs.Stores.{stores_sized}
 use Rattle.size.specs.Size.{store_length}
-use Rattle.standing.proofs.sized.Statement.{statement}
-use Rattle.standing.proofs.sized.Tie as tie
+use Rattle.standing.proofs.sized.Goals as goal
 
 module _ {named : ℕ} (size : Size) (first second : ℕ) (is : named ≡ store_length size) where
   not_first : (first ≡ named → ⊥) → false ≡ stores_sized size first second
@@ -18,11 +16,8 @@ module _ {named : ℕ} (size : Size) (first second : ℕ) (is : named ≡ store_
   by_second : first ≡ named → eqb second named ≡ stores_sized size first second
   by_second h = ap (eqb second) is ∙ sym (rw (eq-eqb first (store_length size) (h ∙ is)))
 
-returns : tie.Need-returns
-returns c = not_first c.before.before.args.size c.before.before.args.first c.before.before.args.second c.before.store_length.ensures c.if1.true
+pub returns-then-first-named : goal.returns-then-first-named
+returns-then-first-named c = not_first c.args.size c.args.first c.args.second c.store_length-named.ensures c.if-first-named.true
 
-returns-2 : tie.Need-returns-2
-returns-2 c = by_second c.before.before.args.size c.before.before.args.first c.before.before.args.second c.before.store_length.ensures c.if1.false
-
-pub sized_spec : {M : Type 1} → statement M
-sized_spec = tie.close (tie.spec (λ c κs. search rules) returns returns-2)
+pub returns : goal.returns
+returns c = by_second c.args.size c.args.first c.args.second c.store_length-named.ensures c.if-first-named.false

@@ -1,5 +1,4 @@
 -- `standing::show` meets its contract: by the answer, then by how the receiver stands. Assumes nothing.
-use borrow.Author.Rules.{rules}
 use mathlib.Core.Path.{◌≡◌, refl, sym, ap, subst, ◌∙◌}
 use denote.Ref.{Bor}
 use mathlib.Core.Bool.{Bool, true, false}
@@ -14,8 +13,7 @@ use Rattle.standing.specs.Stores.{HandsBack}
 use Rattle.standing.specs.declared.Received.{Received}
 use Rattle.standing.specs.Answered.{said, told_received}
 use Rattle.standing.specs.Shown.{where_shown, refused_length, holder_shown, ShowHands}
-use Rattle.standing.proofs.show.Statement.{statement}
-use Rattle.standing.proofs.show.Tie as tie
+use Rattle.standing.proofs.show.Goals as goal
 
 module _ {length : Bool} {size : Size} (x : Received) (first second : Bor (List ℕ)) (sz : size ≡ kind_size x.next.kind) (is : length ≡ refused_length (said x.answer)) where
   -- the store that is shown where the length isn't refused
@@ -28,25 +26,10 @@ module _ {length : Bool} {size : Size} (x : Received) (first second : Bor (List 
       let held : holder ≡ holder_shown (told_received x) = k ∙ ap (λ (t : Bool). pick t Neither holding) (sym e ∙ is) in
       subst (λ (z : Size). HandsBack z (holder_shown (told_received x)) first second part) sz (subst (λ (m : Holder). HandsBack size m first second part) held h)
 
-returns : tie.Need-returns
+pub returns-then-refused_length : goal.returns-then-refused_length
+returns-then-refused_length c =
+    by_length c.args.received c.args.first c.args.second c.size_of-size.ensures c.refused_length.ensures true c.if-refused_length.true refl c.store_shown.ensures
+
+pub returns : goal.returns
 returns c =
-    let at_if1 = c.before in
-    let at_refused_length = at_if1.before in
-    let at_size_of = at_refused_length.before in
-    let start = at_size_of.before.before.before.before.before.before in
-    by_length start.args.received start.args.first start.args.second at_size_of.size_of.ensures at_refused_length.refused-length.ensures true at_if1.if1.true refl c.store-shown.ensures
-
-returns-2 : tie.Need-returns-2
-returns-2 c =
-    let at_where_shown = c.before in
-    let at_if1 = at_where_shown.before in
-    let at_refused_length = at_if1.before in
-    let at_size_of = at_refused_length.before in
-    let start = at_size_of.before.before.before.before.before.before in
-    by_length start.args.received start.args.first start.args.second at_size_of.size_of.ensures at_refused_length.refused-length.ensures false at_if1.if1.false at_where_shown.where-shown.ensures c.store-shown2.ensures
-
-pub show_spec : {M : Type 1} → statement M
-show_spec =
-    tie.close
-    (tie.spec (λ c κs. search rules) (λ c κs. search rules) (λ c κs. search rules) returns (λ c κs. search rules) (λ c κs. search rules)
-    returns-2)
+    by_length c.args.received c.args.first c.args.second c.size_of-size.ensures c.refused_length.ensures false c.if-refused_length.false c.where_shown-shown.ensures c.store_shown-2.ensures

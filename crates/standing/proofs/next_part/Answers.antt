@@ -1,0 +1,6 @@
+-- `standing::next_part` meets its contract: field by field. Assumes nothing.
+use Rattle.standing.proofs.next_part.Goals as goal
+
+pub returns : goal.returns
+returns c =
+    rw c.mark_with-mark.ensures
