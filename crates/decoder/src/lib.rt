@@ -1,4 +1,6 @@
 // Bits and a reference to a store: reading, then the mark, then rendering. Acceptance is settled before the first sample is written.
+#![tactic(auto)]
+
 ghost use Rattle.std.specs.Prelude.{◌≡◌, true};
 ghost use Rattle.laws.specs.Choice.{alike};
 ghost use Rattle.refusals.specs.Told.{found_or};
