@@ -1,1 +1,2 @@
 // Theorems alone: the proof sheet of document 01. Assumes nothing.
+#![tactic(auto)]
