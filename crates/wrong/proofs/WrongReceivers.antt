@@ -210,14 +210,16 @@ renumbering_wrong receive show made only catches =
 -- ---- wrong: one that needs two refreshes. From part 1 of picture 12 on there is one, picture 24 (instances, Bound)
 -- blocks in order, as far as some of them go
 order_split : {sent : List (Picture Flat)} {q last p part : ℕ} {blocks : List (List ℕ)} → InOrder sent q last p part blocks → (a b : List (List ℕ)) → blocks ≡ a ++ b → (q' last' : ℕ) × InOrder sent q' last' p part a
-order_split {p = p} {part = part} o [] b e = (p, part, here)
+order_split {q} {last} here [] b e = (q, last, here)
 order_split here (block ∷ a) b e = let z : ◌≡◌ {A = ℕ} 0 1 = cc in absurd (omega arith)
+order_split {p = p} {part = part} (next h o) [] b e = (p, part, here)
 order_split {sent} {p = p} (next {part = part} {block = own} {blocks = blocks} h o) (block ∷ a) b e =
     let same : own ≡ block = cc in
     let rest : blocks ≡ a ++ b = cc in
     let s = order_split o a b rest in
     (s.0, s.1, next (subst (λ (l : List ℕ). PartOf sent p part l) same h) s.2)
-order_split (onward y at n o) (block ∷ a) b e = let s = order_split o (block ∷ a) b e in (s.0, s.1, onward y at n s.2)
+order_split {p = p} {part = part} (onward y k n o) [] b e = (p, part, here)
+order_split (onward y k n o) (block ∷ a) b e = let s = order_split o (block ∷ a) b e in (s.0, s.1, onward y k n s.2)
 
 after_twelve : (p : ℕ) → earlier_place (place p 0) (place 12 1) ≡ false → 12 < p
 after_twelve p e = go (ltb p 12) (eqb p 12) refl refl e
