@@ -1,4 +1,6 @@
 // A finished picture in two lent stores: it is drawn into the one that doesn't hold the last finished picture, over the other.
+#![tactic(auto)]
+
 ghost use Rattle.std.specs.Prelude.{◌≡◌};
 ghost use Rattle.layout.specs.Flat.{flat};
 ghost use Rattle.coding.specs.Kind.{coding_of};

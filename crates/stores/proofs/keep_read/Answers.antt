@@ -1,5 +1,4 @@
 -- `stores::keep_read` meets its contract: by which store holds the last picture. Assumes nothing.
-use borrow.Author.Rules.{rules}
 use mathlib.Core.Path.{◌≡◌, refl, sym, ap, subst, ◌∙◌}
 use mathlib.Core.List.{List}
 use Prim.Native.Nat.{ℕ}
@@ -11,10 +10,8 @@ use Rattle.standing.specs.declared.Holder.{Holder}
 use Rattle.standing.specs.declared.Holder.TheVariants.{Neither, First, Second}
 use Rattle.standing.specs.Stores.{Stores, stores, reference}
 use Rattle.stores.specs.Kept.{stores_or}
-use Rattle.stores.proofs.keep_read.Statement.{statement}
-use Rattle.stores.proofs.keep_read.Tie as tie
+use Rattle.stores.proofs.keep_read.Goals as goal
 
--- ---- the stores with what is found in one of them, or as they were
 module _ (first second : List ℕ) where
   neither_or : (x : Told (List ℕ)) → stores (found_or first x) second ≡ stores_or Neither (stores first second) x
   unfolding stores_or
@@ -31,7 +28,6 @@ module _ (first second : List ℕ) where
   second_or (accepted picture) = refl
   second_or (refused_by numbers) = refl
 
--- ---- by which store holds the last picture: the store, of what `draw` leaves
 module _ (k : Kind) (mark : Mark) (bytes : List ℕ) (n : ℕ) (first second : List ℕ) where
   -- what is promised
   abbrev Left : Holder → Stores → Type 0
@@ -48,33 +44,17 @@ module _ (k : Kind) (mark : Mark) (bytes : List ℕ) (n : ℕ) (first second : L
   into_first {picture = picture} e h =
       subst (λ (x : Holder). Left x (stores picture second)) (sym e) (ap (λ (l : List ℕ). stores l second) h ∙ second_or first second (marked_store k mark bytes n second))
 
-returns : tie.Need-returns
-returns c =
-    let at_draw = c.before.before in
-    let at_told = at_draw.before.before.before in
-    let start = at_told.before.before.before.before.before in
-    let left = at_first start.args.kind start.args.mark start.args.bytes.now start.args.count start.args.first.now start.args.second.now at_told.enum_told.given.1 at_draw.draw.ensures.1 in
-    (at_draw.draw.ensures.0, left)
+pub returns-in-Neither : goal.returns-in-Neither
+returns-in-Neither c =
+    let left = at_first c.args.kind c.args.mark c.args.bytes.now c.args.count c.args.first.now c.args.second.now c.in-Neither.is c.draw.ensures.samples in
+    record { answer = c.draw.ensures.answer; samples = left }
 
-returns-2 : tie.Need-returns-2
-returns-2 c =
-    let at_draw = c.before.before in
-    let at_told = at_draw.before.before.before in
-    let start = at_told.before.before.before.before.before in
-    let left = into_second start.args.kind start.args.mark start.args.bytes.now start.args.count start.args.first.now start.args.second.now at_told.enum-told2.given.1 at_draw.draw2.ensures.1 in
-    (at_draw.draw2.ensures.0, left)
+pub returns-in-First : goal.returns-in-First
+returns-in-First c =
+    let left = into_second c.args.kind c.args.mark c.args.bytes.now c.args.count c.args.first.now c.args.second.now c.in-First.is c.draw-in-First.ensures.samples in
+    record { answer = c.draw-in-First.ensures.answer; samples = left }
 
-returns-3 : tie.Need-returns-3
-returns-3 c =
-    let at_draw = c.before.before in
-    let at_told = at_draw.before.before.before in
-    let start = at_told.before.before.before.before.before in
-    let left = into_first start.args.kind start.args.mark start.args.bytes.now start.args.count start.args.first.now start.args.second.now at_told.enum-told3.given.1 at_draw.draw3.ensures.1 in
-    (at_draw.draw3.ensures.0, left)
-
-pub keep_read_spec : {M : Type 1} → statement M
-keep_read_spec =
-    tie.close
-    (tie.spec (λ c. search rules) (λ c κs. search rules) (λ c. search rules) (λ c κs. search rules) (λ c. search rules)
-    (λ c κs. search rules) (λ c. search rules) (λ c. search rules) returns (λ c. search rules) (λ c. search rules) returns-2
-    (λ c. search rules) (λ c. search rules) returns-3)
+pub returns-in-Second : goal.returns-in-Second
+returns-in-Second c =
+    let left = into_first c.args.kind c.args.mark c.args.bytes.now c.args.count c.args.first.now c.args.second.now c.in-Second.is c.draw-in-Second.ensures.samples in
+    record { answer = c.draw-in-Second.ensures.answer; samples = left }
