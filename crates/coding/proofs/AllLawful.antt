@@ -1,6 +1,4 @@
 -- What each kind's pictures are coded by obeys the laws of a coding. Assumes nothing.
-use Rattle.size.specs.declared.Size.{Size}
-use Rattle.layout.specs.Flat.{Flat}
 use Rattle.coding.specs.declared.Kind.{Kind}
 use Rattle.coding.specs.declared.Kind.TheVariants.{H261, H263}
 use Rattle.coding.specs.Lawful.{Lawful}

@@ -1,4 +1,6 @@
 // What a clip is opened with, and what is done by it: a picture read, judged, written and drawn.
+#![tactic(auto)]
+
 ghost use Rattle.std.specs.Prelude.{◌≡◌, true, length};
 ghost use Rattle.refusals.specs.Told.{told_verdict, verdict_on, found_or};
 ghost use Rattle.bits.specs.Appended.{WroteBits};
@@ -362,7 +364,7 @@ fn write_in(
         return count;
     }
     let started = (count + 7) / 8;
-    out.copy_from_slice(&scratch[..started]);
+    out[..started].copy_from_slice(&scratch[..started]);
     count
 }
 
