@@ -1,19 +1,18 @@
 -- The predictor of what is kept is the predictor, kept. Assumes nothing.
-use Prim.Native.Nat.{ℕ, suc, ◌+◌, ◌-◌, ◌*◌, ◌%◌, ◌≤◌, ◌<◌, max, min}
-use mathlib.Core.Path.{◌≡◌, refl, sym, ap, ap₂, ◌∙◌}
+use Prim.Native.Nat.{ℕ, ◌+◌, ◌-◌, ◌%◌, ◌≤◌, ◌<◌, max, min}
+use mathlib.Core.Path.{◌≡◌, refl, sym, ap, ◌∙◌}
 use mathlib.Core.Bool.{Bool, true, false}
 use mathlib.Core.List.{List}
 use native.Mathlib.Omega.{arith}
 use native.Mathlib.Nat.{zero-mod, mod-lt}
 use borrow.Author.Tests.{eqb-false, eq-eqb, ne_eqb, lt-ltb, le-ltb}
 use lib.Dec.{T, ltb, eqb}
-use lib.ListN.{length}
 use lib.IntN.{ℤ}
 use Rattle.laws.specs.Choice.{pick, either}
 use Rattle.layout.specs.Value.{Vector, zero_vector}
 use Rattle.h263_description.specs.declared.predicted.Kept.{Kept}
 use Rattle.h263_description.specs.Vector.{Vectors, in_range, median, median_vector, left_of, bordered, above_of, right_of, predictor}
-use Rattle.h263_description.specs.Landing.{component_of, residue_of}
+use Rattle.h263_description.specs.Landing.{residue_of}
 use Rattle.h263_description.specs.Kept.{kept_vector, median_kept, vectors_in, BytesNear, PredictorAsked}
 use Rattle.h263_description.proofs.Landing.{residue_low, component_residue, residue_component}
 use Rattle.h263_description.proofs.Predictor.{Ranged, zero_ranged, median_kept_lem, predictor-bordered}

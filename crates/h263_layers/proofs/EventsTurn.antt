@@ -15,7 +15,7 @@ use Rattle.bits.specs.Answer.{Placed}
 use Rattle.bits.specs.declared.Place.{Place}
 use Rattle.bits.specs.declared.Stopped.{Stopped}
 use Rattle.bits.proofs.Once.{counting}
-use Rattle.layout.specs.Value.{Coefficient, coefficient}
+use Rattle.layout.specs.Value.{Coefficient}
 use Rattle.layout.specs.Flat.{put_block}
 use Rattle.fields.specs.Answer.{map_read, place_of}
 use Rattle.fields.proofs.Meaning.{map-done, length_left, some, onward}

@@ -8,9 +8,8 @@ use borrow.Author.Tests.{leb-false, eqb-false, ne_eqb}
 use lib.Dec.{T, leb, eqb, leb→le, le→leb, lit≤}
 use lib.IntN.{ℤ, ◌+ℤ◌}
 use lib.ListN.{length}
-use Rattle.laws.specs.Choice.{pick, both, either, opposite}
+use Rattle.laws.specs.Choice.{pick, either, opposite}
 use Rattle.laws.proofs.Choice.{both_right, both_make, either_right}
-use Rattle.laws.specs.Table.{all_b}
 use Rattle.laws.proofs.Table.{all_at}
 use Rattle.refusals.specs.declared.Reason.{Reason}
 use Rattle.refusals.specs.declared.Reason.TheVariants.{BitsEnd, OtherGroup, NoCodeword, Forbidden, CoefficientPast, VectorOut}
@@ -30,7 +29,7 @@ use Rattle.layout.specs.Proper.{If, Each, Fits, Begins, RisingTo}
 use Rattle.layout.proofs.Codes.{code_of}
 use Rattle.fields.specs.Rules.{optional}
 use Rattle.fields.proofs.RuleReads.{expect_reads, quantiser_reads}
-use Rattle.h263_words.specs.Tables.{mcbpc_of, cbpy, mvd, stuffing}
+use Rattle.h263_words.specs.Tables.{mcbpc_of, mvd, stuffing}
 use Rattle.h263_words.specs.Words.{is_intra, is_inter, has_dquant, type_in, chroma_in, is_four, turned, dquant_in, is_dquant, Event, event_read}
 use Rattle.h263_words.proofs.Meanings.{kind_meant, KindFits, kind_fits}
 use Rattle.h263_words.proofs.WordReads.{EventGood, makes_event, event_reads, mcbpc_reads, cbpy_reads, mvd_reads}

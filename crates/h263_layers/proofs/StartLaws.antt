@@ -1,5 +1,5 @@
 -- The zeros ahead, bit by bit; and what they say of a start code, by their number and that of the bits left. Assumes nothing.
-use Prim.Native.Nat.{ℕ, zero, suc, ◌+◌, ◌-◌, ◌%◌, ◌/◌, ◌^◌, ◌≤◌, ◌<◌, min}
+use Prim.Native.Nat.{ℕ, suc, ◌+◌, ◌-◌, ◌≤◌, ◌<◌}
 use mathlib.Core.Path.{◌≡◌, refl, sym, ap, ◌∙◌}
 use mathlib.Core.Bool.{Bool, true, false}
 use mathlib.Core.List.{List, [], ◌∷◌}
@@ -7,10 +7,9 @@ use native.Mathlib.Omega.{arith}
 use lib.ListN.{length}
 use lib.Dec.{leb}
 use borrow.Author.Tests.{le-leb, lt-leb, leb-true, leb-false, eq-eqb, ne_eqb}
-use Rattle.laws.specs.Choice.{pick}
-use Rattle.bits.specs.Bits.{Bit, bit0, bit1, num, bit_of, bit_num, bit_at, bits_left, bits_from}
+use Rattle.bits.specs.Bits.{Bit, bit0, bit1, num, bit_num, bit_at, bits_left}
 use Rattle.bits.proofs.Value.{left_none, left_more, num_bit, length_bits}
-use Rattle.h263_layers.specs.Start.{zeros_ahead, one_ahead, to_byte, Ahead, stands, absent, cut_off, ahead_of, ahead}
+use Rattle.h263_layers.specs.Start.{zeros_ahead, one_ahead, to_byte, stands, absent, cut_off, ahead}
 
 -- ---- bit by bit
 -- after `seen` zeros, the others are those of the bits left then

@@ -7,7 +7,7 @@ use native.Mathlib.Nat.{div-add-mod', mod-lt, lt_of_lt_of_le}
 use native.Mathlib.Omega.{arith}
 use borrow.Author.Tests.{eq-eqb, ne_eqb}
 use lib.Dec.{T, leb, leb→le, eqb}
-use lib.ListN.{length, get_or}
+use lib.ListN.{length}
 use Rattle.laws.specs.Choice.{pick, both}
 use Rattle.laws.proofs.Choice.{both_left, both_right}
 use Rattle.laws.proofs.Rows.{rows_less, rows_same, rows_in}

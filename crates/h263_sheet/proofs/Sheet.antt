@@ -1,5 +1,5 @@
 -- The examples of H.263's proof sheet follow from the definitions, computed. Assumes nothing.
-use mathlib.Core.Path.{◌≡◌, refl}
+use mathlib.Core.Path.{refl}
 use mathlib.Core.List.{List, [], ◌∷◌}
 use Rattle.laws.specs.Floor.{floor_divided}
 use Rattle.refusals.specs.Number.{number, read_table}

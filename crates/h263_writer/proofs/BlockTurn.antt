@@ -16,8 +16,7 @@ use Rattle.bits.specs.Appended.{WroteBits, CountablePlace}
 use Rattle.bits.proofs.Parts.{parts_from}
 use Rattle.bits.proofs.Appended.{wrote_none, wrote_as, wrote_then, first_countable, then_countable, next_countable}
 use Rattle.layout.specs.Value.{Coefficient, coefficient, Block}
-use Rattle.layout.specs.Numbers.{all, is_zero, is_level, codes_first}
-use Rattle.layout.specs.Sendable.{Sendable}
+use Rattle.layout.specs.Numbers.{all, is_zero, is_level}
 use Rattle.layout.specs.Flat.{gather, gathers}
 use Rattle.layout.specs.Pattern.{presence_of}
 use Rattle.layout.proofs.Levels.{all_index, all_take, all_drop}

@@ -2,12 +2,12 @@
 use mathlib.Core.Path.{◌≡◌, refl, sym, ap, ap₂, subst, ◌∙◌}
 use mathlib.Core.Bool.{Bool, true, false}
 use mathlib.Core.List.{List, [], ◌∷◌, ◌++◌, append_assoc, append-nil}
-use Prim.Native.Nat.{ℕ, zero, suc, ◌+◌, ◌-◌, ◌*◌, ◌≤◌, ◌<◌}
+use Prim.Native.Nat.{ℕ, zero, suc, ◌+◌, ◌*◌, ◌≤◌, ◌<◌}
 use native.Mathlib.Omega.{arith}
 use native.Mathlib.Nat.{zero-mul}
-use lib.Dec.{T, eqb, lit≤}
-use lib.ListN.{length, get_or, take, drop, length-drop, drop_of_length-le}
-use lib.Seq.{drop-drop, get_or-drop, get_or-take}
+use lib.Dec.{T, lit≤}
+use lib.ListN.{length, get_or, drop, drop_of_length-le}
+use lib.Seq.{drop-drop}
 use Rattle.laws.specs.Choice.{pick}
 use Rattle.laws.proofs.Lists.{drop_on}
 use Rattle.laws.proofs.Rows.{rows_less}
@@ -18,22 +18,22 @@ use Rattle.bits.proofs.Appended.{wrote_none, wrote_as, wrote_then, first_countab
 use Rattle.size.specs.declared.Size.{Size}
 use Rattle.size.specs.declared.Size.TheVariants.{SubQcif, Qcif, Cif}
 use Rattle.size.specs.Place.{macroblocks_across, macroblocks_down}
-use Rattle.layout.specs.Value.{Vector, zero_vector, Macroblock, Group}
-use Rattle.layout.specs.Flat.{Flat, flat, number_of, macroblocks_in, groups_in}
+use Rattle.layout.specs.Value.{Vector, zero_vector, Group}
+use Rattle.layout.specs.Flat.{Flat, flat, macroblocks_in, groups_in}
 use Rattle.layout.specs.Numbers.{is_zero}
 use Rattle.layout.proofs.Levels.{is_quantiser_lem}
 use Rattle.h263_words.specs.Lookup.{Tables}
 use Rattle.h263_words.specs.Words.{is_inter, has_dquant, is_dquant}
 use Rattle.h263_description.specs.Vector.{in_range}
 use Rattle.h263_description.specs.Value.{numbers_from, format_code, picture_in}
-use Rattle.h263_description.specs.Fields.{gquant_of, stands, picture_type, is_intra_type}
+use Rattle.h263_description.specs.Fields.{stands, is_intra_type}
 use Rattle.h263_description.specs.Valid.{valid_type, valid}
 use Rattle.h263_description.specs.Kept.{vectors_in, first_vectors, BytesNear}
 use Rattle.h263_description.proofs.Groups.{numbers_count, numbers_at, some_across, down_most}
 use Rattle.h263_description.proofs.Parts.{ValidLists, valid_lists}
 use Rattle.h263_description.proofs.ValidAt.{gquant_at, type_is, quant_is, Fine, fine_at, still_vector}
 use Rattle.h263_writer.specs.Write.{row_of, row_vectors, head_of, groups_of, ptype_of, picture_of, picture_bits}
-use Rattle.h263_writer.specs.Sound.{SoundMacroblock, SoundPicture, row_bits, group_bits, groups_bits}
+use Rattle.h263_writer.specs.Sound.{SoundPicture, row_bits, group_bits, groups_bits}
 use Rattle.h263_writer.specs.Asked.{RowAsked, GroupAsked, GroupsAsked}
 use Rattle.h263_writer.proofs.RowTurn.{row_vectors_lem}
 use Rattle.h263_writer.proofs.Longest.{picture_counts}

@@ -8,14 +8,14 @@ use lib.Dec.{T, eqb, ltb}
 use lib.ListN.{length, get_or, take, drop, length-append, length-take}
 use lib.IntN.{ℤ, pos, nat_abs, ◌+ℤ◌, ◌-ℤ◌}
 use Rattle.laws.specs.Choice.{pick, both}
-use Rattle.bits.specs.Bits.{Bit, bits_of}
+use Rattle.bits.specs.Bits.{bits_of}
 use Rattle.bits.specs.Code.{word_of, has}
 use Rattle.bits.specs.Write.{bits_if}
 use Rattle.bits.specs.Appended.{CountablePlace}
 use Rattle.bits.proofs.Fields.{length-bits_of}
 use Rattle.bits.proofs.Short.{pick_short, if_short, short_words, word-short}
 use Rattle.size.specs.declared.Size.{Size}
-use Rattle.size.specs.Place.{macroblocks_across, macroblocks_down}
+use Rattle.size.specs.Place.{macroblocks_across}
 use Rattle.layout.specs.Value.{Coefficient, Vector, Block, Macroblock}
 use Rattle.layout.specs.Flat.{Flat, gather, gathers, macroblock_in, macroblocks_in, groups_in}
 use Rattle.layout.specs.Numbers.{code_sign, code_size}
@@ -26,7 +26,7 @@ use Rattle.h263_description.specs.Vector.{vectors_of, predictor}
 use Rattle.h263_description.specs.Value.{group_numbers, picture_in}
 use Rattle.h263_description.specs.Fields.{stands, is_intra_type}
 use Rattle.h263_description.proofs.Groups.{groups_listed, across_most, down_most}
-use Rattle.h263_writer.specs.Write.{events_of, events_in, dc_of, block_of, blocks_of, pattern_of, component_bits, vector_bits, mcbpc_of, macroblock_of, vector_at_head, after_head, bits_at_head, row_of, row_vectors, head_of, groups_of, ptype_of, picture_of, picture_bits}
+use Rattle.h263_writer.specs.Write.{events_of, block_of, blocks_of, pattern_of, component_bits, vector_bits, mcbpc_of, macroblock_of, vector_at_head, after_head, bits_at_head, row_of, row_vectors, head_of, groups_of, picture_of, picture_bits}
 
 -- ---- each table's codewords are short
 intra_short : T (short_words mcbpc_intra.entries)

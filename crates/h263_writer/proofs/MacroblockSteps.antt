@@ -1,39 +1,39 @@
 -- The fields of a macroblock as they are written, on plain values. Assumes nothing.
-use mathlib.Core.Path.{◌≡◌, refl, sym, ap, ap₂, subst, ◌∙◌}
+use mathlib.Core.Path.{◌≡◌, sym, ap, subst, ◌∙◌}
 use mathlib.Core.Bool.{Bool, true, false}
 use mathlib.Core.List.{List, [], ◌∷◌, ◌++◌}
 use Prim.Native.Nat.{ℕ, ◌+◌, ◌-◌, ◌*◌, ◌/◌, ◌%◌, ◌≤◌, ◌<◌}
 use native.Mathlib.Omega.{arith}
 use lib.Dec.{T, ltb, eqb, ltb→lt, eqb→eq, lit≤}
-use lib.ListN.{length, get_or}
+use lib.ListN.{get_or}
 use lib.IntN.{ℤ, pos, nat_abs, ◌+ℤ◌, ◌-ℤ◌}
 use Rattle.laws.specs.Choice.{pick, both, either, opposite}
 use Rattle.laws.proofs.Choice.{both_right, either_right, T_true, pick_yes}
 use Rattle.laws.specs.Table.{all_b}
 use Rattle.laws.proofs.Table.{all_at}
 use Rattle.bits.specs.Bits.{Bit, bits_of}
-use Rattle.bits.specs.Code.{word_of, has, has_in}
+use Rattle.bits.specs.Code.{word_of, has_in}
 use Rattle.bits.specs.Write.{bits_if}
 use Rattle.bits.specs.Appended.{FieldFits, WroteBits, CountablePlace}
 use Rattle.bits.proofs.Appended.{wrote_as, wrote_then, first_countable, then_countable, sent_counts, sent_wrote, CountableParts}
 use Rattle.bits.proofs.Codewords.{has_all, has-each}
-use Rattle.h263_words.specs.Tables.{mcbpc_intra, mcbpc_inter, mcbpc_of as mcbpcTable, cbpy, mvd}
+use Rattle.h263_words.specs.Tables.{mcbpc_intra, mcbpc_inter, cbpy, mvd}
 use Rattle.h263_words.specs.Words.{is_intra, is_inter, has_dquant, is_dquant, turned, dquant_field}
 use Rattle.h263_words.specs.Asked.{KindAsked}
 use Rattle.layout.specs.Value.{Vector}
-use Rattle.layout.specs.Flat.{number_of, byte_vector, gathers}
+use Rattle.layout.specs.Flat.{number_of, gathers}
 use Rattle.layout.specs.Numbers.{all, is_zero, is_level, codes_first}
 use Rattle.h263_description.specs.Vector.{in_range, predictor}
 use Rattle.h263_description.specs.Landing.{component_of, residue_of}
 use Rattle.h263_description.specs.Valid.{valid_type, valid_levels}
-use Rattle.h263_description.specs.Kept.{kept_vector, vectors_in, BytesNear, PredictorAsked}
+use Rattle.h263_description.specs.Kept.{kept_vector, vectors_in}
 use Rattle.h263_description.specs.declared.predicted.Kept.{Kept}
 use Rattle.h263_description.proofs.Landing.{residue_low, component_residue}
 use Rattle.h263_description.proofs.Levels.{all_levels}
 use Rattle.h263_description.proofs.Predictor.{Ranged, predictor_ranged}
 use Rattle.h263_description.proofs.Parts.{intra_type, type_most}
 use Rattle.h263_writer.specs.Write.{component_bits, vector_bits, mcbpc_of, pattern_of, blocks_of, macroblock_of}
-use Rattle.h263_writer.specs.Sound.{macroblock_at, SoundMacroblock}
+use Rattle.h263_writer.specs.Sound.{macroblock_at}
 use Rattle.h263_writer.specs.Asked.{PatternAsked, BlocksAsked, ComponentAsked, ComponentsAsked, VectorAsked, TypeAsked, MacroblockAsked}
 use Rattle.h263_writer.proofs.BlockTurn.{pattern_low}
 

@@ -54,8 +54,7 @@ among-requires c = (above_low c, below_low c)
 
 pub put_row-requires : goal.put_row-requires
 put_row-requires c =
-    let at-after-put_row-arg-1 = (goal.at.put_row-requires c).After-put_row-arg-1 in
-    (
+    let at-after-put_row-arg-1 = (goal.at.put_row-requires c).After-put_row-arg-1 in (
       omega (arith, c.requires.target.room c.loop-i.i (search rules), c.loop-i.invariant.2.size),
       among_bytes c.loop-i.above c.sums-below.result (above_low at-after-put_row-arg-1) (below_low at-after-put_row-arg-1) c.among.ensures,
     )

@@ -42,12 +42,11 @@ header-opened-requires c =
     lent_placed c.args.size c.args.bytes.now c.args.count c.count_above.result (above_is-at2 c) c.if-count_above.false
 
 pub laid-read-requires : goal.laid-read-requires
-laid-read-requires c =
-    (
-      header_placed c.args.size c.args.bytes.now c.args.count c.count_above.result (above_is-at3 c) c.if-count_above.false c.header-opened.result
-          c.header-opened.ensures _ _ c.in-Got.is,
-      c.requires,
-    )
+laid-read-requires c = (
+  header_placed c.args.size c.args.bytes.now c.args.count c.count_above.result (above_is-at3 c) c.if-count_above.false c.header-opened.result
+      c.header-opened.ensures _ _ c.in-Got.is,
+  c.requires,
+)
 
 pub returns-in_default : goal.returns-in_default
 returns-in_default c =

@@ -118,5 +118,8 @@ sent-requires c =
 pub returns : goal.returns
 returns c =
     let at-after-across-across = (goal.at.returns c).After-across-across in
-    record { quantiser = stands_right-at3 c; drawn = sent_all c.args.size c.args.n (description-at4 c) c.args.reference.now (row_is at-after-across-across) (column_is at-after-across-across) c.if-kind-eq0.false c.is_intra-intra.ensures (stands_right-at3 c)
-          c.sent.ensures }
+    record {
+      quantiser = stands_right-at3 c;
+      drawn = sent_all c.args.size c.args.n (description-at4 c) c.args.reference.now (row_is at-after-across-across) (column_is at-after-across-across) c.if-kind-eq0.false c.is_intra-intra.ensures (stands_right-at3 c)
+          c.sent.ensures;
+    }

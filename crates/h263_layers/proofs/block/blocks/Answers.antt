@@ -10,11 +10,10 @@ pub loop-b-init : goal.loop-b-init
 loop-b-init c = blocks_first _ _ _ _ _ _ _ c.requires.0.placed
 
 pub one_block-read-requires : goal.one_block-read-requires
-one_block-read-requires c =
-    (
-      record { tabled = c.requires.0.tabled; placed = c.loop-b.invariant.placed },
-      omega (arith, c.loop-b.invariant.long, c.requires.1),
-    )
+one_block-read-requires c = (
+  record { tabled = c.requires.0.tabled; placed = c.loop-b.invariant.placed },
+  omega (arith, c.loop-b.invariant.long, c.requires.1),
+)
 
 pub returns-in_default : goal.returns-in_default
 returns-in_default c =

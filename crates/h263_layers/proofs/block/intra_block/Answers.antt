@@ -80,11 +80,10 @@ pub returns-then-coded-eq0 : goal.returns-then-coded-eq0
 returns-then-coded-eq0 c = intra_alone _ _ _ _ _ _ _ (code-at3 c) c.if-code-eq0.false _ (bit_off _ c.if-coded-eq0.true)
 
 pub events-requires : goal.events-requires
-events-requires c =
-    (
-      record { tabled = c.requires.0.tabled; placed = within_next _ _ _ _ _ (reads_field 8 tt) c.requires.0.placed (code-at4 c) },
-      record { forward = search rules; room = simp length-set c.requires.1 },
-    )
+events-requires c = (
+  record { tabled = c.requires.0.tabled; placed = within_next _ _ _ _ _ (reads_field 8 tt) c.requires.0.placed (code-at4 c) },
+  record { forward = search rules; room = simp length-set c.requires.1 },
+)
 
 pub returns : goal.returns
 returns c =

@@ -248,8 +248,7 @@ overflow_mul-index-2 c =
 
 pub blocks-sent-requires : goal.blocks-sent-requires
 blocks-sent-requires c =
-    let at-after-across = (goal.at.blocks-sent-requires c).After-across in
-    (
+    let at-after-across = (goal.at.blocks-sent-requires c).After-across in (
       record { tabled = c.requires.0.tabled; placed = (pointed (goal.at.blocks-sent-requires c).In-Got-pointed).placed },
       omega (arith, index_is at-after-across, (roomy at-after-across).levels, c.requires.1.levels_long),
     )

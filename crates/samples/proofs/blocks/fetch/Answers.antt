@@ -36,13 +36,12 @@ overflow_cast-block c =
     byte_fits _ (omega (arith, c.type_inv.samples (c.args.start + c.loop-i.i * c.args.stride + c.loop-j.j)))
 
 pub loop-j-preserved : goal.loop-j-preserved
-loop-j-preserved c =
-    (
-      search rules,
-      done_more (pos 0) _ _ _ _ c.loop-j.invariant.1 (search rules) (search rules)
-          (to_z_pos w32
-          (omega (arith, c.type_inv.samples (c.args.start + c.loop-i.i * c.args.stride + c.loop-j.j)))),
-    )
+loop-j-preserved c = (
+  search rules,
+  done_more (pos 0) _ _ _ _ c.loop-j.invariant.1 (search rules) (search rules)
+      (to_z_pos w32
+      (omega (arith, c.type_inv.samples (c.args.start + c.loop-i.i * c.args.stride + c.loop-j.j)))),
+)
 
 pub loop-i-preserved : goal.loop-i-preserved
 loop-i-preserved c = (search rules, done_row (pos 0) _ _ _ c.loop-j.invariant.1 (search rules))

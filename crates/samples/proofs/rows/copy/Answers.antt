@@ -27,12 +27,11 @@ put_row-requires c =
     (c.requires.most, omega (arith, c.requires.target.room c.loop-i.i (search rules), c.loop-i.invariant.1.size))
 
 pub loop-i-preserved : goal.loop-i-preserved
-loop-i-preserved c =
-    (
-      search rules,
-      put_more c.requires.target.apart c.loop-i.invariant.1
-          (row_as (λ j l. c.row-samples.ensures.first j l) c.put_row.ensures),
-    )
+loop-i-preserved c = (
+  search rules,
+  put_more c.requires.target.apart c.loop-i.invariant.1
+      (row_as (λ j l. c.row-samples.ensures.first j l) c.put_row.ensures),
+)
 
 pub returns : goal.returns
 returns c = put_end c.loop-i.invariant.1 (search rules) (search rules)
