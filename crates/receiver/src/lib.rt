@@ -1,4 +1,6 @@
 // A receiver of one clip's blocks: each is judged, collected and answered, and a last part's picture is read and drawn.
+#![tactic(auto)]
+
 ghost use Rattle.std.specs.Prelude.{◌≡◌, ◌≤◌};
 ghost use Rattle.coding.specs.Kind.{coding_of};
 ghost use Rattle.vault.specs.Parts.{placed_payload};

@@ -1,5 +1,4 @@
 -- `receiver::receive` meets its contract: by the lengths, then by the judgement of the block. Assumes nothing.
-use borrow.Author.Rules.{rules}
 use mathlib.Core.Path.{◌≡◌, sym, ap, ◌∙◌}
 use mathlib.Core.Bool.{Bool, true, false}
 use mathlib.Core.List.{List}
@@ -18,8 +17,7 @@ use Rattle.standing.specs.Answered.{Reply, reply}
 use Rattle.standing.specs.Answered as A
 use Rattle.standing.specs.Receive.{Buffers, buffers, Outcome, named_lengths, judged_block, line_of, by_line, by_judgement, decide, came_to, step}
 use Rattle.receiver.proofs.Laws.{ready}
-use Rattle.receiver.proofs.receive.Statement.{statement}
-use Rattle.receiver.proofs.receive.Tie as tie
+use Rattle.receiver.proofs.receive.Goals as goal
 
 module _ {right : Bool} {size : Size} (r : Receiver) (block collection first second : List ℕ) (sz : size ≡ kind_size r.kind)
     (is : right ≡ named_lengths size (length collection) (length first) (length second)) where
@@ -53,52 +51,20 @@ module _ {right : Bool} {size : Size} (r : Receiver) (block collection first sec
   unfolding by_judgement came_to
   short e h = ap (λ (y : Reply). record { gave = y; left = lent }) h ∙ came (refused 1 0) (by_lengths false e)
 
-act-requires : tie.Need-act-requires
-act-requires c κs =
-    let at_checked = c.before.before.before.before in
-    let at_judge = at_checked.before.before in
-    let at_standard_of = at_judge.before in
-    let at_if1 = at_standard_of.before in
-    let at_named = at_if1.before in
-    let at_size_of = at_named.before in
-    let start = at_size_of.before.before.before.before.before in
-    ready start.args.receiver.kind _ start.args.receiver.clip _ start.args.block.now start.args.collection.now start.args.first.now start.args.second.now at_size_of.size_of.ensures (sym at_named.named.ensures ∙ at_if1.if1.true)
-    (sym at_judge.judge.ensures ∙ ap told_checked at_checked.checked.given.1)
+pub act-requires : goal.act-requires
+act-requires c =
+    ready c.args.receiver.kind _ c.args.receiver.clip _ c.args.block.now c.args.collection.now c.args.first.now c.args.second.now c.size_of-size.ensures (sym c.named.ensures ∙ c.if-named.true)
+    (sym c.judge-checked.ensures ∙ ap told_checked c.in-Good.is)
 
-returns : tie.Need-returns
-returns c =
-    let at_act = c.before.before.before.before.before.before in
-    let at_checked = at_act.before.before.before.before.before in
-    let at_judge = at_checked.before.before in
-    let at_standard_of = at_judge.before in
-    let at_if1 = at_standard_of.before in
-    let at_named = at_if1.before in
-    let at_size_of = at_named.before in
-    let start = at_size_of.before.before.before.before.before in
-    good start.args.receiver start.args.block.now start.args.collection.now start.args.first.now start.args.second.now at_size_of.size_of.ensures at_named.named.ensures at_standard_of.standard-of.ensures at_if1.if1.true at_judge.judge.ensures (ap told_checked at_checked.checked.given.1) at_act.act.ensures
+pub returns-in-Good : goal.returns-in-Good
+returns-in-Good c =
+    good c.args.receiver c.args.block.now c.args.collection.now c.args.first.now c.args.second.now c.size_of-size.ensures c.named.ensures c.standard_of-standard.ensures c.if-named.true c.judge-checked.ensures (ap told_checked c.in-Good.is) c.act.ensures
 
-returns-2 : tie.Need-returns-2
-returns-2 c =
-    let at_checked2 = c.before.before in
-    let at_judge = at_checked2.before.before in
-    let at_standard_of = at_judge.before in
-    let at_if1 = at_standard_of.before in
-    let at_named = at_if1.before in
-    let at_size_of = at_named.before in
-    let start = at_size_of.before.before.before.before.before in
-    bad start.args.receiver start.args.block.now start.args.collection.now start.args.first.now start.args.second.now at_size_of.size_of.ensures at_named.named.ensures at_standard_of.standard-of.ensures at_if1.if1.true at_judge.judge.ensures (ap told_checked at_checked2.checked2.given.1) c.refuse.ensures
+pub returns-in-Refused : goal.returns-in-Refused
+returns-in-Refused c =
+    bad c.args.receiver c.args.block.now c.args.collection.now c.args.first.now c.args.second.now c.size_of-size.ensures c.named.ensures c.standard_of-standard.ensures c.if-named.true c.judge-checked.ensures (ap told_checked c.in-Refused.is) c.refuse.ensures
 
-returns-3 : tie.Need-returns-3
+pub returns-else-named : goal.returns-else-named
 unfolding number read_table
-returns-3 c =
-    let at_if1 = c.before in
-    let at_named = at_if1.before in
-    let at_size_of = at_named.before in
-    let start = at_size_of.before.before.before.before.before in
-    short start.args.receiver start.args.block.now start.args.collection.now start.args.first.now start.args.second.now at_size_of.size_of.ensures at_named.named.ensures at_if1.if1.false c.refuse2.ensures
-
-pub receive_spec : {M : Type 1} → statement M
-receive_spec =
-    tie.close
-    (tie.spec (λ c κs. search rules) (λ c κs. search rules) (λ c κs. search rules) (λ c κs. search rules) (λ c. search rules) act-requires (λ c. search rules)
-    (λ c κs. search rules) (λ c κs. search rules) (λ c. search rules) (λ c. search rules) (λ c. search rules) returns returns-2 returns-3)
+returns-else-named c =
+    short c.args.receiver c.args.block.now c.args.collection.now c.args.first.now c.args.second.now c.size_of-size.ensures c.named.ensures c.if-named.false c.refuse-else-named.ensures

@@ -1,5 +1,4 @@
 -- `receiver::collect` meets its contract: by whether the part is the last. Assumes nothing.
-use borrow.Author.Rules.{rules}
 use mathlib.Core.Path.{◌≡◌, sym, ap, ◌∙◌}
 use mathlib.Core.Bool.{true, false}
 use mathlib.Core.List.{List}
@@ -16,8 +15,7 @@ use Rattle.standing.specs.Answered as A
 use Rattle.standing.specs.Receive.{Buffers, buffers, taken, count_of, ended_picture, took_of, taken_progress, with_progress, outcome, came_to}
 use Rattle.receiver.specs.Receiving.{Settles}
 use Rattle.receiver.proofs.Laws.{ended_collects}
-use Rattle.receiver.proofs.collect.Statement.{statement}
-use Rattle.receiver.proofs.collect.Tie as tie
+use Rattle.receiver.proofs.collect.Goals as goal
 
 module _ (r : Receiver) (header : Header) (standing : Standing) (block collection first second : List ℕ) where
   abbrev lent : Buffers
@@ -55,23 +53,10 @@ module _ (r : Receiver) (header : Header) (standing : Standing) (block collectio
   unfolding came_to
   more_parts l e h = (λ i. record { gave = h i; left = buffers (e i) first second }) ∙ ap (came_to coding_of r block lent) (more_comes l)
 
-returns : tie.Need-returns
+pub returns-then-header : goal.returns-then-header
+returns-then-header c =
+    last_part c.args.receiver c.args.header c.args.standing c.args.block.now c.args.collection.now c.args.first.now c.args.second.now c.if-header.true c.place.ensures c.finish.ensures
+
+pub returns : goal.returns
 returns c =
-    let at_finish = c.before.before.before.before in
-    let at_if1 = at_finish.before.before.before.before in
-    let at_place = at_if1.before.before.before in
-    let start = at_place.before.before.before.before.before.before in
-    last_part start.args.receiver start.args.header start.args.standing start.args.block.now start.args.collection.now start.args.first.now start.args.second.now at_if1.if1.true at_place.place.ensures at_finish.finish.ensures
-
-returns-2 : tie.Need-returns-2
-returns-2 c =
-    let at_if1 = c.before in
-    let at_place = at_if1.before.before.before in
-    let start = at_place.before.before.before.before.before.before in
-    more_parts start.args.receiver start.args.header start.args.standing start.args.block.now start.args.collection.now start.args.first.now start.args.second.now at_if1.if1.false at_place.place.ensures c.take.ensures
-
-pub collect_spec : {M : Type 1} → statement M
-collect_spec =
-    tie.close
-    (tie.spec (λ c κs. search rules) (λ c κs. search rules) (λ c. search rules) (λ c. search rules) (λ c. search rules) returns
-    (λ c κs. search rules) (λ c. search rules) returns-2)
+    more_parts c.args.receiver c.args.header c.args.standing c.args.block.now c.args.collection.now c.args.first.now c.args.second.now c.if-header.false c.place.ensures c.take.ensures

@@ -1,5 +1,4 @@
 -- `receiver::finish` meets its contract: by the verdict of the rules and of the mark. Assumes nothing.
-use borrow.Author.Rules.{rules}
 use mathlib.Core.Path.{◌≡◌, sym, ap, ◌∙◌}
 use mathlib.Core.Bool.{Bool, true, false}
 use mathlib.Core.List.{List}
@@ -23,8 +22,7 @@ use Rattle.standing.specs.Answered as A
 use Rattle.standing.specs.Receive.{failed, finished, mark_of, count_of, ended_picture, failed_receiver, tick_in, finished_reply}
 use Rattle.stores.specs.Kept.{stores_or}
 use Rattle.receiver.specs.Receiving.{Settles}
-use Rattle.receiver.proofs.finish.Statement.{statement}
-use Rattle.receiver.proofs.finish.Tie as tie
+use Rattle.receiver.proofs.finish.Goals as goal
 
 module _ (r : Receiver) (header : Header) (s : Stores) where
   -- the mark that the picture came with, and what is judged of what was read
@@ -84,35 +82,18 @@ module _ (r : Receiver) (header : Header) (s : Stores) where
           → Settles coding_of r s (ended_picture coding_of r header read) x t
       refused_so e h = fails read (sym (ap told_drawn e) ∙ v ∙ tr_is) (k ∙ ap (stores_or r.last.holder s) store_is) h
 
-keep-read-requires : tie.Need-keep-read-requires
-keep-read-requires c κs =
-    let start = c.before.before.before.before.before.before.before.before.before in
-    record { reference_long = start.requires.first_long; store_long = start.requires.second_long }
+pub keep_read-drawn-requires : goal.keep_read-drawn-requires
+keep_read-drawn-requires c =
+    record { reference_long = c.requires.first_long; store_long = c.requires.second_long }
 
-returns : tie.Need-returns
-returns c =
-    let at_drawn = c.before.before in
-    let at_keep_read = at_drawn.before.before.before.before.before.before in
-    let at_mark_with = at_keep_read.before.before.before in
-    let at_count_of = at_mark_with.before in
-    let start = at_count_of.before.before.before.before.before.before in
-    refused_so start.args.receiver start.args.header (stores start.args.first.now start.args.second.now) start.args.collection.now
-    at_count_of.count-of.ensures at_mark_with.mark-with.ensures
-    at_keep_read.keep-read.result at_keep_read.keep-read.ensures.0 at_keep_read.keep-read.ensures.1 at_drawn.drawn.given.1 c.fail.ensures
+pub returns-in-Refused : goal.returns-in-Refused
+returns-in-Refused c =
+    refused_so c.args.receiver c.args.header (stores c.args.first.now c.args.second.now) c.args.collection.now
+    c.count_of-count.ensures c.mark_with-marked.ensures
+    c.keep_read-drawn.result c.keep_read-drawn.ensures.answer c.keep_read-drawn.ensures.samples c.in-Refused.is c.fail.ensures
 
-returns-2 : tie.Need-returns-2
-returns-2 c =
-    let at_drawn = c.before.before in
-    let at_keep_read = at_drawn.before.before.before.before.before.before in
-    let at_mark_with = at_keep_read.before.before.before in
-    let at_count_of = at_mark_with.before in
-    let start = at_count_of.before.before.before.before.before.before in
-    picture_so start.args.receiver start.args.header (stores start.args.first.now start.args.second.now) start.args.collection.now
-    at_count_of.count-of.ensures at_mark_with.mark-with.ensures
-    at_keep_read.keep-read.result at_keep_read.keep-read.ensures.0 at_keep_read.keep-read.ensures.1 _ at_drawn.drawn2.given.1 c.succeed.ensures
-
-pub finish_spec : {M : Type 1} → statement M
-finish_spec =
-    tie.close
-    (tie.spec (λ c κs. search rules) (λ c κs. search rules) keep-read-requires (λ c. search rules) (λ c κs. search rules) (λ c. search rules)
-    (λ c κs. search rules) (λ c. search rules) (λ c. search rules) returns (λ c. search rules) (λ c. search rules) returns-2)
+pub returns-in-Picture : goal.returns-in-Picture
+returns-in-Picture c =
+    picture_so c.args.receiver c.args.header (stores c.args.first.now c.args.second.now) c.args.collection.now
+    c.count_of-count.ensures c.mark_with-marked.ensures
+    c.keep_read-drawn.result c.keep_read-drawn.ensures.answer c.keep_read-drawn.ensures.samples _ c.in-Picture.is c.succeed.ensures
