@@ -1,4 +1,6 @@
 // A sender of one clip: state by value, in and out.
+#![tactic(auto)]
+
 ghost use Rattle.std.specs.Prelude.{◌≡◌, ◌<◌, eqb, length};
 ghost use Rattle.laws.specs.Choice.{both, either, opposite};
 ghost use Rattle.refusals.specs.Number.{refusal};
