@@ -11,14 +11,14 @@ use lib.ListN.{length, get_or, set, length-append}
 use lib.Seq.{sets}
 use Rattle.laws.specs.Choice.{pick}
 use Rattle.laws.proofs.Choice.{true-T}
-use Rattle.bits.specs.Bits.{Bit, bit0, bit1, bit_of, bits_of, bit_num, bit_at, bits_from, bits_left}
-use Rattle.bits.proofs.Value.{bit_num-lt, bits_split, byte_bits, left_none, left_more}
+use Rattle.bits.specs.Bits.{Bit, bit0, bit1, bit_of, bits_of, bit_num, bit_at, bits_from}
+use Rattle.bits.proofs.Value.{bits_split, byte_bits, left_none, left_more}
 use Rattle.bits.specs.Write.{bytes_with}
 use Rattle.bits.specs.Appended.{FieldFits}
 use Rattle.bits.proofs.Stores.{bytes_in, stored_none}
 use Rattle.bits.proofs.Write.{length_written, written_more}
 use Rattle.stream.specs.declared.Stream.{Stream}
-use Rattle.stream.specs.Stream.{bit_number, one_more, window_after, starts_at, begun_by, longer_by, stream_after, beginning, extended, kept_after, ran_from, kept_from, until_start, is_one, bits_on}
+use Rattle.stream.specs.Stream.{bit_number, window_after, starts_at, begun_by, longer_by, stream_after, beginning, extended, kept_after, ran_from, kept_from, until_start, is_one, bits_on}
 use Rattle.stream.specs.Pictures.{as_bit}
 use Rattle.stream.specs.Bytes.{bits_of_number, last_after, before_after, Calm, Reaches}
 use Rattle.stream.proofs.StreamLaws.{more_below, one_bit}

@@ -3,13 +3,13 @@
 use mathlib.Core.Path.{◌≡◌, refl, sym, ap, subst, ◌∙◌}
 use mathlib.Core.Bool.{Bool, true, false}
 use mathlib.Core.List.{List, [], ◌∷◌, ◌++◌}
-use Prim.Native.Nat.{ℕ, zero, suc, ◌+◌, ◌-◌, ◌*◌, ◌/◌, ◌%◌, ◌^◌, ◌<◌, ◌≤◌, min, max}
+use Prim.Native.Nat.{ℕ, zero, suc, ◌+◌, ◌-◌, ◌*◌, ◌/◌, ◌%◌, ◌^◌, ◌<◌, ◌≤◌}
 use native.Mathlib.Nat.{le_of_suc-le-suc, not-suc-le-zero, zero-div}
 use native.Mathlib.Omega.{arith}
 use borrow.Author.Tests.{le-leb, le-ltb}
-use lib.Dec.{leb, ltb, eqb}
+use lib.Dec.{ltb, eqb}
 use lib.ListN.{length, replicate, length-append, length-replicate}
-use Rattle.laws.specs.Choice.{pick, both, either}
+use Rattle.laws.specs.Choice.{pick, either}
 use Rattle.refusals.specs.declared.Reason.{Reason}
 use Rattle.refusals.specs.declared.Reason.TheVariants.{BitsEnd, Count}
 use Rattle.refusals.specs.Number.{number, read_table}
@@ -40,7 +40,7 @@ use Rattle.coding.specs.Described.{read_of}
 use Rattle.h261_reader.proofs.Verdicts.{all_read}
 use Rattle.h261_readback.proofs.Extends.{Goes, Extends, ext_mba_word, ext_macroblock, ext_head, ext_group, ext_header}
 use Rattle.h261_readback.proofs.Macroblocks.{not-ended}
-use Rattle.stream.specs.Filled.{count_of, among_zeros, or_else, unfilled, by_first, filled_read}
+use Rattle.stream.specs.Filled.{count_of, or_else, unfilled, by_first, filled_read}
 use Rattle.stream.specs.Fill.{ShortFill}
 
 -- ---- a read that ends the picture, and the same with more bits after it

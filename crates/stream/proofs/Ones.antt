@@ -1,6 +1,6 @@
 -- The last one of a number's bits, and the one before it, by the zeros after them. Assumes nothing.
 use mathlib.Core.Path.{◌≡◌, refl, sym, ap, ◌∙◌}
-use mathlib.Core.Bool.{Bool, true, false}
+use mathlib.Core.Bool.{Bool}
 use mathlib.Core.List.{List, [], ◌∷◌, ◌++◌, map, map-append}
 use Prim.Native.Nat.{ℕ, zero, suc, ◌+◌, ◌-◌, ◌*◌, ◌/◌, ◌%◌, ◌^◌, ◌<◌, ◌≤◌}
 use native.Mathlib.Nat.{mod-lt, pow-suc}
@@ -10,7 +10,7 @@ use lib.Dec.{lit<, lit≤}
 use lib.ListN.{length, length-map}
 use lib.Pow.{shr_lt, shr-shr}
 use Rattle.laws.specs.Choice.{pick}
-use Rattle.bits.specs.Bits.{Bit, bit_of, bits_of}
+use Rattle.bits.specs.Bits.{bit_of, bits_of}
 use Rattle.bits.proofs.Numbers.{bits_of-append}
 use Rattle.bits.proofs.Fields.{length-bits_of}
 use Rattle.stream.specs.Stream.{is_one}

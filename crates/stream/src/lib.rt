@@ -1,5 +1,7 @@
 // A raw H.261 stream, bit by bit: its pictures, at any bit, with fill of zeros between. What a bit comes to is said and proved of one bit; where no start code can end within
 // the next eight, they are taken at once.
+#![tactic(auto)]
+
 ghost use Rattle.std.specs.Prelude.{◌≡◌, true, ◌+◌, ◌*◌, ◌<◌, ◌≤◌, min, max, length};
 ghost use Rattle.layout.specs.Flat.{flat};
 ghost use Rattle.refusals.specs.Number.{number};
