@@ -1,4 +1,6 @@
 // What the words that a program is started with name.
+#![tactic(auto)]
+
 ghost use Rattle.std.specs.Prelude.{◌≡◌, ◌+◌, ◌-◌, ◌*◌, ◌≤◌};
 ghost use Rattle.arguments.specs.Words.{size_named, kind_sized, kind_named, digit, longer, clip_named, size_alone, clip_in, size_with_clip, vault_named};
 
