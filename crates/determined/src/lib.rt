@@ -1,1 +1,2 @@
 // Theorems alone: two outcomes that a promise allows are equal. Assumes nothing.
+#![tactic(auto)]

@@ -1,1 +1,2 @@
 // Theorems alone: what a salvaged clip and its log are, over any coding. Assumes nothing.
+#![tactic(auto)]
