@@ -26,8 +26,8 @@ use Rattle.standing.specs.Stores.{any_finished}
 use Rattle.standing.specs.Answered.{Said}
 use Rattle.standing.specs.Receive.{Buffers, lent_lengths, Outcome, tick_in, step}
 use Rattle.standing.specs.Run.{World}
-use Rattle.demand3.specs.Clip.{Picture, Clip, opening, pictures_in, Fresh, begin, world_given, upon}
-use Rattle.demand3.specs.Ticks.{tick_through, tr_in, TickAgainst, ClipTicks, ClipTicksAlways, ClipTicksMet}
+use Rattle.demand3.specs.Clip.{Picture, opening, pictures_in, world_given, upon}
+use Rattle.demand3.specs.Ticks.{tick_through, tr_in, TickAgainst, ClipTicksAlways, ClipTicksMet}
 use Rattle.demand3.proofs.Sent.{Part, clip_part, none-some}
 use Rattle.demand3.proofs.Step.{Moment, world_at, tick_of}
 use Rattle.demand3.proofs.Held.{Sound, Held, is_picture, Moves, stays, finishes, Goes, step_held, after_comes, Parts}

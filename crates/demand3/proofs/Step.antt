@@ -7,7 +7,7 @@ use native.Mathlib.Omega.{arith}
 use borrow.Author.Tests.{eqb-true, eq-eqb}
 use lib.Dec.{eqb}
 use lib.ListN.{length}
-use Rattle.laws.specs.Choice.{pick, both, alike}
+use Rattle.laws.specs.Choice.{pick, alike}
 use Rattle.laws.proofs.Choice.{two_of}
 use Rattle.bits.specs.Bits.{Bit}
 use Rattle.coding.specs.declared.Kind.{Kind}

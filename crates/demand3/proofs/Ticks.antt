@@ -7,9 +7,9 @@ use native.Mathlib.Nat.{mod-eq_of_lt, mul-le-mul_left, mul-le-mul_right}
 use native.Mathlib.Omega.{arith}
 use borrow.Author.Tests.{eq-eqb, ltb-false}
 use lib.Dec.{eqb, ltb}
-use Rattle.laws.specs.Choice.{pick, both, either, opposite, alike}
+use Rattle.laws.specs.Choice.{pick, both, opposite, alike}
 use Rattle.refusals.specs.Told.{untabled, Told, accepted, refused_by, refused}
-use Rattle.refusals.proofs.Told.{accepted_once, told_apart}
+use Rattle.refusals.proofs.Told.{told_apart}
 use Rattle.coding.specs.declared.Kind.{Kind}
 use Rattle.coding.specs.Coding.{Coding}
 use Rattle.coding.specs.Kind.{kind_size, kind_standard, AllLawful}
@@ -17,7 +17,7 @@ use Rattle.vault.specs.declared.Header.{Header}
 use Rattle.vault.specs.Block.{pictures, judge_of}
 use Rattle.vault.proofs.Judged.{judged_good, good_sound}
 use Rattle.ticks.specs.declared.Tick.{Tick}
-use Rattle.ticks.specs.Tick.{tick_number, is_exact, tick_above, greatest_tick, cut_tick, first_tick, later_tick}
+use Rattle.ticks.specs.Tick.{tick_number, is_exact, tick_above, greatest_tick, first_tick, later_tick}
 use Rattle.ticks.proofs.TickLaws.{tick_is_least, as_number, as_exact, later_number, later_exact, cut_same, above_most}
 use Rattle.standing.specs.declared.Last.{Last}
 use Rattle.standing.specs.declared.Line.{Line}
@@ -26,7 +26,6 @@ use Rattle.standing.specs.declared.Progress.{Progress}
 use Rattle.standing.specs.declared.Receiver.{Receiver}
 use Rattle.standing.specs.declared.Standing.{Standing}
 use Rattle.standing.specs.Stores.{any_finished, goes_into}
-use Rattle.standing.specs.Answered.{Said}
 use Rattle.standing.specs.Receive.{Event, refusing, old, taken, lost, failed, finished, Buffers, place_of, earlier_place, same_place, is_lost, line_of, count_of, mark_of, fresh_receiver, lent_lengths, judged_block, ended_picture, took_of, by_line, by_judgement, decide, tick_in, finished_tick, advance, answer_of, collection_after, stored_by, came_to, step}
 use Rattle.standing.specs.Run.{World, world_after, run, answers}
 use Rattle.demand3.specs.Clip.{Fresh, begin}
@@ -36,7 +35,6 @@ use Rattle.demand3.proofs.InStep.{receiver_opened}
 use Rattle.standing.specs.declared.Holder.{Holder}
 use Rattle.standing.specs.declared.Holder.TheVariants as H
 use Rattle.standing.specs.declared.Standing.TheVariants as S
-use Rattle.standing.specs.Answered as A
 
 -- ---- numbers
 -- a tick below the modulus times the picture's number and one more: so is the next
