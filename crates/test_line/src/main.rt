@@ -3,6 +3,8 @@
 // A record on standard input is N (4 bytes, high byte first), which buffer is lent without its last entry (1 byte: 0 none, 1 the output, 2 the list of places), the slice's
 // length (2 bytes, at most 4096), and the slice. Every byte of the output is 165 before, and every place 7. The answer, `replayed LOCK BITS PLACES` or `refused NUMBER`, goes
 // to standard output with the check of 4096 bytes of output and 65 places. A short last record is ignored.
+#![tactic(auto)]
+
 ghost use Rattle.std.specs.Prelude.{◌≤◌, length};
 
 use capture::Replayed;
