@@ -93,8 +93,8 @@ module _ (fields levels : List ℕ) (four : length fields ≡ 4) (six : length l
 -- ---- unsent macroblocks: COD alone
 unsent_row : (k across : ℕ) (intra : Bool) (address : ℕ) (vectors : List Vector) → length (row_of k across intra 0 address vectors []) ≡ k
 unfolding row_of
-unsent_row zero across intra address vectors = refl
-unsent_row (suc k) across intra address vectors = ap suc (unsent_row k across intra (address + 1) (vectors ++ zero_vector ∷ []))
+unsent_row zero across all_intra address vectors = refl
+unsent_row (suc k) across all_intra address vectors = ap suc (unsent_row k across all_intra (address + 1) (vectors ++ zero_vector ∷ []))
 
 -- ---- INTRA macroblocks in an INTRA picture
 row_step : (k across address : ℕ) (vectors : List Vector) (m : Macroblock) (ms : List Macroblock) → m.address ≡ address

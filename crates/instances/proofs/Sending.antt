@@ -8,7 +8,7 @@ use native.Mathlib.Omega.{arith}
 use borrow.Author.Tests.{eq-eqb, ne_eqb}
 use lib.Dec.{eqb}
 use lib.ListN.{length}
-use Rattle.laws.specs.Choice.{both, either, opposite}
+use Rattle.laws.specs.Choice.{either, opposite}
 use Rattle.refusals.specs.Told.{refused}
 use Rattle.size.specs.declared.Size.{Size}
 use Rattle.size.specs.Size.{limit, store_length, collection_length, blocks_length}
