@@ -1,4 +1,6 @@
 // The vault lister's work but reading and writing: the clip that is listed, what each block comes to, and its line.
+#![tactic(auto)]
+
 ghost use Rattle.std.specs.Prelude.{◌≡◌, ◌+◌, ◌≤◌, length};
 ghost use Rattle.io.specs.Counts.{IsPrefixLen};
 ghost use Rattle.coding.specs.Kind.{kind_in, coding_of};

@@ -1,5 +1,4 @@
 -- `listing::begin` meets its contract: by the lengths, and by what is found. Assumes nothing.
-use borrow.Author.Rules.{rules}
 use Prim.Native.Nat.{ℕ}
 use mathlib.Core.Path.{◌≡◌, sym, ap, ◌∙◌}
 use mathlib.Core.Bool.{Bool, true, false}
@@ -18,8 +17,7 @@ use Rattle.standing.specs.Receive.{Buffers, buffers, lent_lengths, step}
 use Rattle.listing.specs.declared.Clip.{Clip}
 use Rattle.listing.specs.declared.Listed.{Listed}
 use Rattle.listing.specs.Listed.{came, stays, stepped, by_opened, found_by, begun}
-use Rattle.listing.proofs.begin.Statement.{statement}
-use Rattle.listing.proofs.begin.Tie as tie
+use Rattle.listing.proofs.begin.Goals as goal
 
 module _ (size : Size) (clip : Clip) (block : List ℕ) (b : Buffers) {right : Bool} (is : right ≡ lent_lengths size b) where
   -- what the call comes to, by whether the buffers have their named lengths
@@ -43,33 +41,19 @@ module _ (size : Size) (clip : Clip) (block : List ℕ) (b : Buffers) {right : B
     unfolding by_opened
     not_yet g o = ap (λ (y : Listed). came y b) o ∙ on g
 
-returns : tie.Need-returns
-returns c =
-    let at_go_on = c.before.before.before.before.before.before in
-    let at_receiver = at_go_on.before.before.before.before.before in
-    let at_find = at_receiver.before.before in
-    let at_named = at_find.before.before in
-    let a = at_named.before.before.before.before.before.args in
-    at_go_on.go_on.ensures ∙ first_good a.size a.clip a.block.now (buffers a.collection.now a.first.now a.second.now)
-    at_named.named.ensures at_find.before.if1.true at_find.find.ensures (ap told_opened at_receiver.receiver.given.1)
+pub returns-in-Open : goal.returns-in-Open
+returns-in-Open c =
+    let a = c.args in
+    c.go_on.ensures ∙ first_good a.size a.clip a.block.now (buffers a.collection.now a.first.now a.second.now)
+    c.named.ensures c.if-named.true c.find.ensures (ap told_opened c.in-Open.is)
 
-returns-2 : tie.Need-returns-2
-returns-2 c =
-    let at_why = c.before.before in
-    let at_find = at_why.before.before in
-    let at_named = at_find.before.before in
-    let a = at_named.before.before.before.before.before.args in
+pub returns-in-Refused : goal.returns-in-Refused
+returns-in-Refused c =
+    let a = c.args in
     not_yet a.size a.clip a.block.now (buffers a.collection.now a.first.now a.second.now)
-    at_named.named.ensures at_find.before.if1.true at_find.find.ensures (ap told_opened at_why.why.given.1) c.refused.ensures
+    c.named.ensures c.if-named.true c.find.ensures (ap told_opened c.in-Refused.is) c.refused.ensures
 
-returns-3 : tie.Need-returns-3
-returns-3 c =
-    let at_named = c.before.before in
-    let a = at_named.before.before.before.before.before.args in
-    unfit a.size a.clip a.block.now (buffers a.collection.now a.first.now a.second.now) at_named.named.ensures c.before.if1.false c.refused2.ensures
-
-pub begin_spec : {M : Type 1} → statement M
-begin_spec =
-    tie.close
-    (tie.spec (λ c κs. search rules) (λ c κs. search rules) (λ c. search rules) (λ c κs. search rules) (λ c. search rules) (λ c κs. search rules) (λ c κs. search rules)
-    (λ c. search rules) (λ c. search rules) (λ c. search rules) returns returns-2 returns-3)
+pub returns-else-named : goal.returns-else-named
+returns-else-named c =
+    let a = c.args in
+    unfit a.size a.clip a.block.now (buffers a.collection.now a.first.now a.second.now) c.named.ensures c.if-named.false c.refused-else-named.ensures
