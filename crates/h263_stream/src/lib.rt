@@ -1,4 +1,6 @@
 // A raw H.263 stream, byte by byte: its pictures begin at bytes, at their start codes, and end before the next start code or end code at a byte.
+#![tactic(auto)]
+
 ghost use Rattle.std.specs.Prelude.{◌≡◌, ◌+◌, ◌-◌, ◌<◌, min, length, drop, set};
 ghost use Rattle.refusals.specs.Told.{numbers_of, told_verdict, verdict_on, found_or};
 ghost use Rattle.fields.specs.Answer.{found};
