@@ -2,6 +2,8 @@
 //
 // Records of the case's length come on standard input, and the answer to each goes to standard output; src/words.rt, blocks.rt and due.rt say how both look. A short last
 // record is ignored.
+#![tactic(auto)]
+
 ghost use Rattle.test_leaves.specs.Words.{TablesLent};
 
 use h261_words::WordTables;

@@ -3,9 +3,7 @@ use mathlib.Core.Path.{◌≡◌, sym, subst}
 use mathlib.Core.Bool.{true, not}
 use lib.Dec.{T}
 use lib.Ieee.{Float, nan, inf, fin, eq, is_nan}
-use borrow.Author.Rules.{rules}
-use Rattle.test_leaves.proofs.due.bits.Statement.{statement}
-use Rattle.test_leaves.proofs.due.bits.Tie as tie
+use Rattle.test_leaves.proofs.due.bits.Goals as goal
 
 is_number : (x : Float) → eq x x ≡ true → T (not (is_nan x))
 unfolding eq is_nan
@@ -13,8 +11,5 @@ is_number nan e = absurd (subst T (sym e) tt)
 is_number (inf s) e = tt
 is_number (fin s m k) e = tt
 
-float-to-bits-result : tie.Need-float-to-bits-result
-float-to-bits-result c = is_number _ c.if1.true
-
-pub bits_spec : {M : Type 1} → statement M
-bits_spec = tie.close (tie.spec float-to-bits-result (λ c. search rules) (λ c. search rules))
+pub float_to_bits-result : goal.float_to_bits-result
+float_to_bits-result c = is_number _ c.if-seconds.true
