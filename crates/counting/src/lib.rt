@@ -1,4 +1,6 @@
 // How much reading the pictures of a vault cause: which blocks end one, how many fields and codewords reading it makes, and its line.
+#![tactic(auto)]
+
 ghost use Rattle.std.specs.Prelude.{◌≡◌, ◌+◌, ◌≤◌, length};
 ghost use Rattle.io.specs.Counts.{IsPrefixLen};
 ghost use Rattle.coding.specs.Kind.{coding_of, reads_of};
