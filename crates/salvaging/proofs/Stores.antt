@@ -4,8 +4,8 @@ use mathlib.Core.List.{List, [], ◌∷◌, ◌++◌, append-nil, append_assoc}
 use Prim.Native.Nat.{ℕ, suc, ◌+◌, ◌*◌, ◌≤◌}
 use native.Mathlib.Nat.{add-zero, add-suc, suc-add}
 use native.Mathlib.Omega.{arith}
-use lib.ListN.{length, get_or, set, take, drop, length-append, length-drop, drop_of_length-le}
-use lib.Seq.{sets, sets-eq, drop-drop, take-length}
+use lib.ListN.{length, get_or, set, take, drop, length-append, length-drop}
+use lib.Seq.{sets, sets-eq, drop-drop}
 use Rattle.laws.proofs.Splice.{sets_after}
 use Rattle.ticks.specs.declared.Tick.TheVariants as T
 use Rattle.standing.specs.Answered.{Said}
@@ -97,9 +97,3 @@ laid_more xs vs old at e n =
   where
     room : length vs ≤ length (drop (length xs) old)
     room = omega (arith, length-drop (length xs) old)
-
--- the whole of a list, copied over one of its length
-pub copied_whole : (s d : List ℕ) → length d ≡ length s → take (length s) s ++ drop (length s) d ≡ s
-copied_whole s d e =
-    let past : length d ≤ length s = omega arith in
-    (λ i. take-length s i ++ drop_of_length-le d past i) ∙ append-nil s

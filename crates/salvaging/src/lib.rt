@@ -2,6 +2,8 @@
 //
 // Whether a block that is taken goes to the new clip is known once its picture is finished or dropped: a second receiver runs ahead to there. `salvage` does so over a lent list; the program
 // over a file, by the same steps.
+#![tactic(auto)]
+
 ghost use Rattle.std.specs.Prelude.{◌≡◌, true, [], ◌∷◌, ◌++◌, ◌+◌, ◌*◌, ◌%◌, ◌≤◌, ◌<◌, length};
 ghost use Rattle.std.proofs.lemmas.List.Edits.{sets};
 ghost use Rattle.refusals.specs.Number.{refusal};

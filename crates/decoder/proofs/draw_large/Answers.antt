@@ -1,5 +1,4 @@
 -- `decoder::draw_large` meets its contract: the scratch has room for the kind. Assumes nothing.
-use borrow.Author.Rules.{rules}
 use Rattle.size.proofs.Room.{part_long}
 use Rattle.coding.proofs.Scratch.{scratch_zeros}
 use Rattle.std.proofs.Common.{rules, arith}

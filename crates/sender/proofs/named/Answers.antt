@@ -1,5 +1,5 @@
 -- `sender::named` meets its contract: by the description, the output, the stores. Assumes nothing.
-use borrow.Author.Tests.{not-true, not-false, eq-eqb, ne_eqb}
+use borrow.Author.Tests.{eq-eqb, ne_eqb}
 use mathlib.Core.Path.{◌≡◌, sym, ap, ◌∙◌}
 use mathlib.Core.Bool.{Bool, true, false}
 use mathlib.Core.List.{List}
@@ -39,12 +39,12 @@ module _ {one : Bool} (k : Kind) (d : Flat) (out first second : List ℕ) (is : 
 
 pub returns-then-not-named : goal.returns-then-not-named
 returns-then-not-named c =
-    not_one c.args.kind (flat c.args.head.now c.args.macroblocks.now c.args.levels.now) c.args.out.now c.args.first.now c.args.second.now c.named.ensures (not-true _ c.if-not-named.true-raw)
+    not_one c.args.kind (flat c.args.head.now c.args.macroblocks.now c.args.levels.now) c.args.out.now c.args.first.now c.args.second.now c.named.ensures c.if-not-named.true
 
 pub returns-then-out-blocks_length : goal.returns-then-out-blocks_length
 returns-then-out-blocks_length c =
-    unfit c.args.kind (flat c.args.head.now c.args.macroblocks.now c.args.levels.now) c.args.out.now c.args.first.now c.args.second.now c.named.ensures (not-false _ c.if-not-named.false-raw) c.size_of-size.ensures c.blocks_length.ensures c.if-out-blocks_length.true
+    unfit c.args.kind (flat c.args.head.now c.args.macroblocks.now c.args.levels.now) c.args.out.now c.args.first.now c.args.second.now c.named.ensures c.if-not-named.false c.size_of-size.ensures c.blocks_length.ensures c.if-out-blocks_length.true
 
 pub returns : goal.returns
 returns c =
-    fit c.args.kind (flat c.args.head.now c.args.macroblocks.now c.args.levels.now) c.args.out.now c.args.first.now c.args.second.now c.named.ensures (not-false _ c.if-not-named.false-raw) c.size_of-size.ensures c.blocks_length.ensures c.if-out-blocks_length.false c.sized.ensures
+    fit c.args.kind (flat c.args.head.now c.args.macroblocks.now c.args.levels.now) c.args.out.now c.args.first.now c.args.second.now c.named.ensures c.if-not-named.false c.size_of-size.ensures c.blocks_length.ensures c.if-out-blocks_length.false c.sized.ensures

@@ -1,6 +1,5 @@
 -- `sender::send` meets its contract: by the judgements in their order. Assumes nothing.
 use mathlib.Core.Path.{sym, ap, ◌∙◌}
-use borrow.Author.Tests.{not-true, not-false}
 use lib.Dec.{eqb}
 use Rattle.laws.specs.Choice.{either, opposite}
 use Rattle.refusals.specs.Number.{number, read_table}
@@ -18,11 +17,11 @@ passed : (c : Else-not-begins) → Passed coding_of c.args.sender c.is_refresh-r
     (buffers c.args.out.now c.args.first.now c.args.second.now)
 passed c =
     record {
-      named_is = (sym c.named.ensures ∙ not-false _ c.if-not-named.false-raw);
+      named_is = (sym c.named.ensures ∙ c.if-not-named.false);
       counted = c.if-sender-ge-PICTURES.false;
-      valid_is = (sym c.valid.ensures ∙ not-false _ c.if-not-valid.false-raw);
+      valid_is = (sym c.valid.ensures ∙ c.if-not-valid.false);
       refresh_is = c.is_refresh-refreshed.ensures;
-      begins = sym c.begins.ensures ∙ not-false _ c.if-not-begins.false-raw;
+      begins = sym c.begins.ensures ∙ c.if-not-begins.false;
     }
 
 pub returns-then-not-named : goal.returns-then-not-named
@@ -31,7 +30,7 @@ returns-then-not-named c =
     let d = flat c.args.head.now c.args.macroblocks.now c.args.levels.now in
     let lent = buffers c.args.out.now c.args.first.now c.args.second.now in
     came_refused coding_of c.args.sender d lent c.refused.ensures
-    (unnamed coding_of c.args.sender d lent (sym c.named.ensures ∙ not-true _ c.if-not-named.true-raw))
+    (unnamed coding_of c.args.sender d lent (sym c.named.ensures ∙ c.if-not-named.true))
 
 pub returns-then-sender-ge-PICTURES : goal.returns-then-sender-ge-PICTURES
 unfolding number read_table
@@ -39,7 +38,7 @@ returns-then-sender-ge-PICTURES c =
     let d = flat c.args.head.now c.args.macroblocks.now c.args.levels.now in
     let lent = buffers c.args.out.now c.args.first.now c.args.second.now in
     came_refused coding_of c.args.sender d lent c.refused-then-sender-ge-PICTURES.ensures
-    (all_sent coding_of c.args.sender d lent (sym c.named.ensures ∙ not-false _ c.if-not-named.false-raw) c.if-sender-ge-PICTURES.true)
+    (all_sent coding_of c.args.sender d lent (sym c.named.ensures ∙ c.if-not-named.false) c.if-sender-ge-PICTURES.true)
 
 pub returns-then-not-valid : goal.returns-then-not-valid
 unfolding number read_table
@@ -47,11 +46,11 @@ returns-then-not-valid c =
     let d = flat c.args.head.now c.args.macroblocks.now c.args.levels.now in
     let lent = buffers c.args.out.now c.args.first.now c.args.second.now in
     came_refused coding_of c.args.sender d lent c.refused-then-not-valid.ensures
-    (invalid coding_of c.args.sender d lent (sym c.named.ensures ∙ not-false _ c.if-not-named.false-raw) c.if-sender-ge-PICTURES.false (sym c.valid.ensures ∙ not-true _ c.if-not-valid.true-raw))
+    (invalid coding_of c.args.sender d lent (sym c.named.ensures ∙ c.if-not-named.false) c.if-sender-ge-PICTURES.false (sym c.valid.ensures ∙ c.if-not-valid.true))
 
 pub is_refresh-refreshed-requires : goal.is_refresh-refreshed-requires
 is_refresh-refreshed-requires c =
-    (sym c.valid.ensures ∙ not-false _ c.if-not-valid.false-raw)
+    (sym c.valid.ensures ∙ c.if-not-valid.false)
 
 pub returns-then-not-begins : goal.returns-then-not-begins
 unfolding number read_table
@@ -59,8 +58,8 @@ returns-then-not-begins c =
     let d = flat c.args.head.now c.args.macroblocks.now c.args.levels.now in
     let lent = buffers c.args.out.now c.args.first.now c.args.second.now in
     came_refused coding_of c.args.sender d lent c.refused-then-not-begins.ensures
-    (not_refresh coding_of c.args.sender d lent (sym c.named.ensures ∙ not-false _ c.if-not-named.false-raw) c.if-sender-ge-PICTURES.false (sym c.valid.ensures ∙ not-false _ c.if-not-valid.false-raw)
-    (sym (c.begins.ensures ∙ ap (either (opposite (eqb c.args.sender.picture 0))) c.is_refresh-refreshed.ensures) ∙ not-true _ c.if-not-begins.true-raw))
+    (not_refresh coding_of c.args.sender d lent (sym c.named.ensures ∙ c.if-not-named.false) c.if-sender-ge-PICTURES.false (sym c.valid.ensures ∙ c.if-not-valid.false)
+    (sym (c.begins.ensures ∙ ap (either (opposite (eqb c.args.sender.picture 0))) c.is_refresh-refreshed.ensures) ∙ c.if-not-begins.true))
 
 pub send_small-requires : goal.send_small-requires
 send_small-requires c =

@@ -1,0 +1,7 @@
+-- `salvaging::laid_refusal` meets its contract: its numbers one after another. Assumes nothing.
+use mathlib.Core.List.{[], ◌∷◌}
+use mathlib.Core.Path.{◌∙◌}
+use Rattle.salvaging.proofs.laid_refusal.Goals as goal
+
+pub returns : goal.returns
+returns c = λ i. c.args.block ∷ 5 ∷ (c.wide.ensures ∙ c.number_of-number.ensures) i ∷ c.long.ensures i ∷ (c.wide-2.ensures ∙ c.table_of-table.ensures) i ∷ []
