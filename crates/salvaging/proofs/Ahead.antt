@@ -21,7 +21,6 @@ use Rattle.standing.specs.Answered.{Said}
 use Rattle.standing.specs.Receive.{Event, refusing, old, taken, lost, failed, finished, Buffers, place, earlier_place, is_lost, decide, advance, answer_of, came_to, step}
 use Rattle.standing.specs.Run.{World, world_after, answers}
 use Rattle.standing.specs.Answered as A
-use Rattle.standing.specs.declared.Standing.TheVariants as S
 use Rattle.salvaging.specs.Kept.{kept_numbers}
 use Rattle.salvaging.specs.Step.{Collects, still_collects, looked_at}
 use Rattle.salvaging.specs.declared.Sight.{Sight}

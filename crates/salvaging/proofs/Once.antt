@@ -1,9 +1,7 @@
 -- What `salvage` promises leaves one answer and one end of each buffer. Assumes nothing.
-use Prim.Native.Nat.{ℕ}
 use mathlib.Core.Path.{◌≡◌, sym, ap, ◌∙◌}
-use Rattle.refusals.specs.Told.{Told}
 use Rattle.refusals.proofs.Told.{accepted_once, refused_once, told_apart}
-use Rattle.salvaging.specs.Salvage.{Figures, told_salvaged, SalvageEnd, SalvageOnce}
+use Rattle.salvaging.specs.Salvage.{told_salvaged, SalvageEnd, SalvageOnce}
 use Rattle.salvaging.specs.declared.Salvaged.{Salvaged}
 use Rattle.salvaging.specs.declared.Salvaged.TheVariants.{Done, Refused}
 
