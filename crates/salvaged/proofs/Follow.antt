@@ -18,7 +18,6 @@ use Rattle.coding.specs.declared.Kind.{Kind}
 use Rattle.coding.specs.Coding.{Coding}
 use Rattle.coding.specs.Kind.{kind_size, AllLawful}
 use Rattle.vault.specs.declared.Header.{Header}
-use Rattle.vault.specs.Block.{pictures}
 use Rattle.vault.specs.Parts.{placed_payload}
 use Rattle.vault.specs.Renewed.{renewed_block, renewed_header}
 use Rattle.ticks.specs.declared.Tick.{Tick}
