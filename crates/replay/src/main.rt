@@ -4,6 +4,8 @@
 // were; or `refused 44`, where nothing locks. A capture of any length goes through two buffers: its frames are those of `capture::replay`, by the same lock and the same step.
 //
 //     ./pagesorrel replay < clips/testsrc2-qcif-coarse.line > stream.h261
+#![tactic(auto)]
+
 ghost use Rattle.std.specs.Prelude.{◌≡◌, ◌+◌, ◌*◌, ◌≤◌, ◌<◌, length};
 ghost use Rattle.bch.specs.Frame.{byte_steps};
 
