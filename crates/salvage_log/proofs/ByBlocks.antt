@@ -10,7 +10,7 @@ use Rattle.salvaging.specs.Log.{LogEntry}
 use Rattle.salvaging.specs.Salvage.{Salvage}
 use Rattle.account.specs.Status.{status_of}
 use Rattle.salvage_log.specs.Lines.{entry_text, refused_text, entries_text, log_text}
-use Rattle.salvage_log.specs.Cuts.{entry_cuts, cut_after, salvage_status, RunTells, EveryRunTells, ByBlocks, LogByBlocks}
+use Rattle.salvage_log.specs.Cuts.{entry_cuts, cut_after, salvage_status, EveryRunTells, LogByBlocks}
 
 text_by_blocks : (before entries : List LogEntry) → entries_text (before ++ entries) ≡ entries_text before ++ entries_text entries
 unfolding entries_text

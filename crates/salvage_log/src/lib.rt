@@ -1,4 +1,6 @@
 // The log of a salvage as text, a line for each entry, and whether it says that something was cut.
+#![tactic(auto)]
+
 ghost use Rattle.std.specs.Prelude.{◌≡◌, length};
 ghost use Rattle.io.specs.Counts.{IsPrefixLen};
 ghost use Rattle.laws.specs.Choice.{either};
