@@ -2,6 +2,8 @@
 //
 // A record on standard input begins with the kind (0 QCIF and 1 CIF of H.261, 2 sub-QCIF, 3 QCIF and 4 CIF of H.263), and has a line on standard output; src/render.rt,
 // write.rt and pictures.rt say how both go on. Stops at the end of the input, at a short record, at another kind and at a length beyond the program's room.
+#![tactic(auto)]
+
 ghost use Rattle.std.specs.Prelude.{◌<◌};
 
 use std::io::{Read, Write};
