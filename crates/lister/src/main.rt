@@ -4,6 +4,8 @@
 // first good block chooses it, and standard error says which; with one, another clip's blocks are refused by 23. The clip's first good block says its standard.
 //
 //     ./pagesorrel lister qcif 7 < clip.blocks
+#![tactic(auto)]
+
 use account::End;
 use account::blocks::Met;
 use account::going::Going;
