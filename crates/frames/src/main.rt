@@ -6,6 +6,8 @@
 // The clip's first good block says its standard.
 //
 //     ./pagesorrel frames qcif 7 < clip.blocks > clip.y4m
+#![tactic(auto)]
+
 ghost use Rattle.std.specs.Prelude.{◌≡◌, length};
 ghost use Rattle.io.specs.Counts.{IsPrefixLen};
 ghost use Rattle.text.specs.Text.{over};
@@ -91,6 +93,7 @@ fn frames<I, O: Write, E>(streams: &mut Streams<I, O, E>, samples: &[u8], count:
 }
 
 // Plain grey.
+#[tactic(auto, using(size::proofs::Room::store_most))]
 fn grey_frames<I, O: Write, E>(streams: &mut Streams<I, O, E>, size: Size, count: u32) -> bool {
     let samples = size::store_length(size);
     let grey = [128u8; 152064];
@@ -477,6 +480,7 @@ fn all<I: Read, O: Write, E: Write>(
 }
 
 // The buffers have room for any size.
+#[tactic(auto, using(size::proofs::Room::collection_most, size::proofs::Room::store_most))]
 fn run<I: Read, O: Write, E: Write>(
     streams: &mut Streams<I, O, E>,
     size: Size,
