@@ -6,6 +6,8 @@
 // standard. The status is the lister's.
 //
 //     ./pagesorrel reads qcif 7 < clip.blocks
+#![tactic(auto)]
+
 use account::End;
 use account::blocks::Met;
 use account::going::Going;
@@ -198,6 +200,7 @@ fn all<I: Read, O: Write, E: Write>(
 }
 
 // The buffers have room for any size.
+#[tactic(auto, using(size::proofs::Room::collection_most, size::proofs::Room::store_most))]
 fn run<I: Read, O: Write, E: Write>(streams: &mut Streams<I, O, E>, size: Size, clip: Clip) -> End {
     let bytes = size::collection_length(size);
     let samples = size::store_length(size);
