@@ -4,6 +4,8 @@
 // sender also the number of its next picture in four, and the calls; src/send.rt and deliver.rt say how a call and its line look. Before a session every byte of the
 // sender's output is 165, of the receiver's collection buffer 51, of the first store 17, of the second 34. Lines: "opened" or "refused 22", those of the calls, and after a
 // receiver's calls "end COLLECTION FIRST SECOND" with the checks of the buffers. Stops at the end of the input and at a record that has no such form.
+#![tactic(auto)]
+
 use checks::{lent, part, two};
 use coding::Kind;
 use refusals::Refusal;
