@@ -6,6 +6,8 @@
 // second runs ahead to where the picture that is collected is finished or dropped.
 //
 //     ./pagesorrel salvage qcif 7 9 lossy.blocks > new.blocks 2> new.log
+#![tactic(auto)]
+
 use account::End;
 use account::going::Going;
 use account::input::Next;
@@ -194,7 +196,7 @@ fn settled_by(picture: u32, found: Found) -> Settled {
 // The two are of one length, so that the test never fails.
 fn copy(from: &[u8], to: &mut [u8]) {
     if from.len() <= to.len() {
-        to.copy_from_slice(from);
+        to[..from.len()].copy_from_slice(from);
     }
 }
 
