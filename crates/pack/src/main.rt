@@ -5,6 +5,8 @@
 // error is a terminal, a line there tells how far it has come.
 //
 //     ./pagesorrel pack qcif 7 < clips/testsrc2-qcif-fine.h261 > clip.blocks
+#![tactic(auto)]
+
 ghost use Rattle.std.specs.Prelude.{◌≤◌, length};
 
 use crate::h261::H261Pack;
