@@ -1,43 +1,13 @@
 -- Buffers: zeros stored over one, zeros lent, one copied over another. Assumes nothing.
-use mathlib.Core.Path.{◌≡◌, refl, sym, ap, subst, ◌∙◌}
+use mathlib.Core.Path.{◌≡◌, refl, ap, ◌∙◌}
 use mathlib.Core.List.{List, ◌∷◌, ◌++◌, append-nil}
-use mathlib.Core.Logic.{◌⊎◌, inl, inr}
-use Prim.Native.Nat.{ℕ, zero, suc, ◌+◌, ◌*◌, ◌≤◌, ◌<◌}
-use native.Mathlib.Nat.{eq-or-lt_of_le, le_of_suc-le-suc, not-suc-le-zero}
+use Prim.Native.Nat.{ℕ, zero, suc, ◌+◌, ◌*◌, ◌≤◌}
+use native.Mathlib.Nat.{le_of_suc-le-suc, not-suc-le-zero}
 use native.Mathlib.Omega.{arith}
-use lib.ListN.{length, get_or, set, replicate, take, drop, length-set, length-replicate, get_or-replicate, drop_of_length-le}
-use lib.Seq.{get_or-set_same, get_or-set_other, ext_get_or, take-length}
+use lib.ListN.{length, replicate, take, drop, length-replicate, drop_of_length-le}
+use lib.Seq.{take-length}
 use Rattle.layout.specs.Flat.{Shape, Flat, flat, zeros}
 use Rattle.layout.specs.Valid.{Lengths}
-
--- zeros stored up to i
-pub record Zeroed (l₀ l : List ℕ) (i : ℕ) : Type 0 where
-  pub long : length l ≡ length l₀
-  pub zero_to : (k : ℕ) → k < i → get_or l k 0 ≡ 0
-
-pub zeroed_none : (l : List ℕ) → Zeroed l l 0
-zeroed_none l = record { long = refl; zero_to = λ k h. absurd (not-suc-le-zero h) }
-
-pub zeroed_more : (l₀ l : List ℕ) (i : ℕ) → Zeroed l₀ l i → i < length l → Zeroed l₀ (set l i 0) (i + 1)
-zeroed_more l₀ l i h m = record { long = length-set l i 0 ∙ h.long; zero_to = λ k q. go k (eq-or-lt_of_le (at_most k q)) }
-  where
-    at_most : (k : ℕ) → k < i + 1 → k ≤ i
-    at_most k q = omega arith
-
-    apart : (k : ℕ) → k < i → k ≡ i → ⊥
-    apart k q e = omega arith
-
-    go : (k : ℕ) → (k ≡ i) ⊎ (k < i) → get_or (set l i 0) k 0 ≡ 0
-    go k (inl e) = ap (λ (j : ℕ). get_or (set l i 0) j 0) e ∙ get_or-set_same l i 0 0 m
-    go k (inr q) = get_or-set_other l i k 0 0 (apart k q) ∙ h.zero_to k q
-
-pub zeroed_all : (l₀ l : List ℕ) (i : ℕ) → Zeroed l₀ l i → length l ≤ i → l ≡ replicate (length l₀) 0
-zeroed_all l₀ l i h m =
-    ext_get_or 0 l (replicate (length l₀) 0) (h.long ∙ sym (length-replicate (length l₀) 0))
-    (λ k q. h.zero_to k (up k (length l) q m) ∙ sym (get_or-replicate (length l₀) k 0 0 (subst (λ (j : ℕ). k < j) h.long q)))
-  where
-    up : (k m : ℕ) → k < m → m ≤ i → k < i
-    up k m q l = omega arith
 
 -- ---- zeros lent
 pub zeros_long : (l : List ℕ) (k : ℕ) → l ≡ replicate k 0 → length l ≡ k

@@ -37,18 +37,3 @@ module _ (levels : List ℕ) (size : length levels ≡ 64) where
       go true true e f is = (omega arith, at 16 is (most e f))
       go true false e f is = (omega arith, at 32 is (half e))
       go false b e f is = (omega arith, at 64 is none)
-
--- the two looks
-module _ {a : Bool} (levels : List ℕ) (ae : a ≡ all is_zero (take 32 (drop 32 levels))) where
-  pub first_look : a ≡ false → 64 ≡ zeros_from levels
-  first_look e = sym (ap (λ (x : Bool). pick x (pick (all is_zero (take 16 (drop 16 levels))) 16 32) 64) (sym ae ∙ e))
-
-  module _ {b : Bool} (be : b ≡ all is_zero (take 16 (drop 16 levels))) (at : a ≡ true) where
-    second : (x : Bool) → b ≡ x → pick x 16 32 ≡ zeros_from levels
-    second x e = sym (λ i. pick ((sym ae ∙ at) i) (pick ((sym be ∙ e) i) 16 32) 64)
-
-    pub second_look : b ≡ false → 32 ≡ zeros_from levels
-    second_look e = second false e
-
-    pub both_looks : b ≡ true → 16 ≡ zeros_from levels
-    both_looks e = second true e

@@ -1,30 +1,19 @@
 // Bytes of a description under the rules that both standards have: levels, DC codes, quantisers.
 #![tactic(auto)]
 
-ghost use Rattle.std.specs.Prelude.{◌≡◌, max, length, replicate};
+ghost use Rattle.std.specs.Prelude.{◌≡◌, length, replicate};
 ghost use Rattle.layout.specs.Flat.{gather};
 ghost use Rattle.layout.specs.Pattern.{presence_of};
 ghost use Rattle.layout.specs.Numbers.{all, is_zero, is_level, is_quantiser, codes_first};
 ghost use Rattle.levels.specs.Zeros.{zeros_from};
-
-fn larger(a: u8, b: u8) -> u8
-    ensures { result ≡ max a b }
-{
-    if a < b {
-        return b;
-    }
-    a
-}
 
 // Whether every byte is 0: then the largest is. No byte ends the loop, so that it goes over many at once.
 pub fn all_zero(bytes: &[u8]) -> bool
     ensures { result ≡ all is_zero bytes.now }
 {
     let mut largest: u8 = 0;
-    let mut i: usize = 0;
-    while i < bytes.len() {
-        largest = larger(largest, bytes[i]);
-        i += 1;
+    for byte in bytes {
+        largest = largest.max(*byte);
     }
     largest == 0
 }
@@ -68,10 +57,8 @@ pub fn all_levels(bytes: &[u8]) -> bool
     ensures { result ≡ all is_level bytes.now }
 {
     let mut largest: u8 = 0;
-    let mut i: usize = 0;
-    while i < bytes.len() {
-        largest = larger(largest, no_level(bytes[i]));
-        i += 1;
+    for byte in bytes {
+        largest = largest.max(no_level(*byte));
     }
     largest == 0
 }
@@ -81,12 +68,10 @@ pub fn codes_first(bytes: &[u8]) -> bool
     requires { length bytes.now ≡ 384 }
     ensures { result ≡ codes_first 6 bytes.now }
 {
-    let mut block: usize = 0;
-    while block < 6 {
+    for block in 0..6 {
         if bytes[block * 64] == 0 {
             return false;
         }
-        block += 1;
     }
     true
 }
@@ -95,19 +80,12 @@ pub fn codes_first(bytes: &[u8]) -> bool
 pub fn is_quantiser(byte: u8) -> bool
     ensures { result ≡ is_quantiser byte }
 {
-    if byte == 0 {
-        return false;
-    }
-    byte <= 31
+    0 < byte && byte <= 31
 }
 
 // Zeros over all of a buffer.
 pub fn clear(buffer: &mut [u8])
     ensures { buffer.new ≡ replicate (length buffer.old) 0 }
 {
-    let mut i: usize = 0;
-    while i < buffer.len() {
-        buffer[i] = 0;
-        i += 1;
-    }
+    buffer.fill(0);
 }

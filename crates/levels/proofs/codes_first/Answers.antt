@@ -1,9 +1,6 @@
 -- `levels::codes_first` meets its contract: the first code of each block so far is no 0. Assumes nothing.
-use Rattle.levels.proofs.Steps.{codes_begin, codes_no, codes_more, codes_done}
+use Rattle.levels.proofs.Steps.{codes_no, codes_more, codes_done}
 use Rattle.levels.proofs.codes_first.Goals as goal
-
-pub loop-block-init : goal.loop-block-init
-loop-block-init c = codes_begin _
 
 pub returns-then-bytes-block-eq0 : goal.returns-then-bytes-block-eq0
 returns-then-bytes-block-eq0 c = codes_no c.loop-block.invariant c.loop-block-test.true c.if-bytes-block-eq0.true
