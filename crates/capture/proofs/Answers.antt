@@ -18,7 +18,8 @@ use Rattle.bits.proofs.Value.{left_drop}
 use Rattle.capture.specs.Capture.{LockPlace, lock_at, no_lock, lock_from}
 use Rattle.capture.specs.Replay.{Replay, replay_at, replay_from, replay_of, replay_end, LockedDoes, ReplayDoes}
 use Rattle.capture.specs.declared.Replayed.{Replayed}
-use Rattle.capture.specs.declared.Replayed.TheVariants.{Refused}
+use Rattle.refusals.specs.declared.Refusal.{Refusal}
+use Rattle.std.specs.Prelude.{Result, Err}
 
 -- once the lengths are right
 abbrev by_count : List ℕ → ℕ → Bool → Told Replay
@@ -26,15 +27,15 @@ by_count capture n b = pick b (replay_from (source capture n) (lock_from (source
 
 module _ (capture : List ℕ) (n : ℕ) (out places : List ℕ) where
   refused-length : (b : Bool) → b ≡ false → both (eqb (length out) (length capture)) (eqb (length places) (length capture / 64 + 1)) ≡ b
-      → ReplayDoes capture n out places (Refused (refusal Length 0)) out places
+      → ReplayDoes capture n out places (Err (refusal Length 0)) out places
   unfolding replay_of number read_table
   refused-length b e f =
       sym (ap (λ (b : Bool). replay_end out places (pick b (by_count capture n (leb n (8 * length capture))) (refused 1 0))) (f ∙ e))
 
-  pub other_output : (length out ≡ length capture → ⊥) → ReplayDoes capture n out places (Refused (refusal Length 0)) out places
+  pub other_output : (length out ≡ length capture → ⊥) → ReplayDoes capture n out places (Err (refusal Length 0)) out places
   other_output e = refused-length _ (ap (λ (b : Bool). both b (eqb (length places) (length capture / 64 + 1))) (ne_eqb (length out) (length capture) e)) refl
 
-  pub other_list : (length places ≡ length capture / 64 + 1 → ⊥) → ReplayDoes capture n out places (Refused (refusal Length 0)) out places
+  pub other_list : (length places ≡ length capture / 64 + 1 → ⊥) → ReplayDoes capture n out places (Err (refusal Length 0)) out places
   other_list e = refused-length _ (second_no (eqb (length out) (length capture)) _ (ne_eqb (length places) (length capture / 64 + 1) e)) refl
 
   module _ (room : length out ≡ length capture) (entries : length places ≡ length capture / 64 + 1) where
@@ -46,7 +47,7 @@ module _ (capture : List ℕ) (n : ℕ) (out places : List ℕ) where
     by_count_lem b e =
         (λ i. pick (right i) (by_count capture n (leb n (8 * length capture))) (refused 1 0)) ∙ ap (by_count capture n) e
 
-    pub past_slice : 8 * length capture < n → ReplayDoes capture n out places (Refused (refusal Count 0)) out places
+    pub past_slice : 8 * length capture < n → ReplayDoes capture n out places (Err (refusal Count 0)) out places
     unfolding number read_table
     past_slice l = sym (ap (replay_end out places) (by_count_lem false (lt-leb n (8 * length capture) l)))
 
@@ -58,11 +59,11 @@ module _ (capture : List ℕ) (n : ℕ) (out places : List ℕ) where
       by_lock o e =
           by_count_lem true (le-leb n (8 * length capture) lent) ∙ ap (λ (bs : List Bit). replay_from bs (lock_from bs 0)) left_is ∙ ap (replay_from (bits_left capture n 0)) (sym e)
 
-      pub nowhere_locked : no_lock ≡ lock_from (bits_left capture n 0) 0 → ReplayDoes capture n out places (Refused (refusal NoLock 0)) out places
+      pub nowhere_locked : no_lock ≡ lock_from (bits_left capture n 0) 0 → ReplayDoes capture n out places (Err (refusal NoLock 0)) out places
       unfolding number read_table
       nowhere_locked e = sym (ap (replay_end out places) (by_lock no_lock e))
 
-      pub locked_at : (p : ℕ) (answer : Replayed) (out' places' : List ℕ) → lock_at p ≡ lock_from (bits_left capture n 0) 0
+      pub locked_at : (p : ℕ) (answer : Result Replayed Refusal) (out' places' : List ℕ) → lock_at p ≡ lock_from (bits_left capture n 0) 0
           → LockedDoes capture n p out places answer out' places'
           → ReplayDoes capture n out places answer out' places'
       locked_at p answer out' places' e d =

@@ -3,13 +3,14 @@ use mathlib.Core.Path.{◌≡◌, sym, ap, ◌∙◌}
 use Rattle.refusals.proofs.Told.{refused_once, accepted_once, told_apart}
 use Rattle.capture.specs.Replay.{Figures, ReplayEnd, told_replayed, ReplayOnce}
 use Rattle.capture.specs.declared.Replayed.{Replayed}
-use Rattle.capture.specs.declared.Replayed.TheVariants.{Done, Refused}
+use Rattle.refusals.specs.declared.Refusal.{Refusal}
+use Rattle.std.specs.Prelude.{Result, Ok, Err}
 
-answer_once : (a b : Replayed) → told_replayed a ≡ told_replayed b → a ≡ b
-answer_once (Done l n k) (Done l' n' k') e = ap (λ (f : Figures). Done f.lock f.bits f.places) (accepted_once e)
-answer_once (Done l n k) (Refused why) e = absurd (told_apart e)
-answer_once (Refused why) (Done l n k) e = absurd (told_apart (sym e))
-answer_once (Refused why) (Refused why') e = ap Refused (refused_once why why' e)
+answer_once : (a b : Result Replayed Refusal) → told_replayed a ≡ told_replayed b → a ≡ b
+answer_once (Ok r) (Ok r') e = ap (λ (f : Figures). Ok (record { lock = f.lock; bits = f.bits; places = f.places })) (accepted_once e)
+answer_once (Ok r) (Err why) e = absurd (told_apart e)
+answer_once (Err why) (Ok r) e = absurd (told_apart (sym e))
+answer_once (Err why) (Err why') e = ap Err (refused_once why why' e)
 
 pub replay_once : ReplayOnce
 replay_once capture n out places a a' o o' p p' d d' =

@@ -22,7 +22,7 @@ use Rattle.refusals.specs.Told.{accepted}
 use Rattle.capture.specs.Replay.{Lockable, LockedDoes}
 use Rattle.capture.specs.declared.Came.{Came}
 use Rattle.capture.specs.declared.Came.TheVariants.{Data, Unmended}
-use Rattle.capture.specs.declared.Replayed.TheVariants.{Done}
+use Rattle.std.specs.Prelude.{Ok}
 use Rattle.capture.specs.declared.Tally.{Tally}
 
 -- ---- the frames that are left
@@ -300,7 +300,7 @@ module _ {s : List ℕ} {n lock : ℕ} {out₀ places₀ : List ℕ} {at : ℕ} 
   ended : (bits : List Bit) (told : List ℕ) (tally' : Tally) (out' places' : List ℕ) → tally' ≡ record { bits = length bits; places = length told }
       → out' ≡ bytes_with out₀ 0 bits
       → places' ≡ told ++ drop (length told) places₀ → bits ≡ data_bits (frames_at s n lock) → told ≡ report_places (frames_at s n lock)
-      → LockedDoes s n lock out₀ places₀ (Done lock tally'.bits tally'.places) out' places'
+      → LockedDoes s n lock out₀ places₀ (Ok (record { lock = lock; bits = tally'.bits; places = tally'.places })) out' places'
   ended bits told tally' out' places' t o p b r =
       (λ i. record { answer = accepted (record { lock = lock; bits = (t i).bits; places = (t i).places }); out = o i; places = p i })
       ∙ (λ i.
@@ -310,7 +310,7 @@ module _ {s : List ℕ} {n lock : ℕ} {out₀ places₀ : List ℕ} {at : ℕ} 
         places = r i ++ drop (length (r i)) places₀;
       })
 
-  pub going_done : n ≤ at → LockedDoes s n lock out₀ places₀ (Done lock tally.bits tally.places) out places
+  pub going_done : n ≤ at → LockedDoes s n lock out₀ places₀ (Ok (record { lock = lock; bits = tally.bits; places = tally.places })) out places
   going_done l =
       ended g.bits g.told tally out places g.tally_is g.out_is g.places_are
       (sym (append-nil g.bits) ∙ ap (λ (v : List Bit). g.bits ++ v) (sym (none_bits (frames_none s n at l))) ∙ g.all_bits)
@@ -318,7 +318,7 @@ module _ {s : List ℕ} {n lock : ℕ} {out₀ places₀ : List ℕ} {at : ℕ} 
 
   pub going_cut : at < n → n < at + 512 → (tally' : Tally) (places' : List ℕ) → tally' ≡ tally_after Unmended tally
       → places' ≡ places_after Unmended at tally places
-      → LockedDoes s n lock out₀ places₀ (Done lock tally'.bits tally'.places) out places'
+      → LockedDoes s n lock out₀ places₀ (Ok (record { lock = lock; bits = tally'.bits; places = tally'.places })) out places'
   going_cut l m tally' places' t p =
       ended g.bits (g.told ++ (at ∷ [])) tally' out places'
       (t ∙ (λ i. record { bits = (g.tally_is i).bits; places = (ap (λ (t : Tally). t.places + 1) g.tally_is ∙ sym (length-append g.told (at ∷ []))) i }))

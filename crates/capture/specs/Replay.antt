@@ -1,12 +1,12 @@
 -- What `replay` answers and leaves in its two buffers. Assumes nothing.
-use Rattle.std.specs.Prelude.{◌≡◌, List, ◌++◌, ℕ, ◌+◌, ◌*◌, ◌/◌, ◌≤◌, eqb, leb, length, drop}
+use Rattle.std.specs.Prelude.{◌≡◌, Result, Ok, Err, List, ◌++◌, ℕ, ◌+◌, ◌*◌, ◌/◌, ◌≤◌, eqb, leb, length, drop}
 use Rattle.laws.specs.Choice.{pick, both}
+use Rattle.refusals.specs.declared.Refusal.{Refusal}
 use Rattle.refusals.specs.Told.{numbers_of, Told, accepted, refused_by, refused}
 use Rattle.bits.specs.Bits.{Bit, source, bits_left}
 use Rattle.bits.specs.Write.{bytes_with}
 use Rattle.capture.specs.Capture.{LockPlace, lock_at, no_lock, lock_from, frames_in, data_bits, report_places}
 use Rattle.capture.specs.declared.Replayed.{Replayed}
-use Rattle.capture.specs.declared.Replayed.TheVariants.{Done, Refused}
 
 -- the place of lock, the data bits, the places of the frames that are reported
 pub record Replay : Type 0 where
@@ -35,9 +35,9 @@ pub record Figures : Type 0 where
   pub bits : ℕ
   pub places : ℕ
 
-abbrev pub told_replayed : Replayed → Told Figures
-told_replayed (Done lock bits places) = accepted (record { lock = lock; bits = bits; places = places })
-told_replayed (Refused why) = refused_by (numbers_of why)
+abbrev pub told_replayed : Result Replayed Refusal → Told Figures
+told_replayed (Ok r) = accepted (record { lock = r.lock; bits = r.bits; places = r.places })
+told_replayed (Err why) = refused_by (numbers_of why)
 
 -- the answer with both buffers at exit
 pub record ReplayEnd : Type 0 where
@@ -63,17 +63,17 @@ pub record Lockable (capture : List ℕ) (n lock : ℕ) (out places : List ℕ) 
   pub entries : length places ≡ length capture / 64 + 1
 
 -- what is left where lock is known
-abbrev pub LockedDoes : List ℕ → ℕ → ℕ → List ℕ → List ℕ → Replayed → List ℕ → List ℕ → Type 0
+abbrev pub LockedDoes : List ℕ → ℕ → ℕ → List ℕ → List ℕ → Result Replayed Refusal → List ℕ → List ℕ → Type 0
 LockedDoes capture n lock out places answer out' places' =
     record { answer = told_replayed answer; out = out'; places = places' } ≡ replay_end out places (accepted (replay_at (bits_left capture n lock) lock))
 
 -- what `replay` promises
-abbrev pub ReplayDoes : List ℕ → ℕ → List ℕ → List ℕ → Replayed → List ℕ → List ℕ → Type 0
+abbrev pub ReplayDoes : List ℕ → ℕ → List ℕ → List ℕ → Result Replayed Refusal → List ℕ → List ℕ → Type 0
 ReplayDoes capture n out places answer out' places' =
     record { answer = told_replayed answer; out = out'; places = places' } ≡ replay_end out places (replay_of capture n (length out) (length places))
 
 -- that leaves one answer and one end of each buffer
 abbrev pub ReplayOnce : Type 0
 ReplayOnce =
-    (capture : List ℕ) (n : ℕ) (out places : List ℕ) (a a' : Replayed) (o o' p p' : List ℕ)
+    (capture : List ℕ) (n : ℕ) (out places : List ℕ) (a a' : Result Replayed Refusal) (o o' p p' : List ℕ)
     → ReplayDoes capture n out places a o p → ReplayDoes capture n out places a' o' p' → (a ≡ a') × (o ≡ o') × (p ≡ p')

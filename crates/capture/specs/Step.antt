@@ -1,5 +1,5 @@
 -- What one frame gives: the step that both `replay` and the program over a stream take. Assumes nothing.
-use Rattle.std.specs.Prelude.{◌≡◌, List, [], ◌∷◌, ℕ, ◌+◌, ◌*◌, ◌≤◌, ◌<◌, length, set, take}
+use Rattle.std.specs.Prelude.{◌≡◌, Option, Some, None, List, [], ◌∷◌, ℕ, ◌+◌, ◌*◌, ◌≤◌, ◌<◌, length, set, take}
 use Rattle.bits.specs.Bits.{bit0, bit1, bits_from}
 use Rattle.bits.specs.Write.{bytes_with}
 use Rattle.bch.specs.Code.{Outcome, mended, unmended, corrected}
@@ -8,12 +8,10 @@ use Rattle.capture.specs.Capture.{LockPlace, lock_at, no_lock}
 use Rattle.capture.specs.declared.Came.{Came}
 use Rattle.capture.specs.declared.Came.TheVariants.{Data, Fill, Unmended}
 use Rattle.capture.specs.declared.Tally.{Tally}
-use Rattle.capture.specs.declared.LockFound.{LockFound}
-use Rattle.capture.specs.declared.LockFound.TheVariants.{At, Nowhere}
 
-abbrev pub as_lock : LockFound → LockPlace
-as_lock (At p) = lock_at p
-as_lock Nowhere = no_lock
+abbrev pub as_lock : Option ℕ → LockPlace
+as_lock (Some p) = lock_at p
+as_lock None = no_lock
 
 -- a whole frame at a place of the capture, and room for its data bits at a place of the output
 pub record Steppable (steps capture : List ℕ) (at : ℕ) (out : List ℕ) (to : ℕ) : Type 0 where

@@ -1,7 +1,7 @@
 // A recording of the raw line, with the error correction frames of H.261 5.4: where they lock, and what each gives.
 #![tactic(auto)]
 
-ghost use Rattle.std.specs.Prelude.{◌≡◌, ◌+◌, ◌*◌, ◌/◌, ◌≤◌, ◌<◌, eqb, length};
+ghost use Rattle.std.specs.Prelude.{◌≡◌, Err, ◌+◌, ◌*◌, ◌/◌, ◌≤◌, ◌<◌, eqb, length};
 ghost use Rattle.refusals.specs.Number.{refusal};
 ghost use Rattle.bits.specs.Bits.{bit_num, bits_from, bits_left};
 ghost use Rattle.bits.specs.Write.{bytes_with, started_bytes};
@@ -13,12 +13,6 @@ use bch::Mending;
 use refusals::{Reason, Refusal};
 
 // ---- lock
-
-#[derive(Clone, Copy)]
-pub enum LockFound {
-    At(usize),
-    Nowhere,
-}
 
 fn number(x: u8) -> u32
     ensures { result ≡ x }
@@ -51,21 +45,21 @@ fn framed(capture: &[u8], count: usize, at: usize) -> bool
 }
 
 // "Lock is the earliest bit from which 24 framing bits, 512 bits apart, read the pattern three times from S1", from `from` on.
-pub fn lock(capture: &[u8], count: usize, from: usize) -> LockFound
+pub fn lock(capture: &[u8], count: usize, from: usize) -> Option<usize>
     requires { count ≤ 8 * length capture.now }
     ensures { as_lock result ≡ lock_from (bits_left capture.now count from) from }
 {
     let mut at = from;
     while at < count {
         if count - at <= 11776 {
-            return LockFound::Nowhere;
+            return None;
         }
         if framed(capture, count, at) {
-            return LockFound::At(at);
+            return Some(at);
         }
         at += 1;
     }
-    LockFound::Nowhere
+    None
 }
 
 // ---- a frame
@@ -169,17 +163,18 @@ fn counted(came: Came, at: usize, places: &mut [u64], tally: Tally) -> Tally
     }
 }
 
-#[derive(Clone, Copy)]
-pub enum Replayed {
-    // The place of lock; how many data bits, and how many places, were written.
-    Done(usize, usize, usize),
-    Refused(Refusal),
+// The place of lock; how many data bits, and how many places, were written.
+#[derive(Clone, Copy, PartialEq, Eq)]
+pub struct Replayed {
+    pub lock: usize,
+    pub bits: usize,
+    pub places: usize,
 }
 
-fn refused(reason: Reason) -> Replayed
-    ensures { result ≡ Replayed.Refused (refusal reason 0) }
+fn refused(reason: Reason) -> Result<Replayed, Refusal>
+    ensures { result ≡ Err (refusal reason 0) }
 {
-    Replayed::Refused(Refusal { reason, place: 0 })
+    Err(Refusal { reason, place: 0 })
 }
 
 // "Frames count from there and lock holds to the end; a cut last frame is dropped and reported."
@@ -189,7 +184,7 @@ fn from_lock(
     lock: usize,
     out: &mut [u8],
     places: &mut [u64],
-) -> Replayed
+) -> Result<Replayed, Refusal>
     requires { Lockable capture.now count lock out.old places.old }
     ensures { LockedDoes capture.now count lock out.old places.old result out.new places.new }
 {
@@ -204,7 +199,11 @@ fn from_lock(
     if at < count {
         tally = counted(Came::Unmended, at, places, tally);
     }
-    Replayed::Done(lock, tally.bits, tally.places)
+    Ok(Replayed {
+        lock,
+        bits: tally.bits,
+        places: tally.places,
+    })
 }
 
 // How many bytes so many bits start.
@@ -216,7 +215,12 @@ fn started(count: usize) -> usize
 
 // A recording of the raw line in `count` bits: its data bits into `out`, which has the capture's length, the places of the frames that are not mended, and
 // of a cut last one, into `places`, which has an entry for each frame that the capture has room for.
-pub fn replay(capture: &[u8], count: usize, out: &mut [u8], places: &mut [u64]) -> Replayed
+pub fn replay(
+    capture: &[u8],
+    count: usize,
+    out: &mut [u8],
+    places: &mut [u64],
+) -> Result<Replayed, Refusal>
     ensures { ReplayDoes capture.now count out.old places.old result out.new places.new }
 {
     if out.len() != capture.len() {
@@ -230,7 +234,7 @@ pub fn replay(capture: &[u8], count: usize, out: &mut [u8], places: &mut [u64]) 
     }
     let found = lock(capture, count, 0);
     match found {
-        LockFound::At(place) => from_lock(capture, count, place, out, places),
-        LockFound::Nowhere => refused(Reason::NoLock),
+        Some(place) => from_lock(capture, count, place, out, places),
+        None => refused(Reason::NoLock),
     }
 }

@@ -12,7 +12,7 @@ ghost use Rattle.bch.specs.Frame.{byte_steps};
 use account::End;
 use account::input::Filled;
 use account::streams::Streams;
-use capture::{Came, LockFound};
+use capture::Came;
 use std::io::{Read, Write};
 use std::process::ExitCode;
 
@@ -169,13 +169,13 @@ fn search<I, O, E: Write>(
     let mut state = before;
     let found = capture::lock(input, count, at);
     match found {
-        LockFound::At(place) => {
+        Some(place) => {
             say(streams, b"lock ", plus(before.gone, place));
             state.locked = true;
             state.at = place;
             state
         }
-        LockFound::Nowhere => {
+        None => {
             if 11776 <= count {
                 let first = count - 11776;
                 if at < first {

@@ -15,7 +15,7 @@ use account::streams::{Source, Streams};
 use arguments::{ClipWord, KindWord};
 use coding::Kind;
 use refusals::Reason;
-use salvaging::{Asked, Entries, Entry, Fate, Sight, Tally};
+use salvaging::{Entries, Entry, Fate, Sight, Tally};
 use standing::{Answer, Opened, Received, Receiver};
 use std::io::{Read, Seek, SeekFrom, Write};
 use std::process::ExitCode;
@@ -172,22 +172,28 @@ fn find<F: Read + Seek>(
 // What is known of the picture that is collected, and whether all could be read that had to be.
 #[derive(Clone, Copy)]
 struct Settled {
-    fate: Fate,
+    fate: Option<Fate>,
     read: bool,
 }
 
 fn settled_by(picture: u32, found: Found) -> Settled {
     match found {
         Found::Yes => Settled {
-            fate: Fate::Known(picture, true),
+            fate: Some(Fate {
+                picture,
+                kept: true,
+            }),
             read: true,
         },
         Found::Unread => Settled {
-            fate: Fate::Unknown,
+            fate: None,
             read: false,
         },
         _ => Settled {
-            fate: Fate::Known(picture, false),
+            fate: Some(Fate {
+                picture,
+                kept: false,
+            }),
             read: true,
         },
     }
@@ -204,7 +210,7 @@ fn copy(from: &[u8], to: &mut [u8]) {
 fn settle<F: Read + Seek>(
     file: &mut Source<F>,
     ahead: &mut Source<F>,
-    fate: Fate,
+    fate: Option<Fate>,
     received: Received,
     collection: &[u8],
     first: &[u8],
@@ -216,11 +222,11 @@ fn settle<F: Read + Seek>(
     let answer = received.answer;
     let receiver = received.next;
     match salvaging::asks(fate, answer) {
-        Asked::Nothing => Settled {
+        None => Settled {
             fate: salvaging::still(fate, answer),
             read: true,
         },
-        Asked::Picture(picture) => {
+        Some(picture) => {
             copy(collection, collection_ahead);
             copy(first, first_ahead);
             copy(second, second_ahead);
@@ -296,7 +302,7 @@ fn say_all<I, O, E: Write>(streams: &mut Streams<I, O, E>, entries: Entries) -> 
 #[derive(Clone, Copy)]
 struct State {
     receiver: Receiver,
-    fate: Fate,
+    fate: Option<Fate>,
     tally: Tally,
     cut: bool,
 }
@@ -322,7 +328,7 @@ fn write<I, O: Write, E: Write>(
     clip: u16,
     before: State,
     received: Received,
-    fate: Fate,
+    fate: Option<Fate>,
     block: &[u8; 512],
 ) -> Turn {
     let answer = received.answer;
@@ -528,7 +534,7 @@ fn all<F: Read + Seek, I, O: Write, E: Write>(
 ) -> End {
     let mut state = State {
         receiver: opened,
-        fate: Fate::Unknown,
+        fate: None,
         tally: Tally {
             pictures: 0,
             next: 0,

@@ -29,8 +29,7 @@ use Rattle.salvaging.specs.Salvage.{laid_over}
 use Rattle.salvaging.specs.Going.{finishes_one, any_kept, world_of, answers_from, InList, fate_after, SameLengths, written_by, WriteRoom, RewriteDoes}
 use Rattle.salvaging.specs.declared.Tally.{Tally}
 use Rattle.salvaging.specs.declared.Fate.{Fate}
-use Rattle.salvaging.specs.declared.Fate.TheVariants as F
-use Rattle.salvaging.specs.declared.Salvaged.TheVariants.{Done}
+use Rattle.std.specs.Prelude.{Option, None, Ok}
 use Rattle.salvaging.specs.declared.Sight.{Sight}
 use Rattle.salvaging.specs.declared.Sight.TheVariants.{Finished, Gone, Collecting}
 use Rattle.salvaging.proofs.Ahead.{LookRight, looked_right, AnswerKnown, answer_known}
@@ -166,7 +165,7 @@ looking_end {list} {n} {from} {r₀} {b₀} {at} {r} {b} g l = sym (g.all ∙ ap
 
 -- ---- all blocks
 -- the blocks and the entries so far
-pub record Going (clip : ℕ) (list : List ℕ) (r₀ : Receiver) (b₀ : Buffers) (out₀ log₀ : List ℕ) (at : ℕ) (r : Receiver) (b : Buffers) (fate : Fate) (tally : Tally) (written entered : ℕ)
+pub record Going (clip : ℕ) (list : List ℕ) (r₀ : Receiver) (b₀ : Buffers) (out₀ log₀ : List ℕ) (at : ℕ) (r : Receiver) (b : Buffers) (fate : Option Fate) (tally : Tally) (written entered : ℕ)
     (out log : List ℕ) : Type 0 where
   pub before : List Said
   pub blocks : List (List ℕ)
@@ -193,7 +192,7 @@ pub record Going (clip : ℕ) (list : List ℕ) (r₀ : Receiver) (b₀ : Buffer
   pub next_wanted : next_number before ≤ r.progress.wanted.picture
 
 pub going_first : (clip : ℕ) (list : List ℕ) (r : Receiver) (b : Buffers) (out log : List ℕ) → length list % 512 ≡ 0
-    → Going clip list r b out log 0 r b F.Unknown (record { pictures = 0; next = 0 }) 0 0 out log
+    → Going clip list r b out log 0 r b None (record { pictures = 0; next = 0 }) 0 0 out log
 unfolding joined laid_log kept_numbers number_after
 going_first clip list r b out log l = record {
   before = [];
@@ -253,7 +252,7 @@ fewer_next p q before A.lost k f = none_fewer p q before A.lost refl k f
 fewer_next p q before (A.refused numbers) k f = none_fewer p q before (A.refused numbers) refl k f
 
 -- ---- one block more
-module _ {clip : ℕ} {list : List ℕ} {r₀ : Receiver} {b₀ : Buffers} {out₀ log₀ : List ℕ} {at : ℕ} {r : Receiver} {b : Buffers} {fate : Fate} {tally : Tally} {written entered : ℕ} {out log : List ℕ}
+module _ {clip : ℕ} {list : List ℕ} {r₀ : Receiver} {b₀ : Buffers} {out₀ log₀ : List ℕ} {at : ℕ} {r : Receiver} {b : Buffers} {fate : Option Fate} {tally : Tally} {written entered : ℕ} {out log : List ℕ}
     (g : Going clip list r₀ b₀ out₀ log₀ at r b fate tally written entered out log) (more : at < length list) (gave : Received) {left : Buffers} (call : Call r (block_from list at) b gave left) where
   abbrev whole : at + 512 ≤ length list
   whole = next_inside g.place more
@@ -270,7 +269,7 @@ module _ {clip : ℕ} {list : List ℕ} {r₀ : Receiver} {b₀ : Buffers} {out�
   here_right : FateRight fate (answer ∷ to_come)
   here_right = subst (FateRight fate) (from_next list at whole call) g.fate_right
 
-  abbrev fate' : Fate
+  abbrev fate' : Option Fate
   fate' = fate_after fate answer to_come
 
   pub numbered : (later : Bool) → goes_on answer later ≡ true → tally.pictures < pictures
@@ -288,7 +287,7 @@ module _ {clip : ℕ} {list : List ℕ} {r₀ : Receiver} {b₀ : Buffers} {out�
   count' = length-append g.before (answer ∷ [])
 
   -- ---- what the code knows of it, and so writes and enters
-  module _ {fate₁ : Fate} (fate_is : fate₁ ≡ fate_after fate answer to_come) {later : Bool} (later_is : later ≡ is_kept fate₁) where
+  module _ {fate₁ : Option Fate} (fate_is : fate₁ ≡ fate_after fate answer to_come) {later : Bool} (later_is : later ≡ is_kept fate₁) where
     later_so : later ≡ is_kept (fate_after fate answer to_come)
     later_so = later_is ∙ ap is_kept fate_is
 
@@ -399,15 +398,15 @@ module _ {clip : ℕ} {list : List ℕ} {r₀ : Receiver} {b₀ : Buffers} {out�
               out_size = out_long ∙ g.out_size;
               log_is = log_next log_room log_now;
               log_size = log_long₁ ∙ g.log_size;
-              fate_right = subst (λ (f : Fate). FateRight f to_come) (sym fate_is) (fate_next fate answer to_come here_right);
+              fate_right = subst (λ (f : Option Fate). FateRight f to_come) (sym fate_is) (fate_next fate answer to_come here_right);
               few_pictures = fewer.few_pictures;
               next_wanted = fewer.next_wanted;
             }
 
 -- ---- the end
-pub going_done : {clip : ℕ} {list : List ℕ} {r₀ : Receiver} {b₀ : Buffers} {out₀ log₀ : List ℕ} {at : ℕ} {r : Receiver} {b : Buffers} {fate : Fate} {tally : Tally} {written entered : ℕ}
+pub going_done : {clip : ℕ} {list : List ℕ} {r₀ : Receiver} {b₀ : Buffers} {out₀ log₀ : List ℕ} {at : ℕ} {r : Receiver} {b : Buffers} {fate : Option Fate} {tally : Tally} {written entered : ℕ}
     {out log : List ℕ} → Going clip list r₀ b₀ out₀ log₀ at r b fate tally written entered out log → length list ≤ at
-    → RewriteDoes clip list (answers_from r₀ b₀ list 0) out₀ log₀ (Done tally.pictures written entered) out log
+    → RewriteDoes clip list (answers_from r₀ b₀ list 0) out₀ log₀ (Ok (record { pictures = tally.pictures; blocks = written; entries = entered })) out log
 unfolding clip_from log_from
 going_done {clip} {list} {r₀} {b₀} {out₀} {log₀} {at} {r} {b} {fate} {tally} g l =
     λ i. record {

@@ -16,9 +16,8 @@ use Rattle.salvaging.specs.Log as L
 use Rattle.salvaging.specs.Step.{tally_after, is_known, is_kept, asked_by, FateRight}
 use Rattle.salvaging.specs.Going.{finishes_one, any_kept, found_fate, fate_after}
 use Rattle.salvaging.specs.declared.Tally.{Tally}
-use Rattle.salvaging.specs.declared.Asked.TheVariants as Q
+use Rattle.std.specs.Prelude.{Option, Some, None}
 use Rattle.salvaging.specs.declared.Fate.{Fate}
-use Rattle.salvaging.specs.declared.Fate.TheVariants as F
 
 -- ---- whether any is
 pub any_found : (answer : Said) (rest : List Said) → finishes_one answer ≡ true → any_kept (answer ∷ rest) ≡ true
@@ -85,10 +84,10 @@ tally_more before (A.refused numbers) = none_more before (A.refused numbers) ref
 
 -- ---- a picture's fate
 -- only a block that is taken asks
-pub asked_taken : (fate : Fate) (answer : Said) (n : ℕ) → asked_by fate answer ≡ Q.Picture n → (q : ℕ) × (answer ≡ A.taken n q)
+pub asked_taken : (fate : Option Fate) (answer : Said) (n : ℕ) → asked_by fate answer ≡ Some n → (q : ℕ) × (answer ≡ A.taken n q)
 asked_taken fate (A.taken m part) n e = go (is_known fate m) e
   where
-    go : (b : Bool) → pick b Q.Nothing (Q.Picture m) ≡ Q.Picture n → (q : ℕ) × (A.taken m part ≡ A.taken n q)
+    go : (b : Bool) → pick b None (Some m) ≡ Some n → (q : ℕ) × (A.taken m part ≡ A.taken n q)
     go true e = absurd (let z : ◌≡◌ {A = ℕ} 0 1 = cc in omega arith)
     go false e = let same : m ≡ n = cc in (part, ap (λ (k : ℕ). A.taken k part) same)
 asked_taken fate (A.picture m tick) n e = absurd (let z : ◌≡◌ {A = ℕ} 0 1 = cc in omega arith)
@@ -97,17 +96,17 @@ asked_taken fate A.lost n e = absurd (let z : ◌≡◌ {A = ℕ} 0 1 = cc in om
 asked_taken fate (A.refused numbers) n e = absurd (let z : ◌≡◌ {A = ℕ} 0 1 = cc in omega arith)
 
 -- what is known of a picture stays right where it isn't the one that is finished
-still_right : (fate : Fate) (answer : Said) (rest : List Said) → kept_numbers (answer ∷ rest) ≡ kept_numbers rest → FateRight fate (answer ∷ rest) → FateRight fate rest
-still_right F.Unknown answer rest e h = tt
-still_right (F.Known n kept) answer rest e h = sym (ap (λ (l : List ℕ). one_of l n) e) ∙ h
+still_right : (fate : Option Fate) (answer : Said) (rest : List Said) → kept_numbers (answer ∷ rest) ≡ kept_numbers rest → FateRight fate (answer ∷ rest) → FateRight fate rest
+still_right None answer rest e h = tt
+still_right (Some known) answer rest e h = sym (ap (λ (l : List ℕ). one_of l known.picture) e) ∙ h
 
-taken_right : (fate : Fate) (n part : ℕ) (rest : List Said) → FateRight fate rest → (known : Bool) → is_known fate n ≡ known
-    → (let after = found_fate (pick known Q.Nothing (Q.Picture n)) fate (A.taken n part) rest in FateRight after rest × (is_kept after ≡ one_of (kept_numbers rest) n))
+taken_right : (fate : Option Fate) (n part : ℕ) (rest : List Said) → FateRight fate rest → (known : Bool) → is_known fate n ≡ known
+    → (let after = found_fate (pick known None (Some n)) fate (A.taken n part) rest in FateRight after rest × (is_kept after ≡ one_of (kept_numbers rest) n))
 taken_right fate n part rest h false e = (refl, refl)
-taken_right F.Unknown n part rest h true e = absurd (false≢true e)
-taken_right (F.Known m kept) n part rest h true e = (h, sym h ∙ ap (one_of (kept_numbers rest)) (eqb-true m n e))
+taken_right None n part rest h true e = absurd (false≢true e)
+taken_right (Some known) n part rest h true e = (h, sym h ∙ ap (one_of (kept_numbers rest)) (eqb-true known.picture n e))
 
-pub fate_next : (fate : Fate) (answer : Said) (rest : List Said) → FateRight fate (answer ∷ rest) → FateRight (fate_after fate answer rest) rest
+pub fate_next : (fate : Option Fate) (answer : Said) (rest : List Said) → FateRight fate (answer ∷ rest) → FateRight (fate_after fate answer rest) rest
 unfolding kept_numbers
 fate_next fate (A.picture n tick) rest h = tt
 fate_next fate (A.taken n part) rest h = (taken_right fate n part rest (still_right fate (A.taken n part) rest refl h) (is_known fate n) refl).0
@@ -115,7 +114,7 @@ fate_next fate (A.old n part) rest h = still_right fate (A.old n part) rest refl
 fate_next fate A.lost rest h = still_right fate A.lost rest refl h
 fate_next fate (A.refused numbers) rest h = still_right fate (A.refused numbers) rest refl h
 
-module _ (fate : Fate) (rest : List Said) where
+module _ (fate : Option Fate) (rest : List Said) where
   -- what the code knows of a block is what the answers to come say
   pub goes_so : (answer : Said) → FateRight fate (answer ∷ rest) → goes_on answer (is_kept (fate_after fate answer rest)) ≡ goes_on answer (finished_later answer rest)
   unfolding kept_numbers

@@ -28,7 +28,7 @@ use Rattle.salvaging.specs.Clip.{listed, blank_buffers, answers_to}
 use Rattle.salvaging.specs.Salvage.{Salvage, salvage_by, some_kept, lengths_named, salvage_from, salvage_of, salvage_end, SalvageDoes}
 use Rattle.salvaging.specs.Going.{answers_from, any_kept, RewriteDoes, SameLengths, BuffersIn}
 use Rattle.salvaging.specs.declared.Salvaged.{Salvaged}
-use Rattle.salvaging.specs.declared.Salvaged.TheVariants.{Refused}
+use Rattle.std.specs.Prelude.{Result, Err}
 
 -- ---- opening
 pub open_refused : (old : ℕ) (kind : Kind) (numbers : Numbers) → refused_by numbers ≡ opened_receiver old kind → (eqb old 0 ≡ true) × (◌≡◌ {A = Told Salvage} (refused_by numbers) (refused 22 0))
@@ -52,7 +52,7 @@ open_opened old kind r e = go (eqb old 0) refl e
 -- ---- refusals
 module _ (kind : Kind) (old new : ℕ) (list out log : List ℕ) where
   -- a length that is another, or a part block
-  pub other_length : lengths_named (length list) (length out) (length log) ≡ false → SalvageDoes kind old new list out log (Refused (refusal Length 0)) out log
+  pub other_length : lengths_named (length list) (length out) (length log) ≡ false → SalvageDoes kind old new list out log (Err (refusal Length 0)) out log
   unfolding salvage_of number read_table
   other_length e =
       sym (ap (λ (b : Bool). salvage_end out log (pick b (pick (either (eqb old 0) (eqb new 0)) (refused 22 0) (some_kept (salvage_from coding_of kind old new (listed list)))) (refused 1 0))) e)
@@ -65,7 +65,7 @@ module _ (kind : Kind) (old new : ℕ) (list out log : List ℕ) where
         sym (ap (λ (b : Bool). salvage_end out log (pick b (pick (either (eqb old 0) (eqb new 0)) (refused 22 0) (some_kept (salvage_from coding_of kind old new (listed list)))) (refused 1 0))) named)
 
     -- clip 0
-    pub old_zero : (why : Refusal) → eqb old 0 ≡ true → ◌≡◌ {A = Told Salvage} (refused_by (numbers_of why)) (refused 22 0) → SalvageDoes kind old new list out log (Refused why) out log
+    pub old_zero : (why : Refusal) → eqb old 0 ≡ true → ◌≡◌ {A = Told Salvage} (refused_by (numbers_of why)) (refused 22 0) → SalvageDoes kind old new list out log (Err why) out log
     old_zero why e f =
         ap (salvage_end out log) f
         ∙ sym (ap (λ (b : Bool). salvage_end out log (pick (either b (eqb new 0)) (refused 22 0) (some_kept (salvage_from coding_of kind old new (listed list))))) e)
@@ -75,7 +75,7 @@ module _ (kind : Kind) (old new : ℕ) (list out log : List ℕ) where
     either-zero true b e = refl
     either-zero false b e = e
 
-    pub new_zero : new ≡ 0 → SalvageDoes kind old new list out log (Refused (refusal BlockField 0)) out log
+    pub new_zero : new ≡ 0 → SalvageDoes kind old new list out log (Err (refusal BlockField 0)) out log
     unfolding number read_table
     new_zero e =
         sym (ap (λ (b : Bool). salvage_end out log (pick b (refused 22 0) (some_kept (salvage_from coding_of kind old new (listed list))))) (either-zero (eqb old 0) (eqb new 0) (eq-eqb new 0 e)))
@@ -98,7 +98,7 @@ module _ (kind : Kind) (old new : ℕ) (list out log : List ℕ) where
           ∙ of_numbers
 
       -- no picture kept
-      pub none_kept : any_kept (answers_from r b list 0) ≡ false → SalvageDoes kind old new list out log (Refused (refusal NoneKept 0)) out log
+      pub none_kept : any_kept (answers_from r b list 0) ≡ false → SalvageDoes kind old new list out log (Err (refusal NoneKept 0)) out log
       unfolding number read_table
       none_kept e = of_kept true (turned (eqb (length (kept_numbers (answers_from r b list 0))) 0) e)
         where
@@ -107,7 +107,7 @@ module _ (kind : Kind) (old new : ℕ) (list out log : List ℕ) where
           turned false e = absurd (true≢false e)
 
       -- some kept
-      pub some_kept_lem : (answer : Salvaged) {out' log' : List ℕ} → any_kept (answers_from r b list 0) ≡ true → RewriteDoes new list (answers_from r b list 0) out log answer out' log'
+      pub some_kept_lem : (answer : Result Salvaged Refusal) {out' log' : List ℕ} → any_kept (answers_from r b list 0) ≡ true → RewriteDoes new list (answers_from r b list 0) out log answer out' log'
           → SalvageDoes kind old new list out log answer out' log'
       some_kept_lem answer e does = does ∙ of_kept false (turned (eqb (length (kept_numbers (answers_from r b list 0))) 0) e)
         where

@@ -1,6 +1,7 @@
 -- A list of blocks gone through, block after block: what the functions on the way ask for and leave. Assumes nothing.
-use Rattle.std.specs.Prelude.{◌≡◌, Bool, true, false, List, [], ◌∷◌, ◌++◌, ℕ, ◌+◌, ◌*◌, ◌/◌, ◌%◌, ◌≤◌, ◌<◌, eqb, length, drop}
+use Rattle.std.specs.Prelude.{◌≡◌, Bool, true, false, Option, Some, None, Result, List, [], ◌∷◌, ◌++◌, ℕ, ◌+◌, ◌*◌, ◌/◌, ◌%◌, ◌≤◌, ◌<◌, eqb, length, drop}
 use Rattle.laws.specs.Choice.{pick, opposite, one_of}
+use Rattle.refusals.specs.declared.Refusal.{Refusal}
 use Rattle.refusals.specs.Told.{accepted}
 use Rattle.size.specs.declared.Size.{Size}
 use Rattle.size.specs.Size.{store_length, collection_length}
@@ -18,10 +19,7 @@ use Rattle.salvaging.specs.Kept.{kept_numbers}
 use Rattle.salvaging.specs.Clip.{listed, blank_buffers}
 use Rattle.salvaging.specs.Step.{still_known, asked_by, Collects}
 use Rattle.salvaging.specs.Salvage.{lengths_named, told_salvaged, salvage_by, salvage_end}
-use Rattle.salvaging.specs.declared.Asked.{Asked}
-use Rattle.salvaging.specs.declared.Asked.TheVariants as Q
 use Rattle.salvaging.specs.declared.Fate.{Fate}
-use Rattle.salvaging.specs.declared.Fate.TheVariants as F
 use Rattle.salvaging.specs.declared.Salvaged.{Salvaged}
 
 -- ---- what a receiver answers to the blocks of a list from a byte on
@@ -49,12 +47,12 @@ abbrev pub any_kept : List Said → Bool
 any_kept answered = opposite (eqb (length (kept_numbers answered)) 0)
 
 -- ---- a picture's fate
-abbrev pub found_fate : Asked → Fate → Said → List Said → Fate
-found_fate Q.Nothing fate answer rest = still_known fate answer
-found_fate (Q.Picture n) fate answer rest = F.Known n (one_of (kept_numbers rest) n)
+abbrev pub found_fate : Option ℕ → Option Fate → Said → List Said → Option Fate
+found_fate None fate answer rest = still_known fate answer
+found_fate (Some n) fate answer rest = Some (record { picture = n; kept = one_of (kept_numbers rest) n })
 
 -- once a block was answered so, and these answers are to come
-abbrev pub fate_after : Fate → Said → List Said → Fate
+abbrev pub fate_after : Option Fate → Said → List Said → Option Fate
 fate_after fate answer rest = found_fate (asked_by fate answer) fate answer rest
 
 -- a second set of buffers, of the first one's lengths
@@ -86,7 +84,7 @@ pub record RewriteRoom (r : Receiver) (list out log : List ℕ) (b ahead : Buffe
   pub same : SameLengths b ahead
 
 -- what is answered and left, where these are a receiver's answers
-abbrev pub RewriteDoes : ℕ → List ℕ → List Said → List ℕ → List ℕ → Salvaged → List ℕ → List ℕ → Type 0
+abbrev pub RewriteDoes : ℕ → List ℕ → List Said → List ℕ → List ℕ → Result Salvaged Refusal → List ℕ → List ℕ → Type 0
 RewriteDoes clip list answered out log answer out' log' =
     record { answer = told_salvaged answer; out = out'; log = log' } ≡ salvage_end out log (accepted (salvage_by clip (listed list) answered))
 

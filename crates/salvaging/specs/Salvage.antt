@@ -1,6 +1,7 @@
 -- What `salvage` answers and leaves in its two buffers. Assumes nothing.
-use Rattle.std.specs.Prelude.{◌≡◌, Bool, List, [], ◌++◌, ℕ, ◌*◌, ◌/◌, ◌%◌, eqb, length, drop}
+use Rattle.std.specs.Prelude.{◌≡◌, Bool, Result, Ok, Err, List, [], ◌++◌, ℕ, ◌*◌, ◌/◌, ◌%◌, eqb, length, drop}
 use Rattle.laws.specs.Choice.{pick, both, either}
+use Rattle.refusals.specs.declared.Refusal.{Refusal}
 use Rattle.refusals.specs.Told.{numbers_of, Told, accepted, refused_by, refused}
 use Rattle.coding.specs.declared.Kind.{Kind}
 use Rattle.coding.specs.Coding.{Coding}
@@ -10,7 +11,6 @@ use Rattle.salvaging.specs.Kept.{kept_numbers}
 use Rattle.salvaging.specs.Log.{LogEntry, log_from, laid_log}
 use Rattle.salvaging.specs.Clip.{listed, joined, answers_to, clip_from}
 use Rattle.salvaging.specs.declared.Salvaged.{Salvaged}
-use Rattle.salvaging.specs.declared.Salvaged.TheVariants.{Done, Refused}
 
 -- how many pictures are kept; the new clip's blocks; the log
 pub record Salvage : Type 0 where
@@ -48,9 +48,9 @@ pub record Figures : Type 0 where
   pub blocks : ℕ
   pub entries : ℕ
 
-abbrev pub told_salvaged : Salvaged → Told Figures
-told_salvaged (Done pictures blocks entries) = accepted (record { pictures = pictures; blocks = blocks; entries = entries })
-told_salvaged (Refused why) = refused_by (numbers_of why)
+abbrev pub told_salvaged : Result Salvaged Refusal → Told Figures
+told_salvaged (Ok written) = accepted (record { pictures = written.pictures; blocks = written.blocks; entries = written.entries })
+told_salvaged (Err why) = refused_by (numbers_of why)
 
 -- the answer with both buffers at exit
 pub record SalvageEnd : Type 0 where
@@ -71,12 +71,12 @@ salvage_end out log (accepted s) = record { answer = accepted (figures_of s); ou
 salvage_end out log (refused_by numbers) = record { answer = refused_by numbers; out = out; log = log }
 
 -- what `salvage` promises
-abbrev pub SalvageDoes : Kind → ℕ → ℕ → List ℕ → List ℕ → List ℕ → Salvaged → List ℕ → List ℕ → Type 0
+abbrev pub SalvageDoes : Kind → ℕ → ℕ → List ℕ → List ℕ → List ℕ → Result Salvaged Refusal → List ℕ → List ℕ → Type 0
 SalvageDoes kind old new list out log answer out' log' =
     record { answer = told_salvaged answer; out = out'; log = log' } ≡ salvage_end out log (salvage_of coding_of kind old new list (length out) (length log))
 
 -- that leaves one answer and one end of each buffer
 abbrev pub SalvageOnce : Type 0
 SalvageOnce =
-    (kind : Kind) (old new : ℕ) (list out log : List ℕ) (a a' : Salvaged) (o o' l l' : List ℕ)
+    (kind : Kind) (old new : ℕ) (list out log : List ℕ) (a a' : Result Salvaged Refusal) (o o' l l' : List ℕ)
     → SalvageDoes kind old new list out log a o l → SalvageDoes kind old new list out log a' o' l' → (a ≡ a') × (o ≡ o') × (l ≡ l')

@@ -1,5 +1,5 @@
 -- What is known of a block's picture when the block is met, and how a second receiver that runs ahead finds it out. Assumes nothing.
-use Rattle.std.specs.Prelude.{◌≡◌, Bool, true, false, List, ℕ, ◌+◌, ◌≤◌, eqb}
+use Rattle.std.specs.Prelude.{◌≡◌, Bool, true, false, Option, Some, None, List, ℕ, ◌+◌, ◌≤◌, eqb}
 use Rattle.laws.specs.Choice.{pick, both, opposite, one_of}
 use Rattle.standing.specs.declared.Progress.{Progress}
 use Rattle.standing.specs.declared.Receiver.{Receiver}
@@ -9,9 +9,6 @@ use Rattle.standing.specs.Receive.{is_lost}
 use Rattle.salvaging.specs.Kept.{kept_numbers}
 use Rattle.salvaging.specs.declared.Tally.{Tally}
 use Rattle.salvaging.specs.declared.Fate.{Fate}
-use Rattle.salvaging.specs.declared.Fate.TheVariants as F
-use Rattle.salvaging.specs.declared.Asked.{Asked}
-use Rattle.salvaging.specs.declared.Asked.TheVariants as Q
 use Rattle.salvaging.specs.declared.Sight.{Sight}
 use Rattle.salvaging.specs.declared.Sight.TheVariants as L
 
@@ -24,34 +21,34 @@ tally_after t A.lost = t
 tally_after t (A.refused numbers) = t
 
 -- ---- whether the picture that is collected will be finished
-abbrev pub is_known : Fate → ℕ → Bool
-is_known F.Unknown n = false
-is_known (F.Known m kept) n = eqb m n
+abbrev pub is_known : Option Fate → ℕ → Bool
+is_known None n = false
+is_known (Some fate) n = eqb fate.picture n
 
-abbrev pub is_kept : Fate → Bool
-is_kept F.Unknown = false
-is_kept (F.Known m kept) = kept
+abbrev pub is_kept : Option Fate → Bool
+is_kept None = false
+is_kept (Some fate) = fate.kept
 
 -- a block that is taken asks for its picture's fate, where it isn't known yet
-abbrev pub asked_by : Fate → Said → Asked
-asked_by fate (A.taken n part) = pick (is_known fate n) Q.Nothing (Q.Picture n)
-asked_by fate (A.picture n tick) = Q.Nothing
-asked_by fate (A.old n part) = Q.Nothing
-asked_by fate A.lost = Q.Nothing
-asked_by fate (A.refused numbers) = Q.Nothing
+abbrev pub asked_by : Option Fate → Said → Option ℕ
+asked_by fate (A.taken n part) = pick (is_known fate n) None (Some n)
+asked_by fate (A.picture n tick) = None
+asked_by fate (A.old n part) = None
+asked_by fate A.lost = None
+asked_by fate (A.refused numbers) = None
 
 -- what stays known: a finished picture's fate is past
-abbrev pub still_known : Fate → Said → Fate
-still_known fate (A.picture n tick) = F.Unknown
+abbrev pub still_known : Option Fate → Said → Option Fate
+still_known fate (A.picture n tick) = None
 still_known fate (A.taken n part) = fate
 still_known fate (A.old n part) = fate
 still_known fate A.lost = fate
 still_known fate (A.refused numbers) = fate
 
 -- it is right about what is still to come
-abbrev pub FateRight : Fate → List Said → Type 0
-FateRight F.Unknown rest = Unit {0}
-FateRight (F.Known n kept) rest = one_of (kept_numbers rest) n ≡ kept
+abbrev pub FateRight : Option Fate → List Said → Type 0
+FateRight None rest = Unit {0}
+FateRight (Some fate) rest = one_of (kept_numbers rest) fate.picture ≡ fate.kept
 
 -- ---- running ahead
 -- a receiver that collects picture n: its part 0 was taken, and it is not lost

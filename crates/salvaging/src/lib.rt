@@ -4,7 +4,7 @@
 // over a file, by the same steps.
 #![tactic(auto)]
 
-ghost use Rattle.std.specs.Prelude.{◌≡◌, true, [], ◌∷◌, ◌++◌, ◌+◌, ◌*◌, ◌%◌, ◌≤◌, ◌<◌, length};
+ghost use Rattle.std.specs.Prelude.{◌≡◌, true, Err, [], ◌∷◌, ◌++◌, ◌+◌, ◌*◌, ◌%◌, ◌≤◌, ◌<◌, length};
 ghost use Rattle.std.proofs.lemmas.List.Edits.{sets};
 ghost use Rattle.refusals.specs.Number.{refusal};
 ghost use Rattle.refusals.specs.Told.{numbers_of};
@@ -174,61 +174,55 @@ pub fn laid(entry: Entry) -> [u64; 5]
 
 // ---- the fate of a picture that is collected
 
-// Whether it is finished, where that is known.
-#[derive(Clone, Copy)]
-pub enum Fate {
-    Unknown,
-    Known(u32, bool),
+// What is known of a picture: whether it is finished.
+#[derive(Clone, Copy, PartialEq, Eq)]
+pub struct Fate {
+    pub picture: u32,
+    pub kept: bool,
 }
 
-fn is_known(fate: Fate, picture: u32) -> bool
+fn is_known(fate: Option<Fate>, picture: u32) -> bool
     ensures { result ≡ is_known fate picture }
 {
     match fate {
-        Fate::Unknown => false,
-        Fate::Known(known, _) => known == picture,
+        Some(fate) => fate.picture == picture,
+        None => false,
     }
 }
 
-pub fn is_kept(fate: Fate) -> bool
+pub fn is_kept(fate: Option<Fate>) -> bool
     ensures { result ≡ is_kept fate }
 {
     match fate {
-        Fate::Unknown => false,
-        Fate::Known(_, kept) => kept,
+        Some(fate) => fate.kept,
+        None => false,
     }
 }
 
 // The picture whose fate is to be found out.
-#[derive(Clone, Copy)]
-pub enum Asked {
-    Nothing,
-    Picture(u32),
-}
-
-pub fn asks(fate: Fate, answer: Answer) -> Asked
+pub fn asks(fate: Option<Fate>, answer: Answer) -> Option<u32>
     ensures { result ≡ asked_by fate (said answer) }
 {
     match answer {
         Answer::Taken(picture, _) => {
             if is_known(fate, picture) {
-                return Asked::Nothing;
+                return None;
             }
-            Asked::Picture(picture)
+            Some(picture)
         }
-        Answer::Picture(_, _) => Asked::Nothing,
-        Answer::Old(_, _) => Asked::Nothing,
-        Answer::Lost => Asked::Nothing,
-        Answer::Refused(_) => Asked::Nothing,
+        Answer::Picture(_, _) => None,
+        Answer::Old(_, _) => None,
+        Answer::Lost => None,
+        Answer::Refused(_) => None,
     }
 }
 
 // What stays known once the block is answered.
-pub fn still(fate: Fate, answer: Answer) -> Fate
+pub fn still(fate: Option<Fate>, answer: Answer) -> Option<Fate>
     ensures { result ≡ still_known fate (said answer) }
 {
     match answer {
-        Answer::Picture(_, _) => Fate::Unknown,
+        Answer::Picture(_, _) => None,
         Answer::Taken(_, _) => fate,
         Answer::Old(_, _) => fate,
         Answer::Lost => fate,
@@ -421,7 +415,7 @@ fn finishes(
 
 // Where a block asks for its picture's fate, the second receiver goes on from the first one's state.
 fn settled(
-    fate: Fate,
+    fate: Option<Fate>,
     received: Received,
     blocks: &[u8],
     from: usize,
@@ -431,15 +425,15 @@ fn settled(
     collection_ahead: &mut [u8],
     first_ahead: &mut [u8],
     second_ahead: &mut [u8],
-) -> Fate
+) -> Option<Fate>
     requires { SettleRoom received blocks.now from (buffers collection.now first.now second.now) (buffers collection_ahead.old first_ahead.old second_ahead.old) }
     ensures { result ≡ fate_after fate (said received.answer) (answers_from received.next (buffers collection.now first.now second.now) blocks.now from) }
 {
     let answer = received.answer;
     let receiver = received.next;
     match asks(fate, answer) {
-        Asked::Nothing => still(fate, answer),
-        Asked::Picture(picture) => {
+        None => still(fate, answer),
+        Some(picture) => {
             collection_ahead.copy_from_slice(collection);
             first_ahead.copy_from_slice(first);
             second_ahead.copy_from_slice(second);
@@ -452,16 +446,17 @@ fn settled(
                 first_ahead,
                 second_ahead,
             );
-            Fate::Known(picture, kept)
+            Some(Fate { picture, kept })
         }
     }
 }
 
-#[derive(Clone, Copy)]
-pub enum Salvaged {
-    // How many pictures, blocks and entries were written.
-    Done(u64, usize, usize),
-    Refused(Refusal),
+// How many pictures, blocks and entries were written.
+#[derive(Clone, Copy, PartialEq, Eq)]
+pub struct Salvaged {
+    pub pictures: u64,
+    pub blocks: usize,
+    pub entries: usize,
 }
 
 // Block after block, where a picture is kept: each goes to the new clip, or to the log.
@@ -477,12 +472,12 @@ fn rewrite(
     collection_ahead: &mut [u8],
     first_ahead: &mut [u8],
     second_ahead: &mut [u8],
-) -> Salvaged
+) -> Result<Salvaged, Refusal>
     requires { RewriteRoom opened blocks.now out.old log.old (buffers collection.old first.old second.old) (buffers collection_ahead.old first_ahead.old second_ahead.old) }
     ensures { RewriteDoes clip blocks.now (answers_from opened (buffers collection.old first.old second.old) blocks.now 0) out.old log.old result out.new log.new }
 {
     let mut receiver = opened;
-    let mut fate = Fate::Unknown;
+    let mut fate: Option<Fate> = None;
     let mut tally = Tally {
         pictures: 0,
         next: 0,
@@ -516,13 +511,17 @@ fn rewrite(
         receiver = received.next;
         at = end;
     }
-    Salvaged::Done(tally.pictures, written, entered)
+    Ok(Salvaged {
+        pictures: tally.pictures,
+        blocks: written,
+        entries: entered,
+    })
 }
 
-fn refused(reason: Reason) -> Salvaged
-    ensures { result ≡ Salvaged.Refused (refusal reason 0) }
+fn refused(reason: Reason) -> Result<Salvaged, Refusal>
+    ensures { result ≡ Err (refusal reason 0) }
 {
-    Salvaged::Refused(Refusal { reason, place: 0 })
+    Err(Refusal { reason, place: 0 })
 }
 
 // With the buffers of two receivers, lent as zeros in the kind's lengths. Whether anything is kept is settled first.
@@ -539,12 +538,12 @@ fn salvage_in(
     collection_ahead: &mut [u8],
     first_ahead: &mut [u8],
     second_ahead: &mut [u8],
-) -> Salvaged
+) -> Result<Salvaged, Refusal>
     requires { SalvageRoom kind blocks.now out.old log.old (buffers collection.old first.old second.old) (buffers collection_ahead.old first_ahead.old second_ahead.old) }
     ensures { SalvageDoes kind old new blocks.now out.old log.old result out.new log.new }
 {
     match standing::open(old, kind) {
-        Opened::Refused(why) => Salvaged::Refused(why),
+        Opened::Refused(why) => Err(why),
         Opened::Open(receiver) => {
             if new == 0 {
                 return refused(Reason::BlockField);
@@ -585,7 +584,7 @@ fn salvage_small(
     blocks: &[u8],
     out: &mut [u8],
     log: &mut [u64],
-) -> Salvaged
+) -> Result<Salvaged, Refusal>
     requires { (lengths_named (length blocks.now) (length out.old) (length log.old) ≡ true) × (BuffersIn 8500 38016 (kind_size kind)) }
     ensures { SalvageDoes kind old new blocks.now out.old log.old result out.new log.new }
 {
@@ -622,7 +621,7 @@ fn salvage_large(
     blocks: &[u8],
     out: &mut [u8],
     log: &mut [u64],
-) -> Salvaged
+) -> Result<Salvaged, Refusal>
     requires { lengths_named (length blocks.now) (length out.old) (length log.old) ≡ true }
     ensures { SalvageDoes kind old new blocks.now out.old log.old result out.new log.new }
 {
@@ -660,7 +659,7 @@ pub fn salvage(
     blocks: &[u8],
     out: &mut [u8],
     log: &mut [u64],
-) -> Salvaged
+) -> Result<Salvaged, Refusal>
     ensures { SalvageDoes kind old new blocks.now out.old log.old result out.new log.new }
 {
     let length = blocks.len();

@@ -8,6 +8,7 @@
 ghost use Rattle.std.specs.Prelude.{◌≤◌, length};
 
 use capture::Replayed;
+use refusals::Refusal;
 use std::io::{Read, Write};
 
 fn say_places<O: Write>(stdout: &mut O, places: &[u64]) {
@@ -22,15 +23,15 @@ fn wide(n: usize) -> u64 {
     n as u64
 }
 
-fn say_answer<O: Write>(stdout: &mut O, answer: Replayed) {
+fn say_answer<O: Write>(stdout: &mut O, answer: Result<Replayed, Refusal>) {
     match answer {
-        Replayed::Done(lock, bits, places) => {
+        Ok(Replayed { lock, bits, places }) => {
             checks::say(stdout, b"replayed");
             checks::say_number(stdout, wide(lock));
             checks::say_number(stdout, wide(bits));
             checks::say_number(stdout, wide(places));
         }
-        Replayed::Refused(why) => checks::say_refusal(stdout, why),
+        Err(why) => checks::say_refusal(stdout, why),
     }
 }
 

@@ -2,6 +2,8 @@
 use Rattle.salvaging.proofs.Outcomes.{open_refused, open_opened, named_means, old_zero, new_zero, none_kept, some_kept_lem, blank_same}
 use Rattle.salvaging.proofs.Going.{lengths_same}
 use Rattle.salvaging.specs.declared.Salvaged.{Salvaged}
+use Rattle.refusals.specs.declared.Refusal.{Refusal}
+use Rattle.std.specs.Prelude.{Result}
 use Rattle.salvaging.specs.Going.{answers_from, any_kept}
 use Rattle.salvaging.specs.Salvage.{SalvageDoes}
 use Rattle.standing.specs.Receive.{Buffers, buffers}
@@ -13,7 +15,7 @@ use Rattle.salvaging.proofs.salvage_in.Goals as goal
 pub returns-then-new-eq0 : goal.returns-then-new-eq0
 returns-then-new-eq0 c =
     let a = c.args in
-    subst (λ (r : Salvaged). SalvageDoes a.kind a.old a.new a.blocks.now a.out.now a.log.now r a.out.now a.log.now) (sym c.refused.ensures)
+    subst (λ (r : Result Salvaged Refusal). SalvageDoes a.kind a.old a.new a.blocks.now a.out.now a.log.now r a.out.now a.log.now) (sym c.refused.ensures)
     (new_zero a.kind a.old a.new a.blocks.now a.out.now a.log.now c.requires.named c.if-new-eq0.true)
 
 pub any_kept-requires : goal.any_kept-requires
@@ -54,5 +56,5 @@ returns-else-any_kept c =
     let b = buffers a.collection.now a.first.now a.second.now in
     let none : any_kept (answers_from c.in-Open.receiver b a.blocks.now 0) ≡ false =
     ap (λ (b : Buffers). any_kept (answers_from c.in-Open.receiver b a.blocks.now 0)) (c.requires.blank ∙ sym c.requires.blank_ahead) ∙ sym c.any_kept.ensures ∙ c.if-any_kept.false in
-    subst (λ (r : Salvaged). SalvageDoes a.kind a.old a.new a.blocks.now a.out.now a.log.now r a.out.now a.log.now) (sym c.refused-in-Open.ensures)
+    subst (λ (r : Result Salvaged Refusal). SalvageDoes a.kind a.old a.new a.blocks.now a.out.now a.log.now r a.out.now a.log.now) (sym c.refused-in-Open.ensures)
     (none_kept a.kind a.old a.new a.blocks.now a.out.now a.log.now c.requires.named opened.0 c.if-new-eq0.false c.in-Open.receiver b opened.1 c.requires.blank none)
