@@ -20,10 +20,10 @@ abbrev pub Inside : BitReader → Type 0
 Inside r = Within r.bytes.now r.count r.place
 
 -- the place after a field; where it was refused, the end of the bits
-abbrev pub place_after : ℕ → FieldRead → ℕ
+abbrev pub place_after : ℕ → FieldRead ℕ → ℕ
 place_after count (Got v p) = p
 place_after count (Refused r) = count
 
 -- the reader after a field that it read
-abbrev pub reader_past : BitReader → FieldRead → BitReader
+abbrev pub reader_past : BitReader → FieldRead ℕ → BitReader
 reader_past r read = reader_over r.bytes r.count (place_after r.count read)

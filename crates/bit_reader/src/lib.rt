@@ -29,7 +29,7 @@ pub fn new<'a>(bytes: &'a [u8], count: usize, place: usize) -> BitReader<'a>
 }
 
 // A field of `width` bits at the reader's place.
-pub fn field<'a>(reader: BitReader<'a>, width: usize) -> FieldRead
+pub fn field<'a>(reader: BitReader<'a>, width: usize) -> FieldRead<u32>
     requires { (Inside reader) × (width ≤ 24) }
     ensures { as_field reader.entry.bytes.now reader.entry.count result ≡ field_read width (reader_bits reader.entry) reader.entry.place }
 {
@@ -37,7 +37,7 @@ pub fn field<'a>(reader: BitReader<'a>, width: usize) -> FieldRead
 }
 
 // The place after a field; where it was refused, the end of the bits.
-fn next_place(count: usize, read: FieldRead) -> usize
+fn next_place(count: usize, read: FieldRead<u32>) -> usize
     ensures { result ≡ place_after count read }
 {
     match read {
@@ -47,7 +47,7 @@ fn next_place(count: usize, read: FieldRead) -> usize
 }
 
 // The reader after a field that it read. Where that was refused it stands at the end, where it reads nothing more.
-pub fn after<'a>(reader: BitReader<'a>, read: FieldRead) -> BitReader<'a>
+pub fn after<'a>(reader: BitReader<'a>, read: FieldRead<u32>) -> BitReader<'a>
     ensures { result ≡ reader_past reader.entry read }
 {
     let place = next_place(reader.count, read);

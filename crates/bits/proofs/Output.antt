@@ -1,4 +1,5 @@
 -- The answer and the output of a writer, in the order of its judgements: what it writes in scratch is copied where it isn't above the limit. Assumes nothing.
+use Rattle.std.specs.Prelude.{Result, Ok, Err}
 use mathlib.Core.Path.{◌≡◌, refl, sym, ap, ◌∙◌}
 use mathlib.Core.Bool.{Bool, true, false}
 use mathlib.Core.List.{List, [], ◌∷◌, ◌++◌}
@@ -15,8 +16,6 @@ use Rattle.refusals.specs.Told.{Numbers, Told, accepted, refused_by, refused}
 use Rattle.refusals.specs.Writing.{told_written}
 use Rattle.refusals.specs.declared.Reason.TheVariants.{Length, Invalid, AboveLimit}
 use Rattle.refusals.specs.declared.Refusal.{Refusal}
-use Rattle.refusals.specs.declared.Written.{Written}
-use Rattle.refusals.specs.declared.Written.TheVariants.{Bits, Refused}
 use Rattle.bits.specs.Bits.{Bit, bits_from}
 use Rattle.bits.specs.Write.{started_bytes, bytes_of}
 use Rattle.bits.specs.Appended.{appended_bits, WroteBits}
@@ -37,7 +36,7 @@ unfolding output_left
 leaves_bits out bits n = refl
 
 -- what is told, and what is left in the output
-abbrev pub ToldAndLeft : Told ℕ → List Bit → List ℕ → Written → List ℕ → Type 0
+abbrev pub ToldAndLeft : Told ℕ → List Bit → List ℕ → Result ℕ Refusal → List ℕ → Type 0
 ToldAndLeft answer bits out w u = (told_written w ≡ answer) × (u ≡ output_left out bits answer)
 
 module _ {one good : Bool} {room limit : ℕ} {bits : List Bit} {out : List ℕ} {answer : Told ℕ} (h : Answered one good room limit bits out answer) where
@@ -48,16 +47,16 @@ module _ {one good : Bool} {room limit : ℕ} {bits : List Bit} {out : List ℕ}
   unfolding told
   told_is = h.is
 
-  refuses : {r : Refusal} {w : Written} → w ≡ Refused r → told_written (Refused r) ≡ answer → ToldAndLeft answer bits out w out
+  refuses : {r : Refusal} {w : Result ℕ Refusal} → w ≡ Err r → told_written (Err r) ≡ answer → ToldAndLeft answer bits out w out
   refuses e a = (ap told_written e ∙ a, sym (ap (output_left out bits) (sym a) ∙ leaves_refused out bits _))
 
   module _ {o : Bool} (oe : o ≡ one) where
-    pub unnamed : o ≡ false → {w : Written} → w ≡ Refused (refusal Length 0) → ToldAndLeft answer bits out w out
+    pub unnamed : o ≡ false → {w : Result ℕ Refusal} → w ≡ Err (refusal Length 0) → ToldAndLeft answer bits out w out
     unfolding told number read_table
     unnamed n e = refuses e (sym (told_is ∙ ap (λ (b : Bool). told b (eqb (length out) room) good (ltb limit (length bits))) (sym oe ∙ n)))
 
     module _ (ot : o ≡ true) {m : ℕ} (me : m ≡ room) where
-      pub unfit : (length out ≡ m → ⊥) → {w : Written} → w ≡ Refused (refusal Length 0) → ToldAndLeft answer bits out w out
+      pub unfit : (length out ≡ m → ⊥) → {w : Result ℕ Refusal} → w ≡ Err (refusal Length 0) → ToldAndLeft answer bits out w out
       unfolding told number read_table
       unfit n e = refuses e (sym (told_is ∙ (λ i. told ((sym oe ∙ ot) i) (ne_eqb (length out) room (λ x. n (x ∙ sym me)) i) good (ltb limit (length bits)))))
 
@@ -65,7 +64,7 @@ module _ {one good : Bool} {room limit : ℕ} {bits : List Bit} {out : List ℕ}
         fitting : eqb (length out) room ≡ true
         fitting = eq-eqb (length out) room (mt ∙ me)
 
-        pub invalid : v ≡ false → {w : Written} → w ≡ Refused (refusal Invalid 0) → ToldAndLeft answer bits out w out
+        pub invalid : v ≡ false → {w : Result ℕ Refusal} → w ≡ Err (refusal Invalid 0) → ToldAndLeft answer bits out w out
         unfolding told number read_table
         invalid n e = refuses e (sym (told_is ∙ (λ i. told ((sym oe ∙ ot) i) (fitting i) ((sym ve ∙ n) i) (ltb limit (length bits)))))
 
@@ -81,11 +80,11 @@ module _ {one good : Bool} {room limit : ℕ} {bits : List Bit} {out : List ℕ}
           not_past k = le-ltb limit (length bits) (omega arith)
 
           -- what is left is what a picture of that many bits leaves
-          pub above : l < c → {w : Written} {u : List ℕ} → w ≡ Refused (refusal AboveLimit 0) → u ≡ limited_output limit bits out → ToldAndLeft answer bits out w u
+          pub above : l < c → {w : Result ℕ Refusal} {u : List ℕ} → w ≡ Err (refusal AboveLimit 0) → u ≡ limited_output limit bits out → ToldAndLeft answer bits out w u
           unfolding number read_table
           above k a e = (ap told_written a ∙ sym (on true (is_past k)), e ∙ rw (is_past k) (sym (ap (output_left out bits) (on true (is_past k)) ∙ leaves_refused out bits _)))
 
-          pub below : c ≤ l → {u : List ℕ} → u ≡ limited_output limit bits out → ToldAndLeft answer bits out (Bits c) u
+          pub below : c ≤ l → {u : List ℕ} → u ≡ limited_output limit bits out → ToldAndLeft answer bits out (Ok c) u
           below k e = (
             ap accepted ce ∙ sym (on false (not_past k)),
             e ∙ rw (not_past k) (sym (ap (output_left out bits) (on false (not_past k)) ∙ leaves_bits out bits (length bits))),

@@ -3,8 +3,7 @@ use mathlib.Core.Path.{◌≡◌, sym, ap, ◌∙◌}
 use mathlib.Core.List.{List}
 use Prim.Native.Nat.{ℕ}
 use native.Mathlib.Omega.{arith}
-use denote.Enum.Declared.{tag_of}
-use Rattle.bits.specs.contracts.FieldRead.{the_type as field_type}
+use Rattle.refusals.specs.declared.Refusal.{Refusal}
 use Rattle.bits.specs.Bits.{bits_left}
 use Rattle.bits.specs.Read.{Read, got, refused}
 use Rattle.bits.specs.Answer.{as_field, field_refusal}
@@ -12,9 +11,9 @@ use Rattle.bits.specs.declared.FieldRead.{FieldRead}
 use Rattle.bits.specs.declared.FieldRead.TheVariants.{Got as GotField, Refused as NoField}
 
 module _ {x : Read ℕ} (s : List ℕ) (n : ℕ) where
-  pub no_field : (r : FieldRead) → tag_of field_type r ≡ 1 → as_field s n r ≡ x → x ≡ refused (field_refusal r)
-  no_field (GotField v p) e w = absurd (omega arith)
+  pub no_field : {why : Refusal} (r : FieldRead ℕ) → r ≡ NoField why → as_field s n r ≡ x → x ≡ refused (field_refusal r)
+  no_field (GotField v p) e w = cc
   no_field (NoField r) e w = sym w
 
-  pub is_field : (r : FieldRead) (v p : ℕ) → as_field s n r ≡ x → r ≡ GotField v p → x ≡ got v (bits_left s n p) p
+  pub is_field : (r : FieldRead ℕ) (v p : ℕ) → as_field s n r ≡ x → r ≡ GotField v p → x ≡ got v (bits_left s n p) p
   is_field r v p w e = sym w ∙ ap (as_field s n) e

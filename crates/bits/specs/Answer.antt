@@ -20,11 +20,11 @@ pub record Placed (s : List ℕ) (n : ℕ) (at : Place) : Type 0 where
   pub within : Within s n at.bit
   pub countable : at.reads + (n - at.bit) < 4294967296
 
-abbrev pub as_field : List ℕ → ℕ → FieldRead → Read ℕ
+abbrev pub as_field : List ℕ → ℕ → FieldRead ℕ → Read ℕ
 as_field s n (Got v p) = got v (bits_left s n p) p
 as_field s n (Refused r) = refused r
 
 -- the refusal of a read that was refused; of another it is never asked
-abbrev pub field_refusal : FieldRead → Refusal
+abbrev pub field_refusal : FieldRead ℕ → Refusal
 field_refusal (Got v p) = refusal BitsEnd p
 field_refusal (Refused r) = r

@@ -55,7 +55,7 @@ abbrev pub part_place : TwoParts → ℕ → ℕ
 part_place p x = pick (ltb x p.small) (p.small_at + x) (p.large_at + x / 2 ^ p.further)
 
 -- ---- what is read by an entry of a table that has no tails, with n bits to the end
-abbrev pub settled_field : Table → ℕ → ℕ → ℕ → FieldRead
+abbrev pub settled_field : Table → ℕ → ℕ → ℕ → FieldRead ℕ
 settled_field name e n at =
     pick (ltb (n - at) (e % 32)) (Refused (refusal BitsEnd at))
     (pick (eqb (e / 32) 0) (Refused (refusal (NoCodeword name) at)) (Got (e / 32 - 1) (at + e % 32)))

@@ -31,13 +31,13 @@ pub struct Stopped {
 
 // "each read gives either a meaning with the next place or a refusal": a field's number, or what a codeword means.
 #[derive(Clone, Copy)]
-pub enum FieldRead {
-    Got(u32, usize),
+pub enum FieldRead<T> {
+    Got(T, usize),
     Refused(Refusal),
 }
 
 // The refusal of a field that was refused.
-pub fn field_refusal(read: FieldRead) -> Refusal
+pub fn field_refusal(read: FieldRead<u32>) -> Refusal
     ensures { result ≡ field_refusal read }
 {
     match read {
@@ -88,7 +88,7 @@ pub fn window(bytes: &[u8], at: usize) -> u32
 }
 
 // A field of `width` bits. "A field with too few bits left is 3, whatever they hold."
-pub fn field(bytes: &[u8], count: usize, at: usize, width: usize) -> FieldRead
+pub fn field(bytes: &[u8], count: usize, at: usize, width: usize) -> FieldRead<u32>
     requires { (Within bytes.now count at) × (width ≤ 24) }
     ensures { as_field bytes.now count result ≡ field_read width (bits_left bytes.now count at) at }
 {
@@ -112,7 +112,7 @@ pub fn walk(
     bytes: &[u8],
     count: usize,
     at: usize,
-) -> FieldRead
+) -> FieldRead<u32>
     requires { (Within bytes.now count at) × (root < 256) }
     ensures { as_field bytes.now count result ≡ walk_of table 16 tree.now root (bits_left bytes.now count at) at at }
 {
@@ -177,7 +177,7 @@ pub fn without_entry(
     bytes: &[u8],
     count: usize,
     at: usize,
-) -> FieldRead
+) -> FieldRead<u32>
     requires { (Within bytes.now count at) × (root < 256) }
     ensures { as_field bytes.now count result ≡ without_entry table tree.now root found (bits_left bytes.now count at) at }
 {

@@ -6,7 +6,7 @@ use crate::FieldRead;
 use refusals::{Reason, Refusal, Table};
 
 // The codeword at `at`, by the entry for its first bits, of a table in which nothing follows a codeword.
-pub fn word(table: Table, entry: u16, count: usize, at: usize) -> FieldRead
+pub fn word(table: Table, entry: u16, count: usize, at: usize) -> FieldRead<u32>
     requires { at ≤ count }
     ensures { result ≡ settled_field table entry count at }
 {

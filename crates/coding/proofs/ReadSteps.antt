@@ -1,4 +1,6 @@
 -- Reading in scratch and copying on acceptance, on plain values. Assumes nothing.
+use Rattle.std.specs.Prelude.{Result, Ok, Err}
+use Rattle.refusals.specs.declared.Refusal.{Refusal}
 use mathlib.Core.Path.{◌≡◌, refl, sym, ap, ◌∙◌}
 use mathlib.Core.Bool.{Bool, true, false}
 use mathlib.Core.List.{List}
@@ -8,11 +10,8 @@ use denote.Enum.Declared.{tag_of}
 use Rattle.laws.specs.Choice.{pick}
 use Rattle.laws.proofs.Choice.{true-T}
 use Rattle.refusals.specs.declared.Reason.TheVariants.{Length}
-use Rattle.refusals.specs.declared.Verdict.{Verdict}
-use Rattle.refusals.specs.declared.Verdict.TheVariants.{Accepted, Refused}
 use Rattle.refusals.specs.Number.{refusal, number, read_table}
 use Rattle.refusals.specs.Told.{Told, accepted, refused_by, refused, told_verdict, verdict_on, found_or}
-use Rattle.refusals.specs.contracts.Verdict.{the_type as verdict_type}
 use Rattle.refusals.proofs.Told.{told_apart}
 use Rattle.layout.specs.Flat.{Flat, flat}
 use Rattle.layout.specs.Valid.{has_lengths, Lengths}
@@ -22,13 +21,13 @@ use Rattle.coding.specs.Kind.{shape_of, coding_of, reads_of}
 use Rattle.coding.specs.Described.{read_of, read_count, ReadSays, ReadLeaves, ReadCounts}
 
 -- ---- what the three buffers are in the end
-pub accepted_tag : (v : Verdict) → tag_of verdict_type v ≡ 0 → v ≡ Accepted
-accepted_tag Accepted t = refl
-accepted_tag (Refused r) t = absurd (omega arith)
+pub accepted_tag : (v : Result (Unit {0}) Refusal) → tag_of verdict_type v ≡ 0 → v ≡ Ok tt
+accepted_tag (Ok u) t = refl
+accepted_tag (Err r) t = absurd (omega arith)
 
-module _ (v : Verdict) (x : Told Flat) (w : told_verdict v ≡ verdict_on x) where
+module _ (v : Result (Unit {0}) Refusal) (x : Told Flat) (w : told_verdict v ≡ verdict_on x) where
   -- what the scratch holds, once it is copied
-  pub accepted_buffers : v ≡ Accepted → (scratch : Flat) {header fields coefficients : List ℕ} → flat header fields coefficients ≡ found_or scratch x
+  pub accepted_buffers : v ≡ Ok tt → (scratch : Flat) {header fields coefficients : List ℕ} → flat header fields coefficients ≡ found_or scratch x
       → (before : Flat) {head macroblocks levels : List ℕ} → head ≡ header → macroblocks ≡ fields → levels ≡ coefficients → flat head macroblocks levels ≡ found_or before x
   accepted_buffers a scratch b before h m l = (λ i. flat (h i) (m i) (l i)) ∙ by x w b
     where
@@ -39,10 +38,10 @@ module _ (v : Verdict) (x : Told Flat) (w : told_verdict v ≡ verdict_on x) whe
   pub refused_buffers : tag_of verdict_type v ≡ 1 → (before : Flat) → before ≡ found_or before x
   refused_buffers t before = by v t refl x w
     where
-      by : (u : Verdict) → tag_of verdict_type u ≡ 1 → v ≡ u → (x : Told Flat) → told_verdict v ≡ verdict_on x → before ≡ found_or before x
-      by Accepted t a x w = absurd (omega arith)
-      by (Refused r) t a (accepted d) w = absurd (told_apart (sym w ∙ ap told_verdict a))
-      by (Refused r) t a (refused_by numbers) w = refl
+      by : (u : Result (Unit {0}) Refusal) → tag_of verdict_type u ≡ 1 → v ≡ u → (x : Told Flat) → told_verdict v ≡ verdict_on x → before ≡ found_or before x
+      by (Ok u) t a x w = absurd (omega arith)
+      by (Err r) t a (accepted d) w = absurd (told_apart (sym w ∙ ap told_verdict a))
+      by (Err r) t a (refused_by numbers) w = refl
 
 -- ---- by the lengths
 module _ (k : Kind) (bytes : List ℕ) (n : ℕ) (before : Flat) {o : Bool} (e : o ≡ has_lengths (shape_of k) before) where
@@ -54,7 +53,7 @@ module _ (k : Kind) (bytes : List ℕ) (n : ℕ) (before : Flat) {o : Bool} (e :
   unfolding read_count
   count_on b h = ap (λ (b : Bool). pick b (reads_of k bytes n) 0) (sym e ∙ h)
 
-  pub unfit : o ≡ false → (ReadSays k bytes n before (Refused (refusal Length 0))) × ((ReadLeaves k bytes n before before) × (ReadCounts k bytes n before 0))
+  pub unfit : o ≡ false → (ReadSays k bytes n before (Err (refusal Length 0))) × ((ReadLeaves k bytes n before before) × (ReadCounts k bytes n before 0))
   unfolding number read_table
   unfit h = (sym (ap verdict_on (read_on false h)), (sym (ap (found_or before) (read_on false h)), sym (count_on false h)))
 
@@ -62,6 +61,6 @@ module _ (k : Kind) (bytes : List ℕ) (n : ℕ) (before : Flat) {o : Bool} (e :
     pub lengths_are : Lengths (shape_of k) before
     lengths_are = has_lengths_lem (shape_of k) before (true-T _ (sym e ∙ h))
 
-    pub fit : (v : Verdict) {after : Flat} {reads : ℕ} → told_verdict v ≡ verdict_on ((coding_of k).read bytes n) → after ≡ found_or before ((coding_of k).read bytes n) → reads ≡ reads_of k bytes n
+    pub fit : (v : Result (Unit {0}) Refusal) {after : Flat} {reads : ℕ} → told_verdict v ≡ verdict_on ((coding_of k).read bytes n) → after ≡ found_or before ((coding_of k).read bytes n) → reads ≡ reads_of k bytes n
         → (ReadSays k bytes n before v) × ((ReadLeaves k bytes n before after) × (ReadCounts k bytes n before reads))
     fit v w b c = (w ∙ sym (ap verdict_on (read_on true h)), (b ∙ sym (ap (found_or before) (read_on true h)), c ∙ sym (count_on true h)))

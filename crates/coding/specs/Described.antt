@@ -1,8 +1,7 @@
 -- What reading, writing and drawing by kind ask for, and what they answer and leave. Assumes nothing.
-use Rattle.std.specs.Prelude.{◌≡◌, Bool, true, List, ℕ, ◌≤◌, eqb, length}
+use Rattle.std.specs.Prelude.{◌≡◌, Bool, true, List, ℕ, ◌≤◌, eqb, length, Result}
+use Rattle.refusals.specs.declared.Refusal.{Refusal}
 use Rattle.laws.specs.Choice.{pick, both}
-use Rattle.refusals.specs.declared.Verdict.{Verdict}
-use Rattle.refusals.specs.declared.Written.{Written}
 use Rattle.refusals.specs.Told.{Told, refused, told_verdict, verdict_on, found_or}
 use Rattle.refusals.specs.Writing.{told_written}
 use Rattle.bits.specs.Bits.{Bit}
@@ -25,7 +24,7 @@ unfoldable pub read_count : Kind → List ℕ → ℕ → Flat → ℕ
 read_count k bytes n before = pick (has_lengths (shape_of k) before) (reads_of k bytes n) 0
 
 -- what `read` promises of its answer, of what it leaves in the slices, and of how many reads it makes
-abbrev pub ReadSays : Kind → List ℕ → ℕ → Flat → Verdict → Type 0
+abbrev pub ReadSays : Kind → List ℕ → ℕ → Flat → Result (Unit {0}) Refusal → Type 0
 ReadSays k bytes n before verdict = told_verdict verdict ≡ verdict_on (read_of k bytes n before)
 
 abbrev pub ReadLeaves : Kind → List ℕ → ℕ → Flat → Flat → Type 0
@@ -53,7 +52,7 @@ abbrev pub output_of : Kind → Flat → List ℕ → List ℕ
 output_of k d out = output_left out ((coding_of k).written d) (write_of k d (length out))
 
 -- what `write` promises of its answer, and of what it leaves in the output
-abbrev pub WriteSays : Kind → Flat → List ℕ → Written → Type 0
+abbrev pub WriteSays : Kind → Flat → List ℕ → Result ℕ Refusal → Type 0
 WriteSays k d out answer = told_written answer ≡ write_of k d (length out)
 
 abbrev pub WriteLeaves : Kind → Flat → List ℕ → List ℕ → Type 0

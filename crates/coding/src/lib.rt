@@ -11,7 +11,7 @@ ghost use Rattle.coding.specs.Described.{ReadSays, ReadLeaves, ReadCounts, RoomI
 
 use fields::PictureRead;
 use h261_groups::Format;
-use refusals::{Reason, Refusal, Verdict, Written};
+use refusals::{Reason, Refusal};
 use size::Size;
 use vault::Standard;
 
@@ -124,7 +124,7 @@ pub fn parse(
     head: &mut [u8],
     macroblocks: &mut [u8],
     levels: &mut [u8],
-) -> Verdict
+) -> Result<(), Refusal>
     requires { flat head.old macroblocks.old levels.old ≡ zeros (shape_of kind) }
     ensures verdict { told_verdict result ≡ verdict_on ((coding_of kind).read bytes.now count) }
     ensures buffers { flat head.new macroblocks.new levels.new ≡ found_or (flat head.old macroblocks.old levels.old) ((coding_of kind).read bytes.now count) }
@@ -154,8 +154,8 @@ fn read_in(
     let read = parse_counted(kind, bytes, count, header, fields, coefficients);
     let verdict = read.verdict;
     match verdict {
-        Verdict::Refused(_) => read,
-        Verdict::Accepted => {
+        Err(_) => read,
+        Ok(()) => {
             head.copy_from_slice(header);
             macroblocks.copy_from_slice(fields);
             levels.copy_from_slice(coefficients);
@@ -255,7 +255,7 @@ pub fn read(
 {
     if !has_lengths(kind, head, macroblocks, levels) {
         return PictureRead {
-            verdict: Verdict::Refused(Refusal {
+            verdict: Err(Refusal {
                 reason: Reason::Length,
                 place: 0,
             }),
@@ -403,7 +403,13 @@ fn write_valid(kind: Kind, head: &[u8], macroblocks: &[u8], levels: &[u8], out: 
 }
 
 // The bits of the described picture in the output, or the refusal, which touches nothing.
-pub fn write(kind: Kind, head: &[u8], macroblocks: &[u8], levels: &[u8], out: &mut [u8]) -> Written
+pub fn write(
+    kind: Kind,
+    head: &[u8],
+    macroblocks: &[u8],
+    levels: &[u8],
+    out: &mut [u8],
+) -> Result<usize, Refusal>
     ensures write_says { WriteSays kind (flat head.now macroblocks.now levels.now) out.old result }
     ensures write_leaves { WriteLeaves kind (flat head.now macroblocks.now levels.now) out.old out.new }
 {
@@ -421,7 +427,7 @@ pub fn write(kind: Kind, head: &[u8], macroblocks: &[u8], levels: &[u8], out: &m
     if size::limit(size) < count {
         return refusals::not_written(Reason::AboveLimit);
     }
-    Written::Bits(count)
+    Ok(count)
 }
 
 // Every sample of the store is the one that the description gives over the reference.

@@ -1,4 +1,6 @@
 -- Reading, then judging the mark, then rendering, on plain values. Assumes nothing.
+use Rattle.std.specs.Prelude.{Result}
+use Rattle.refusals.specs.declared.Refusal.{Refusal}
 use mathlib.Core.Path.{◌≡◌, refl, sym, ap, ◌∙◌}
 use mathlib.Core.Bool.{Bool, true, false}
 use mathlib.Core.List.{List}
@@ -6,7 +8,6 @@ use Prim.Native.Nat.{ℕ}
 use borrow.Author.Tests.{eq-eqb, ne_eqb}
 use lib.ListN.{length}
 use Rattle.laws.specs.Choice.{pick}
-use Rattle.refusals.specs.declared.Verdict.{Verdict}
 use Rattle.refusals.specs.Told.{Numbers, Told, accepted, refused_by, refused, told_verdict, verdict_on, found_or}
 use Rattle.size.specs.Size.{store_length}
 use Rattle.coding.specs.declared.Kind.{Kind}
@@ -81,7 +82,7 @@ module _ (k : Kind) (s : List ℕ) (n : ℕ) (reference : List ℕ) where
     fit e h = fitting e h ∙ sym unmarked
 
     -- what came of the drawing, as a verdict
-    pub by_drawn : length reference ≡ named → room ≡ named → (verdict : Verdict) (answer : Drawn) (old new : List ℕ) → told_verdict verdict ≡ verdict_on (told_drawn answer)
+    pub by_drawn : length reference ≡ named → room ≡ named → (verdict : Result (Unit {0}) Refusal) (answer : Drawn) (old new : List ℕ) → told_verdict verdict ≡ verdict_on (told_drawn answer)
         → told_drawn answer ≡ marked_tr k Absent s n → new ≡ found_or old (marked_store k Absent s n reference)
         → (told_verdict verdict ≡ verdict_on (decoded k s n reference room)) × (new ≡ found_or old (decoded k s n reference room))
     by_drawn e h verdict answer old new t v b =

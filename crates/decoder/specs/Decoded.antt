@@ -1,8 +1,8 @@
 -- The store that bits give over a reference, and the TR of its picture. Assumes nothing.
-use Rattle.std.specs.Prelude.{ℕ, ◌≡◌, Bool, true, List, eqb, length}
+use Rattle.std.specs.Prelude.{ℕ, ◌≡◌, Bool, true, List, eqb, length, Result}
+use Rattle.refusals.specs.declared.Refusal.{Refusal}
 use Rattle.laws.specs.Choice.{pick, both, alike}
 use Rattle.size.specs.Size.{store_length}
-use Rattle.refusals.specs.declared.Verdict.{Verdict}
 use Rattle.refusals.specs.Told.{numbers_of, Told, accepted, refused_by, refused, told_verdict, verdict_on, found_or}
 use Rattle.layout.specs.Flat.{Flat, flat, zeros}
 use Rattle.coding.specs.declared.Kind.{Kind}
@@ -62,7 +62,7 @@ decoded k bytes n reference size =
 
 -- ---- what `decode` promises
 -- of its answer, and of the store that it leaves: "no sample store changes by" a refusal
-abbrev pub DecodeSays : Kind → List ℕ → ℕ → List ℕ → List ℕ → Verdict → Type 0
+abbrev pub DecodeSays : Kind → List ℕ → ℕ → List ℕ → List ℕ → Result (Unit {0}) Refusal → Type 0
 DecodeSays k bytes n reference store verdict = told_verdict verdict ≡ verdict_on (decoded k bytes n reference (length store))
 
 abbrev pub DecodeLeaves : Kind → List ℕ → ℕ → List ℕ → List ℕ → List ℕ → Type 0

@@ -10,7 +10,7 @@ ghost use Rattle.coding.specs.Described.{RoomIn};
 ghost use Rattle.decoder.specs.Decoded.{true_mark, told_drawn, marked_tr, marked_store, DecodeSays, DecodeLeaves, Drawing, Decodable};
 
 use coding::Kind;
-use refusals::{Reason, Refusal, Verdict};
+use refusals::{Reason, Refusal};
 use size::Size;
 
 // The refresh mark that a picture came with, if it came with one.
@@ -71,8 +71,8 @@ fn draw_in(
 {
     let verdict = coding::parse(kind, bytes, count, head, macroblocks, levels);
     match verdict {
-        Verdict::Refused(why) => Drawn::Refused(why),
-        Verdict::Accepted => {
+        Err(why) => Drawn::Refused(why),
+        Ok(()) => {
             if is_true(kind, mark, head, macroblocks, levels) {
                 coding::render(kind, head, macroblocks, levels, reference, store);
                 let tr = coding::tr_of(kind, head, macroblocks, levels);
@@ -174,7 +174,13 @@ pub fn draw(
 }
 
 // The verdict of the rules. On acceptance every byte of the store is the sample that the rules give over the reference; on a refusal it is unchanged.
-pub fn decode(bytes: &[u8], count: usize, kind: Kind, reference: &[u8], store: &mut [u8]) -> Verdict
+pub fn decode(
+    bytes: &[u8],
+    count: usize,
+    kind: Kind,
+    reference: &[u8],
+    store: &mut [u8],
+) -> Result<(), Refusal>
     ensures verdict { DecodeSays kind bytes.now count reference.now store.old result }
     ensures samples { DecodeLeaves kind bytes.now count reference.now store.old store.new }
 {
@@ -185,14 +191,14 @@ pub fn decode(bytes: &[u8], count: usize, kind: Kind, reference: &[u8], store: &
         place: 0,
     };
     if reference.len() != named {
-        return Verdict::Refused(unfit);
+        return Err(unfit);
     }
     if store.len() != named {
-        return Verdict::Refused(unfit);
+        return Err(unfit);
     }
     let drawn = draw(bytes, count, kind, Mark::Absent, reference, store);
     match drawn {
-        Drawn::Picture(_) => Verdict::Accepted,
-        Drawn::Refused(why) => Verdict::Refused(why),
+        Drawn::Picture(_) => Ok(()),
+        Drawn::Refused(why) => Err(why),
     }
 }

@@ -1,11 +1,11 @@
 -- A reader whose refusal has other numbers than are due, and a receiver whose refusal changes a store, don't meet demand 1. Assumes nothing.
+use Rattle.std.specs.Prelude.{Result, Ok, Err}
+use Rattle.refusals.specs.declared.Refusal.{Refusal}
 use Prim.Native.Nat.{ℕ}
 use mathlib.Core.Path.{◌≡◌, refl, sym, ap, ◌∙◌}
 use mathlib.Core.List.{[]}
 use native.Mathlib.Omega.{arith}
 use Rattle.refusals.specs.declared.Reason.{Reason}
-use Rattle.refusals.specs.declared.Verdict.{Verdict}
-use Rattle.refusals.specs.declared.Verdict.TheVariants.{Accepted, Refused}
 use Rattle.refusals.specs.Number.{number, read_table, refusal}
 use Rattle.refusals.specs.Told.{Numbers, numbers_of, untabled, refused_by, refused, told_verdict}
 use Rattle.refusals.proofs.Told.{same_numbers, told_apart}
@@ -37,10 +37,10 @@ no_bits = refl
 too_many : first_verdict (read_rules qcif [] 1 (zeros (shape Qcif))) ≡ refused 2 0
 too_many = refl
 
-renamed-number : (reason : Reason) (v : Verdict) (numbers : Numbers) → told_verdict v ≡ refused_by numbers
+renamed-number : (reason : Reason) (v : Result (Unit {0}) Refusal) (numbers : Numbers) → told_verdict v ≡ refused_by numbers
     → told_verdict (renamed reason v) ≡ refused_by (numbers_of (refusal reason numbers.place))
-renamed-number reason Accepted numbers e = absurd (told_apart e)
-renamed-number reason (Refused why) numbers e = ap (λ (x : Numbers). refused_by (numbers_of (refusal reason x.place))) (same_numbers e)
+renamed-number reason (Ok u) numbers e = absurd (told_apart e)
+renamed-number reason (Err why) numbers e = ap (λ (x : Numbers). refused_by (numbers_of (refusal reason x.place))) (same_numbers e)
 
 module _ (p : Programs) (keeps : Keeps p) (reason : Reason) (d : Demand1 (naming_one reason p)) where
   -- where a refusal is due, its number is this one's

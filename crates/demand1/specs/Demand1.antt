@@ -1,12 +1,11 @@
 -- Demand 1: "Any bytes, any bit count, any block gets an answer and the work ends. Nothing is asked of the caller. A refusal carries its number and bit place from document 01's
 -- table, and no sample store changes by it." A predicate over any programs of the entry points' kinds, as total functions on values, and the theorem that whatever keeps the
 -- promises meets it. Assumes nothing.
-use Rattle.std.specs.Prelude.{ℕ, ◌≡◌, List, ◌++◌, length}
-use Rattle.refusals.specs.declared.Verdict.{Verdict}
+use Rattle.std.specs.Prelude.{ℕ, ◌≡◌, List, ◌++◌, length, Result}
+use Rattle.refusals.specs.declared.Refusal.{Refusal}
 use Rattle.refusals.specs.Told.{Numbers, accepted, refused_by, told_verdict, verdict_on}
 use Rattle.size.specs.declared.Size.{Size}
 use Rattle.layout.specs.Flat.{Flat}
-use Rattle.refusals.specs.declared.Written.{Written}
 use Rattle.refusals.specs.Writing.{told_written}
 use Rattle.coding.specs.declared.Kind.{Kind}
 use Rattle.coding.specs.declared.Kind.TheVariants.{H263}
@@ -46,10 +45,10 @@ pub record Left (A W : Type 0) : Type 0 where
   pub left : W
 
 pub record Programs : Type 0 where
-  pub read : Kind → List ℕ → ℕ → Flat → Left Verdict Flat
+  pub read : Kind → List ℕ → ℕ → Flat → Left (Result (Unit {0}) Refusal) Flat
   -- the bytes, N, the reference and the store
-  pub decode : Kind → List ℕ → ℕ → List ℕ → List ℕ → Left Verdict (List ℕ)
-  pub write : Kind → Flat → List ℕ → Left Written (List ℕ)
+  pub decode : Kind → List ℕ → ℕ → List ℕ → List ℕ → Left (Result (Unit {0}) Refusal) (List ℕ)
+  pub write : Kind → Flat → List ℕ → Left (Result ℕ Refusal) (List ℕ)
   pub check : Size → List ℕ → Checked
   pub judge : Size → Standard → ℕ → List ℕ → Checked
   pub open_receiver : ℕ → Kind → RO.Opened

@@ -1,8 +1,7 @@
 -- Programs that demand 1 rules out: a reader whose refusal has other numbers than are due, and a receiver whose refusal changes a store. Assumes nothing.
-use Rattle.std.specs.Prelude.{ℕ, ◌≡◌, List}
+use Rattle.std.specs.Prelude.{ℕ, ◌≡◌, List, Result, Ok, Err}
+use Rattle.refusals.specs.declared.Refusal.{Refusal}
 use Rattle.refusals.specs.declared.Reason.{Reason}
-use Rattle.refusals.specs.declared.Verdict.{Verdict}
-use Rattle.refusals.specs.declared.Verdict.TheVariants.{Accepted, Refused}
 use Rattle.refusals.specs.Number.{refusal}
 use Rattle.refusals.specs.Told.{Numbers, refused_by, told_verdict}
 use Rattle.layout.specs.Flat.{Flat}
@@ -20,9 +19,9 @@ MisnumberedWrong = (p : Programs) (k : Kind) (bytes : List ℕ) (n : ℕ) (befor
     → told_verdict (p.read k bytes n before).answer ≡ refused_by numbers → (numbers ≡ due → ⊥) → Demand1 p → ⊥
 
 -- so one that keeps every promise, but whose reader's refusals are all for this reason
-abbrev pub renamed : Reason → Verdict → Verdict
-renamed reason Accepted = Accepted
-renamed reason (Refused why) = Refused (refusal reason why.place)
+abbrev pub renamed : Reason → Result (Unit {0}) Refusal → Result (Unit {0}) Refusal
+renamed reason (Ok u) = Ok tt
+renamed reason (Err why) = Err (refusal reason why.place)
 
 abbrev pub naming_one : Reason → Programs → Programs
 naming_one reason p = record {

@@ -1,6 +1,6 @@
 -- Whatever keeps what `decode` and `write` promise meets demand 2. Assumes nothing.
-use Rattle.std.specs.Prelude.{ℕ, ◌≡◌, List, length}
-use Rattle.refusals.specs.declared.Verdict.{Verdict}
+use Rattle.std.specs.Prelude.{ℕ, ◌≡◌, List, length, Result}
+use Rattle.refusals.specs.declared.Refusal.{Refusal}
 use Rattle.refusals.specs.Told.{Told, accepted, refused_by, told_verdict}
 use Rattle.size.specs.Size.{store_length}
 use Rattle.layout.specs.Flat.{Flat}
@@ -8,13 +8,12 @@ use Rattle.coding.specs.declared.Kind.{Kind}
 use Rattle.coding.specs.Kind.{kind_size}
 use Rattle.coding.specs.Described.{WriteSays, WriteLeaves}
 use Rattle.decoder.specs.Decoded.{DecodeSays, DecodeLeaves}
-use Rattle.refusals.specs.declared.Written.{Written}
 use Rattle.refusals.specs.Writing.{told_written}
 use Rattle.demand2.specs.Demand2.{Decoder, AcceptedExactly, EverySample, Writer, ReadsBack, RefusedExactly}
 
 -- ---- a program that decodes: what it answers, and what it leaves in the store that it was lent
 pub record Decoding : Type 0 where
-  pub verdict : Verdict
+  pub verdict : Result (Unit {0}) Refusal
   pub left : List ℕ
 
 -- the bytes, N, the reference, and what the store holds before
@@ -45,7 +44,7 @@ DecodePromised = (p : DecodeProgram) → KeepsDecode p → (before : Kind → Li
 
 -- ---- a program that writes: what it answers, and what it leaves in the output
 pub record Writing : Type 0 where
-  pub answer : Written
+  pub answer : Result ℕ Refusal
   pub left : List ℕ
 
 abbrev pub WriteProgram : Type 0

@@ -40,21 +40,18 @@ use Rattle.layout.specs.Value.{Vector}
 use Rattle.h261_description.specs.Vector.{Before}
 use Rattle.h261_layers.specs.Answer.{as_mba, as_header, as_vector, as_macroblock, component_of, before_of, Sent}
 use Rattle.fields.specs.Answer.{leaving, as_number}
-use Rattle.fields.specs.declared.NumberRead.{NumberRead}
+use Rattle.fields.specs.declared.CountedRead.{CountedRead}
 use Rattle.h261_layers.specs.declared.MbaRead.{MbaRead}
 use Rattle.h261_layers.specs.declared.Behind.{Behind}
-use Rattle.h261_layers.specs.declared.MacroblockRead.{MacroblockRead}
-use Rattle.fields.specs.declared.PlaceRead.{PlaceRead}
-use Rattle.fields.specs.declared.PairRead.{PairRead}
 use Rattle.bits.specs.declared.FieldRead.TheVariants as F
 use Rattle.h261_words.specs.declared.CoefficientRead.TheVariants as C
 use Rattle.h263_words.specs.declared.EventRead.TheVariants as E
 use Rattle.h261_layers.specs.declared.MbaRead.TheVariants as M
-use Rattle.h261_layers.specs.declared.MacroblockRead.TheVariants as BR
-use Rattle.fields.specs.declared.PlaceRead.TheVariants as P
+use Rattle.fields.specs.declared.CountedRead.TheVariants as BR
+use Rattle.fields.specs.declared.CountedRead.TheVariants as P
 use Rattle.determined.specs.Determined.{EquationOnce, ReadSaysOnce, ReadLeavesOnce, DecodeSaysOnce, DecodeLeavesOnce, WriteSaysOnce, WriteLeavesOnce, ReceiveOnce, SendOnce, HandsBackOnce, FieldOnce, NumberReadOnce, CoefficientOnce, HeaderOnce, MbaOnce, VectorOnce, MacroblockReadOnce, MacroblockLeftOnce, PlaceOnce, LeftOnce, BlockOnce, CodewordOnce, BitsWroteOnce, BlockWroteOnce, MacroblockOnce, RowsOnce, TextOnce, EventOnce}
-use Rattle.fields.specs.declared.NumberRead.TheVariants as N
-use Rattle.fields.specs.declared.PairRead.TheVariants as PR
+use Rattle.fields.specs.declared.CountedRead.TheVariants as N
+use Rattle.fields.specs.declared.CountedRead.TheVariants as PR
 use Rattle.standing.specs.Receive as R
 use Rattle.sender.specs.Send as S
 
@@ -109,22 +106,22 @@ module _ (s : List ℕ) (n : ℕ) where
   none : Stopped
   none = record { refusal = refusal Length 0; reads = 0 }
 
-  field_of : Read ℕ → FieldRead
+  field_of : Read ℕ → FieldRead ℕ
   field_of (got v left p) = F.Got v p
   field_of (refused why) = F.Refused why
   field_of endless = F.Refused (refusal Length 0)
 
-  field_of_lem : (x : FieldRead) → field_of (as_field s n x) ≡ x
+  field_of_lem : (x : FieldRead ℕ) → field_of (as_field s n x) ≡ x
   unfolding field_of
   field_of_lem (F.Got v p) = refl
   field_of_lem (F.Refused why) = refl
 
-  number_of : ReadIn counted ℕ → NumberRead
+  number_of : ReadIn counted ℕ → CountedRead ℕ
   number_of (got v left p) = N.Got v p
   number_of (refused why) = N.Refused why
   number_of endless = N.Refused none
 
-  number_of_lem : (x : NumberRead) → number_of (as_number s n x) ≡ x
+  number_of_lem : (x : CountedRead ℕ) → number_of (as_number s n x) ≡ x
   unfolding number_of
   number_of_lem (N.Got v p) = refl
   number_of_lem (N.Refused why) = refl
@@ -151,12 +148,12 @@ module _ (s : List ℕ) (n : ℕ) where
   event_of (E.Event last run code p) = refl
   event_of (E.Refused why) = refl
 
-  header_of : ReadIn counted Header → PairRead
+  header_of : ReadIn counted Header → CountedRead (ℕ × ℕ)
   header_of (got h left p) = PR.Got h.tr h.ptype p
   header_of (refused why) = PR.Refused why
   header_of endless = PR.Refused none
 
-  header_of_lem : (x : PairRead) → header_of (as_header s n x) ≡ x
+  header_of_lem : (x : CountedRead (ℕ × ℕ)) → header_of (as_header s n x) ≡ x
   unfolding header_of
   header_of_lem (PR.Got tr ptype p) = refl
   header_of_lem (PR.Refused why) = refl
@@ -183,12 +180,12 @@ module _ (s : List ℕ) (n : ℕ) where
   unfolding kept
   kept_back x = ap nat_abs (-ℤ-+ℤ_cancel (pos x) (pos 16))
 
-  vector_read : ReadIn counted Vector → PairRead
+  vector_read : ReadIn counted Vector → CountedRead (ℕ × ℕ)
   vector_read (got v left p) = PR.Got (kept v.horizontal) (kept v.vertical) p
   vector_read (refused why) = PR.Refused why
   vector_read endless = PR.Refused none
 
-  vector_of : (x : PairRead) → vector_read (as_vector s n x) ≡ x
+  vector_of : (x : CountedRead (ℕ × ℕ)) → vector_read (as_vector s n x) ≡ x
   unfolding vector_read
   vector_of (PR.Got h v p) = λ i. PR.Got (kept_back h i) (kept_back v i) p
   vector_of (PR.Refused why) = refl
@@ -200,26 +197,26 @@ module _ (s : List ℕ) (n : ℕ) where
   unfolding behind_of
   behind_back b = λ i. record { address = b.address; horizontal = kept_back b.horizontal i; vertical = kept_back b.vertical i }
 
-  macroblock_read : ReadIn counted Sent → MacroblockRead
+  macroblock_read : ReadIn counted Sent → CountedRead Behind
   macroblock_read (got x left p) = BR.Got (behind_of x.before) p
   macroblock_read (refused why) = BR.Refused why
   macroblock_read endless = BR.Refused none
 
-  macroblock_of : (x : MacroblockRead) (macroblocks levels : List ℕ) → macroblock_read (as_macroblock s n x macroblocks levels) ≡ x
+  macroblock_of : (x : CountedRead Behind) (macroblocks levels : List ℕ) → macroblock_read (as_macroblock s n x macroblocks levels) ≡ x
   unfolding macroblock_read
   macroblock_of (BR.Got b p) macroblocks levels = λ i. BR.Got (behind_back b i) p
   macroblock_of (BR.Refused why) macroblocks levels = refl
 
   -- a layer's answer, and where it is a place, what it left in the buffers
   module _ {A : Type 0} where
-    place_of : ReadIn counted A → PlaceRead
-    place_of (got a left p) = P.At p
+    place_of : ReadIn counted A → CountedRead (Unit {0})
+    place_of (got a left p) = P.Got tt p
     place_of (refused why) = P.Refused why
     place_of endless = P.Refused none
 
-    place_of_lem : (x : PlaceRead) (a : A) → place_of (leaving s n x a) ≡ x
+    place_of_lem : (x : CountedRead (Unit {0})) (a : A) → place_of (leaving s n x a) ≡ x
     unfolding place_of
-    place_of_lem (P.At p) a = refl
+    place_of_lem (P.Got u p) a = refl
     place_of_lem (P.Refused why) a = refl
 
 pub field-once : FieldOnce

@@ -1,10 +1,10 @@
 -- Document 01, "What the promises decide": "Show that any two outcomes allowed by it are equal". One statement for each relation that promises cite; docs/PROMISES.md
 -- says which functions cite which. Assumes nothing.
-use Rattle.std.specs.Prelude.{ℕ, ◌≤◌, ◌<◌, ◌≡◌, List, length}
+use Rattle.std.specs.Prelude.{ℕ, ◌≤◌, ◌<◌, ◌≡◌, List, length, Result}
+use Rattle.refusals.specs.declared.Refusal.{Refusal}
 use Rattle.std.specs.Borrow.{Bor}
 use Rattle.laws.specs.Block.{Is}
 use Rattle.laws.specs.Rows.{Put}
-use Rattle.refusals.specs.declared.Written.{Written}
 use Rattle.refusals.specs.Told.{Told, told_verdict, verdict_on, found_or}
 use Rattle.refusals.specs.Writing.{told_written}
 use Rattle.bits.specs.Bits.{Bit}
@@ -29,15 +29,11 @@ use Rattle.layout.specs.Value.{Vector}
 use Rattle.layout.specs.Flat.{Flat}
 use Rattle.h261_layers.specs.Answer.{as_mba, as_header, as_vector, as_macroblock, Sent}
 use Rattle.fields.specs.Answer.{leaving, as_number}
-use Rattle.fields.specs.declared.NumberRead.{NumberRead}
+use Rattle.fields.specs.declared.CountedRead.{CountedRead}
 use Rattle.fields.specs.declared.PictureRead.{PictureRead}
 use Rattle.h261_layers.specs.declared.MbaRead.{MbaRead}
-use Rattle.fields.specs.declared.PairRead.{PairRead}
 use Rattle.h261_layers.specs.declared.Behind.{Behind}
-use Rattle.h261_layers.specs.declared.MacroblockRead.{MacroblockRead}
-use Rattle.h261_layers.specs.declared.MacroblockRead.TheVariants.{Got}
-use Rattle.fields.specs.declared.PlaceRead.{PlaceRead}
-use Rattle.fields.specs.declared.PlaceRead.TheVariants.{At}
+use Rattle.fields.specs.declared.CountedRead.TheVariants.{Got}
 use Rattle.samples.specs.Content.{Values}
 use Rattle.samples.specs.Wrote.{Wrote, Macroblock}
 use Rattle.coding.specs.declared.Kind.{Kind}
@@ -79,7 +75,7 @@ DecodeLeavesOnce = (k : Kind) (bytes : List ℕ) (n : ℕ) (reference store : Li
 
 -- a description written: `WriteSays` and `WriteLeaves`, of `coding` and of either standard's writer
 abbrev pub WriteSaysOnce : Type 0
-WriteSaysOnce = (told : Told ℕ) → Once (λ (answer : Written). told_written answer ≡ told)
+WriteSaysOnce = (told : Told ℕ) → Once (λ (answer : Result ℕ Refusal). told_written answer ≡ told)
 
 abbrev pub WriteLeavesOnce : Type 0
 WriteLeavesOnce = (out : List ℕ) (bits : List Bit) (told : Told ℕ) → Once (λ (left : List ℕ). left ≡ output_left out bits told)
@@ -99,10 +95,10 @@ HandsBackOnce = (size : Size) (holder : Holder) (first second x y : Bor (List �
 
 -- ---- an equation with what the answer says: nothing of the answer is lost by that
 abbrev pub FieldOnce : Type 0
-FieldOnce = (s : List ℕ) (n : ℕ) (b : Read ℕ) → Once (λ (x : FieldRead). as_field s n x ≡ b)
+FieldOnce = (s : List ℕ) (n : ℕ) (b : Read ℕ) → Once (λ (x : FieldRead ℕ). as_field s n x ≡ b)
 
 abbrev pub NumberReadOnce : Type 0
-NumberReadOnce = (s : List ℕ) (n : ℕ) (b : ReadIn counted ℕ) → Once (λ (x : NumberRead). as_number s n x ≡ b)
+NumberReadOnce = (s : List ℕ) (n : ℕ) (b : ReadIn counted ℕ) → Once (λ (x : CountedRead ℕ). as_number s n x ≡ b)
 
 abbrev pub CoefficientOnce : Type 0
 CoefficientOnce = (s : List ℕ) (n : ℕ) (b : Read Event) → Once (λ (x : CoefficientRead). as_coefficient s n x ≡ b)
@@ -111,27 +107,27 @@ abbrev pub EventOnce : Type 0
 EventOnce = (s : List ℕ) (n : ℕ) (b : Read Event263) → Once (λ (x : EventRead). as_event s n x ≡ b)
 
 abbrev pub HeaderOnce : Type 0
-HeaderOnce = (s : List ℕ) (n : ℕ) (b : ReadIn counted Header) → Once (λ (x : PairRead). as_header s n x ≡ b)
+HeaderOnce = (s : List ℕ) (n : ℕ) (b : ReadIn counted Header) → Once (λ (x : CountedRead (ℕ × ℕ)). as_header s n x ≡ b)
 
 abbrev pub MbaOnce : Type 0
 MbaOnce = (s : List ℕ) (n : ℕ) (b : ReadIn counted Mba) → Once (λ (x : MbaRead). as_mba s n x ≡ b)
 
 abbrev pub VectorOnce : Type 0
-VectorOnce = (s : List ℕ) (n : ℕ) (b : ReadIn counted Vector) → Once (λ (x : PairRead). as_vector s n x ≡ b)
+VectorOnce = (s : List ℕ) (n : ℕ) (b : ReadIn counted Vector) → Once (λ (x : CountedRead (ℕ × ℕ)). as_vector s n x ≡ b)
 
 -- a layer's answer, and where it is a place, what it left in the buffers
 abbrev pub MacroblockReadOnce : Type 0
-MacroblockReadOnce = (s : List ℕ) (n : ℕ) (b : ReadIn counted Sent) (x y : MacroblockRead) (m l k j : List ℕ) → as_macroblock s n x m l ≡ b → as_macroblock s n y k j ≡ b → x ≡ y
+MacroblockReadOnce = (s : List ℕ) (n : ℕ) (b : ReadIn counted Sent) (x y : CountedRead Behind) (m l k j : List ℕ) → as_macroblock s n x m l ≡ b → as_macroblock s n y k j ≡ b → x ≡ y
 
 abbrev pub MacroblockLeftOnce : Type 0
 MacroblockLeftOnce = (s : List ℕ) (n : ℕ) (b : ReadIn counted Sent) (c d : Behind) (p q : Place) (m l k j : List ℕ) → as_macroblock s n (Got c p) m l ≡ b → as_macroblock s n (Got d q) k j ≡ b
     → (m ≡ k) × (l ≡ j)
 
 abbrev pub PlaceOnce : Type 1
-PlaceOnce = (A : Type 0) (s : List ℕ) (n : ℕ) (b : ReadIn counted A) (x y : PlaceRead) (t u : A) → leaving s n x t ≡ b → leaving s n y u ≡ b → x ≡ y
+PlaceOnce = (A : Type 0) (s : List ℕ) (n : ℕ) (b : ReadIn counted A) (x y : CountedRead (Unit {0})) (t u : A) → leaving s n x t ≡ b → leaving s n y u ≡ b → x ≡ y
 
 abbrev pub LeftOnce : Type 1
-LeftOnce = (A : Type 0) (s : List ℕ) (n : ℕ) (b : ReadIn counted A) (p q : Place) (t u : A) → leaving s n (At p) t ≡ b → leaving s n (At q) u ≡ b → t ≡ u
+LeftOnce = (A : Type 0) (s : List ℕ) (n : ℕ) (b : ReadIn counted A) (p q : Place) (t u : A) → leaving s n (Got tt p) t ≡ b → leaving s n (Got tt q) u ≡ b → t ≡ u
 
 -- ---- a block whose 64 numbers are said
 abbrev pub BlockOnce : Type 1

@@ -1,4 +1,5 @@
 -- What reading a picture comes to: N judged, and the answer, the buffers and the number of reads by what was read in counted places. Assumes nothing.
+use Rattle.std.specs.Prelude.{Ok}
 use mathlib.Core.Path.{◌≡◌, refl, sym, ap, subst, ◌∙◌}
 use mathlib.Core.Bool.{Bool, true, false}
 use mathlib.Core.List.{List}
@@ -7,7 +8,6 @@ use native.Mathlib.Omega.{arith}
 use borrow.Author.Tests.{lt-ltb, le-ltb, ltb-false}
 use lib.Dec.{T, ltb}
 use Rattle.laws.specs.Choice.{either}
-use Rattle.refusals.specs.declared.Verdict.TheVariants.{Accepted}
 use Rattle.refusals.specs.Told.{told_verdict, verdict_on, found_or}
 use Rattle.bits.specs.Bits.{bits_left}
 use Rattle.bits.specs.Places.{counted}
@@ -16,8 +16,8 @@ use Rattle.bits.specs.declared.Place.{Place}
 use Rattle.bits.specs.declared.Stopped.{Stopped}
 use Rattle.fields.specs.Answer.{found, leaving, refused_picture}
 use Rattle.fields.specs.declared.PictureRead.{PictureRead}
-use Rattle.fields.specs.declared.PlaceRead.{PlaceRead}
-use Rattle.fields.specs.declared.PlaceRead.TheVariants.{At}
+use Rattle.fields.specs.declared.CountedRead.{CountedRead}
+use Rattle.fields.specs.declared.CountedRead.TheVariants.{Got}
 use Rattle.fields.proofs.Told.{is_place}
 use Rattle.fields.proofs.Uncounted.{uncounted, count_in}
 
@@ -54,5 +54,5 @@ module _ {A : Type 0} (z : A) {x : ReadIn counted A} {y : Read A} {k : ℕ} (is 
   pub answers-refused : {w : Stopped} {r : PictureRead} {d : A} → x ≡ refused w → r ≡ refused_picture w → d ≡ z → Answers z y k r d
   answers-refused {w} {r} {d} e told left = answers r d (refused w) (sym e) (ap (λ (u : PictureRead). told_verdict u.verdict) told) left (ap (λ (u : PictureRead). u.reads) told)
 
-  pub answers_laid : (s : List ℕ) (n : ℕ) (r : PlaceRead) (d : A) → leaving s n r d ≡ x → (p : Place) → r ≡ At p → Answers z y k (record { verdict = Accepted; reads = p.reads }) d
-  answers_laid s n r d v p e = answers (record { verdict = Accepted; reads = p.reads }) d (got d (bits_left s n p.bit) p) (sym (is_place s n d r p v e)) refl refl refl
+  pub answers_laid : (s : List ℕ) (n : ℕ) (r : CountedRead (Unit {0})) (d : A) → leaving s n r d ≡ x → (p : Place) → r ≡ Got tt p → Answers z y k (record { verdict = Ok tt; reads = p.reads }) d
+  answers_laid s n r d v p e = answers (record { verdict = Ok tt; reads = p.reads }) d (got d (bits_left s n p.bit) p) (sym (is_place s n d r p v e)) refl refl refl

@@ -1,7 +1,6 @@
 -- A layer's answer as a read that counts. A layer writes the description as it reads: its answer is the place where it ended, or the refusal. Assumes nothing.
-use Rattle.std.specs.Prelude.{ℕ, List}
+use Rattle.std.specs.Prelude.{ℕ, List, Err}
 use Rattle.refusals.specs.declared.Reason.TheVariants.{BitsEnd}
-use Rattle.refusals.specs.declared.Verdict.TheVariants.{Refused as RefusedVerdict}
 use Rattle.refusals.specs.Number.{refusal}
 use Rattle.refusals.specs.Told.{numbers_of, Told, accepted, refused_by, refused as unread}
 use Rattle.bits.specs.Bits.{bits_left}
@@ -12,13 +11,9 @@ use Rattle.bits.specs.declared.Place.{Place}
 use Rattle.bits.specs.declared.Stopped.{Stopped}
 use Rattle.bits.specs.declared.FieldRead.{FieldRead}
 use Rattle.bits.specs.declared.FieldRead.TheVariants.{Got as GotField, Refused as NoField}
-use Rattle.fields.specs.declared.NumberRead.{NumberRead}
-use Rattle.fields.specs.declared.NumberRead.TheVariants.{Got as GotNumber, Refused as NoNumber}
-use Rattle.fields.specs.declared.PlaceRead.{PlaceRead}
-use Rattle.fields.specs.declared.PlaceRead.TheVariants.{At, Refused}
+use Rattle.fields.specs.declared.CountedRead.{CountedRead}
+use Rattle.fields.specs.declared.CountedRead.TheVariants.{Got, Refused}
 use Rattle.fields.specs.declared.PictureRead.{PictureRead}
-use Rattle.fields.specs.declared.PairRead.{PairRead}
-use Rattle.fields.specs.declared.PairRead.TheVariants.{Got as GotPair, Refused as NoPair}
 
 -- the same read with another meaning
 abbrev pub map_read : {P : Places} {A B : Type 0} → (A → B) → ReadIn P A → ReadIn P B
@@ -38,52 +33,44 @@ abbrev pub place_of : ℕ → ℕ → Place
 place_of bit reads = record { bit = bit; reads = reads }
 
 -- a field or codeword, as one read from a place
-abbrev pub read_once : Place → FieldRead → NumberRead
-read_once at (GotField v p) = GotNumber v (past_in counted at p)
-read_once at (NoField r) = NoNumber (stop_in counted r (past_in counted at at.bit))
+abbrev pub read_once : Place → FieldRead ℕ → CountedRead ℕ
+read_once at (GotField v p) = Got v (past_in counted at p)
+read_once at (NoField r) = Refused (stop_in counted r (past_in counted at at.bit))
 
-abbrev pub as_number : List ℕ → ℕ → NumberRead → ReadIn counted ℕ
-as_number s n (GotNumber v p) = got v (bits_left s n p.bit) p
-as_number s n (NoNumber r) = refused r
+abbrev pub as_number : List ℕ → ℕ → CountedRead ℕ → ReadIn counted ℕ
+as_number s n (Got v p) = got v (bits_left s n p.bit) p
+as_number s n (Refused r) = refused r
 
 -- a number, or a pair, that stands for this
-abbrev pub as_meant : {A : Type 0} → (ℕ → A) → List ℕ → ℕ → NumberRead → ReadIn counted A
-as_meant f s n (GotNumber v p) = got (f v) (bits_left s n p.bit) p
-as_meant f s n (NoNumber r) = refused r
+abbrev pub as_meant : {A : Type 0} → (ℕ → A) → List ℕ → ℕ → CountedRead ℕ → ReadIn counted A
+as_meant f s n (Got v p) = got (f v) (bits_left s n p.bit) p
+as_meant f s n (Refused r) = refused r
 
-abbrev pub as_meant_pair : {A : Type 0} → (ℕ → ℕ → A) → List ℕ → ℕ → PairRead → ReadIn counted A
-as_meant_pair f s n (GotPair x y p) = got (f x y) (bits_left s n p.bit) p
-as_meant_pair f s n (NoPair r) = refused r
+abbrev pub as_meant_pair : {A : Type 0} → (ℕ → ℕ → A) → List ℕ → ℕ → CountedRead (ℕ × ℕ) → ReadIn counted A
+as_meant_pair f s n (Got (x, y) p) = got (f x y) (bits_left s n p.bit) p
+as_meant_pair f s n (Refused r) = refused r
 
 -- a layer's answer, with what it left in the buffers; on a refusal that is not said
-abbrev pub leaving : {A : Type 0} → List ℕ → ℕ → PlaceRead → A → ReadIn counted A
-leaving s n (At p) a = got a (bits_left s n p.bit) p
+abbrev pub leaving : {A : Type 0} → List ℕ → ℕ → CountedRead (Unit {0}) → A → ReadIn counted A
+leaving s n (Got u p) a = got a (bits_left s n p.bit) p
 leaving s n (Refused r) a = refused r
 
 -- spares as a bit reader's field
-abbrev pub plain_spares : PlaceRead → FieldRead
-plain_spares (At p) = GotField 0 p.bit
+abbrev pub plain_spares : CountedRead (Unit {0}) → FieldRead ℕ
+plain_spares (Got u p) = GotField 0 p.bit
 plain_spares (Refused r) = NoField r.refusal
 
 -- ---- the refusal of an answer that was refused; of another it is never asked
 abbrev pub bits_end_at : Place → Stopped
 bits_end_at p = stop_in counted (refusal BitsEnd p.bit) p
 
-abbrev pub field_stopped : ℕ → FieldRead → Stopped
+abbrev pub field_stopped : ℕ → FieldRead ℕ → Stopped
 field_stopped reads read = record { refusal = field_refusal read; reads = reads }
 
-abbrev pub number_stopped : NumberRead → Stopped
-number_stopped (GotNumber v p) = bits_end_at p
-number_stopped (NoNumber r) = r
-
-abbrev pub place_stopped : PlaceRead → Stopped
-place_stopped (At p) = bits_end_at p
-place_stopped (Refused r) = r
-
-abbrev pub pair_stopped : PairRead → Stopped
-pair_stopped (GotPair x y p) = bits_end_at p
-pair_stopped (NoPair r) = r
+abbrev pub stopped_of : {T : Type 0} → CountedRead T → Stopped
+stopped_of (Got v p) = bits_end_at p
+stopped_of (Refused r) = r
 
 -- the report of a picture that was refused
 abbrev pub refused_picture : Stopped → PictureRead
-refused_picture r = record { verdict = RefusedVerdict r.refusal; reads = r.reads }
+refused_picture r = record { verdict = Err r.refusal; reads = r.reads }

@@ -7,94 +7,53 @@ ghost use Rattle.laws.specs.Choice.{either};
 ghost use Rattle.bits.specs.Bits.{bits_left};
 ghost use Rattle.bits.specs.Answer.{Placed};
 ghost use Rattle.bit_reader.specs.Reader.{reader_bits};
-ghost use Rattle.fields.specs.Answer.{read_once, as_number, leaving, field_stopped, number_stopped, place_stopped, pair_stopped, place_of, plain_spares, refused_picture};
+ghost use Rattle.fields.specs.Answer.{read_once, as_number, leaving, field_stopped, stopped_of, place_of, plain_spares, refused_picture};
 ghost use Rattle.fields.specs.Rules.{expect as expected, quantiser as quantiser_read, spares as spares_read};
 
 use bit_reader::BitReader;
 use bits::{FieldRead, Place, Stopped, field, field_refusal};
-use refusals::{Reason, Refusal, Verdict};
+use refusals::{Reason, Refusal};
 
-// A field's number, or what a codeword means, with the next place; or the refusal.
+// "each read gives either a meaning with the next place or a refusal", both with the number of reads up to there: a number, a pair of them, where a layer
+// ended.
 #[derive(Clone, Copy)]
-pub enum NumberRead {
-    Got(u32, Place),
+pub enum CountedRead<T> {
+    Got(T, Place),
     Refused(Stopped),
 }
 
-// The refusal of a number that was refused.
-pub fn number_stopped(read: NumberRead) -> Stopped
-    ensures { result ≡ number_stopped read }
-{
-    match read {
-        NumberRead::Got(_, at) => Stopped {
-            refusal: Refusal {
-                reason: Reason::BitsEnd,
-                place: at.bit,
+impl<T> CountedRead<T> {
+    // The refusal of a read that was refused.
+    pub fn stopped(self) -> Stopped
+    where
+        T: Copy,
+        ensures { result ≡ stopped_of self }
+    {
+        match self {
+            CountedRead::Got(_, at) => Stopped {
+                refusal: Refusal {
+                    reason: Reason::BitsEnd,
+                    place: at.bit,
+                },
+                reads: at.reads,
             },
-            reads: at.reads,
-        },
-        NumberRead::Refused(stopped) => stopped,
+            CountedRead::Refused(stopped) => stopped,
+        }
     }
 }
 
 // The refusal of a field that was refused, after so many reads.
-pub fn field_stopped(reads: usize, read: FieldRead) -> Stopped
+pub fn field_stopped(reads: usize, read: FieldRead<u32>) -> Stopped
     ensures { result ≡ field_stopped reads read }
 {
     let refusal = field_refusal(read);
     Stopped { refusal, reads }
 }
 
-// Where a layer ended, or the refusal.
-#[derive(Clone, Copy)]
-pub enum PlaceRead {
-    At(Place),
-    Refused(Stopped),
-}
-
-// The refusal of a layer that was refused.
-pub fn place_stopped(read: PlaceRead) -> Stopped
-    ensures { result ≡ place_stopped read }
-{
-    match read {
-        PlaceRead::At(at) => Stopped {
-            refusal: Refusal {
-                reason: Reason::BitsEnd,
-                place: at.bit,
-            },
-            reads: at.reads,
-        },
-        PlaceRead::Refused(stopped) => stopped,
-    }
-}
-
-// Two small numbers, with the next place; or the refusal.
-#[derive(Clone, Copy)]
-pub enum PairRead {
-    Got(u8, u8, Place),
-    Refused(Stopped),
-}
-
-// The refusal of a pair that was refused.
-pub fn pair_stopped(read: PairRead) -> Stopped
-    ensures { result ≡ pair_stopped read }
-{
-    match read {
-        PairRead::Got(_, _, at) => Stopped {
-            refusal: Refusal {
-                reason: Reason::BitsEnd,
-                place: at.bit,
-            },
-            reads: at.reads,
-        },
-        PairRead::Refused(stopped) => stopped,
-    }
-}
-
 // What reading a picture comes to: the verdict, and how many fields and codewords were read, up to a refusal if it was refused.
 #[derive(Clone, Copy)]
 pub struct PictureRead {
-    pub verdict: Verdict,
+    pub verdict: Result<(), Refusal>,
     pub reads: usize,
 }
 
@@ -104,7 +63,7 @@ pub fn refused_picture(stopped: Stopped) -> PictureRead
 {
     let why = stopped.refusal;
     PictureRead {
-        verdict: Verdict::Refused(why),
+        verdict: Err(why),
         reads: stopped.reads,
     }
 }
@@ -121,14 +80,14 @@ pub fn count_above(length: usize, count: usize, limit: usize) -> bool
 }
 
 // A field or a codeword that was read at a place, counted: one read, whether it was refused or not.
-pub fn once(at: Place, read: FieldRead) -> NumberRead
+pub fn once(at: Place, read: FieldRead<u32>) -> CountedRead<u32>
     requires { at.reads < 4294967296 }
     ensures { result ≡ read_once at read }
 {
     let reads = at.reads + 1;
     match read {
-        FieldRead::Got(value, bit) => NumberRead::Got(value, Place { bit, reads }),
-        FieldRead::Refused(refusal) => NumberRead::Refused(Stopped { refusal, reads }),
+        FieldRead::Got(value, bit) => CountedRead::Got(value, Place { bit, reads }),
+        FieldRead::Refused(refusal) => CountedRead::Refused(Stopped { refusal, reads }),
     }
 }
 
@@ -140,18 +99,18 @@ pub fn expect(
     width: usize,
     value: u32,
     reason: Reason,
-) -> PlaceRead
+) -> CountedRead<()>
     requires { (Placed bytes.now count at) × (width ≤ 24) }
     ensures { leaving bytes.now count result value ≡ expected width value reason (bits_left bytes.now count at.bit) at }
 {
     let read = once(at, field(bytes, count, at.bit, width));
-    let NumberRead::Got(found, next) = read else {
-        return PlaceRead::Refused(number_stopped(read));
+    let CountedRead::Got(found, next) = read else {
+        return CountedRead::Refused(read.stopped());
     };
     if found == value {
-        PlaceRead::At(next)
+        CountedRead::Got((), next)
     } else {
-        PlaceRead::Refused(Stopped {
+        CountedRead::Refused(Stopped {
             refusal: Refusal {
                 reason,
                 place: at.bit,
@@ -162,16 +121,16 @@ pub fn expect(
 }
 
 // A quantiser, which is not 0.
-pub fn quantiser(bytes: &[u8], count: usize, at: Place) -> NumberRead
+pub fn quantiser(bytes: &[u8], count: usize, at: Place) -> CountedRead<u32>
     requires { Placed bytes.now count at }
     ensures { as_number bytes.now count result ≡ quantiser_read (bits_left bytes.now count at.bit) at }
 {
     let read = once(at, field(bytes, count, at.bit, 5));
-    let NumberRead::Got(found, next) = read else {
-        return NumberRead::Refused(number_stopped(read));
+    let CountedRead::Got(found, next) = read else {
+        return CountedRead::Refused(read.stopped());
     };
     if found == 0 {
-        return NumberRead::Refused(Stopped {
+        return CountedRead::Refused(Stopped {
             refusal: Refusal {
                 reason: Reason::QuantiserZero,
                 place: at.bit,
@@ -179,33 +138,33 @@ pub fn quantiser(bytes: &[u8], count: usize, at: Place) -> NumberRead
             reads: next.reads,
         });
     }
-    NumberRead::Got(found, next)
+    CountedRead::Got(found, next)
 }
 
 // PEI or GEI, then eight dropped bits and another while it is 1.
-pub fn spares(bytes: &[u8], count: usize, from: Place) -> PlaceRead
+pub fn spares(bytes: &[u8], count: usize, from: Place) -> CountedRead<()>
     requires { Placed bytes.now count from }
     ensures { leaving bytes.now count result 0 ≡ spares_read (bits_left bytes.now count from.bit) from }
 {
     let mut at = from;
     loop {
         let more = once(at, field(bytes, count, at.bit, 1));
-        let NumberRead::Got(bit, after) = more else {
-            return PlaceRead::Refused(number_stopped(more));
+        let CountedRead::Got(bit, after) = more else {
+            return CountedRead::Refused(more.stopped());
         };
         if bit == 0 {
-            return PlaceRead::At(after);
+            return CountedRead::Got((), after);
         }
         let spare = once(after, field(bytes, count, after.bit, 8));
-        let NumberRead::Got(_, next) = spare else {
-            return PlaceRead::Refused(number_stopped(spare));
+        let CountedRead::Got(_, next) = spare else {
+            return CountedRead::Refused(spare.stopped());
         };
         at = next;
     }
 }
 
 // The same from a bit on, after so many reads.
-fn spares_from(bytes: &[u8], count: usize, bit: usize, reads: usize) -> PlaceRead
+fn spares_from(bytes: &[u8], count: usize, bit: usize, reads: usize) -> CountedRead<()>
     requires { Placed bytes.now count (place_of bit reads) }
     ensures { leaving bytes.now count result 0 ≡ spares_read (bits_left bytes.now count bit) (place_of bit reads) }
 {
@@ -213,7 +172,7 @@ fn spares_from(bytes: &[u8], count: usize, bit: usize, reads: usize) -> PlaceRea
 }
 
 // The same at a bit reader's place.
-pub fn drop_spares<'a>(reader: BitReader<'a>, reads: usize) -> PlaceRead
+pub fn drop_spares<'a>(reader: BitReader<'a>, reads: usize) -> CountedRead<()>
     requires { Placed reader.bytes.now reader.count (place_of reader.place reads) }
     ensures { leaving reader.entry.bytes.now reader.entry.count result 0 ≡ spares_read (reader_bits reader.entry) (place_of reader.entry.place reads) }
 {
@@ -221,12 +180,12 @@ pub fn drop_spares<'a>(reader: BitReader<'a>, reads: usize) -> PlaceRead
 }
 
 // Spares without their count, as a bit reader goes on after them.
-pub fn plain_spares(read: PlaceRead) -> FieldRead
+pub fn plain_spares(read: CountedRead<()>) -> FieldRead<u32>
     ensures { result ≡ plain_spares read }
 {
     match read {
-        PlaceRead::At(at) => FieldRead::Got(0, at.bit),
-        PlaceRead::Refused(stopped) => {
+        CountedRead::Got((), at) => FieldRead::Got(0, at.bit),
+        CountedRead::Refused(stopped) => {
             let refusal = stopped.refusal;
             FieldRead::Refused(refusal)
         }

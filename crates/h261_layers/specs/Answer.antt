@@ -17,22 +17,17 @@ use Rattle.h261_description.specs.Value.{before_next}
 use Rattle.layout.specs.Flat.{index, fields_of, put_blocks}
 use Rattle.fields.specs.Answer.{place_of, bits_end_at, as_meant, as_meant_pair}
 use Rattle.fields.specs.Header.{and_then, ruled, after_spare}
-use Rattle.fields.specs.declared.NumberRead.{NumberRead}
-use Rattle.fields.specs.declared.PairRead.{PairRead}
-use Rattle.fields.specs.declared.PairRead.TheVariants.{Got as GotPair, Refused as NoPair}
-use Rattle.fields.specs.declared.PlaceRead.{PlaceRead}
-use Rattle.fields.specs.declared.PlaceRead.TheVariants.{At, Refused}
+use Rattle.fields.specs.declared.CountedRead.{CountedRead}
+use Rattle.fields.specs.declared.CountedRead.TheVariants.{Got, Refused}
 use Rattle.h261_layers.specs.Grammar.{Mba, step, stuffed, ended, ptype_of, Header}
 use Rattle.h261_layers.specs.declared.MbaRead.{MbaRead}
 use Rattle.h261_layers.specs.declared.MbaRead.TheVariants.{Step, Stuffing, Ended, Refused as NoMba}
-use Rattle.h261_layers.specs.declared.MacroblockRead.{MacroblockRead}
-use Rattle.h261_layers.specs.declared.MacroblockRead.TheVariants.{Got as GotMacroblock, Refused as NoMacroblock}
 use Rattle.h261_layers.specs.declared.Behind.{Behind}
 
 -- where a block ended, after so many reads: at EOB, or by the refusal; of a coefficient it is never asked
-abbrev pub block_end : ℕ → CoefficientRead → PlaceRead
-block_end reads (Coefficient run code p) = At (place_of p reads)
-block_end reads (EndOfBlock p) = At (place_of p reads)
+abbrev pub block_end : ℕ → CoefficientRead → CountedRead (Unit {0})
+block_end reads (Coefficient run code p) = Got tt (place_of p reads)
+block_end reads (EndOfBlock p) = Got tt (place_of p reads)
 block_end reads (NoCoefficient r) = Refused (record { refusal = r; reads = reads })
 
 -- ---- vectors: the code keeps a component as 16 more than it is
@@ -52,10 +47,10 @@ pub record KeptVector (horizontal vertical : ℕ) : Type 0 where
 abbrev pub vector_of : ℕ → ℕ → Vector
 vector_of h v = record { horizontal = component_of h; vertical = component_of v }
 
-abbrev pub as_component : List ℕ → ℕ → NumberRead → ReadIn counted ℤ
+abbrev pub as_component : List ℕ → ℕ → CountedRead ℕ → ReadIn counted ℤ
 as_component = as_meant component_of
 
-abbrev pub as_vector : List ℕ → ℕ → PairRead → ReadIn counted Vector
+abbrev pub as_vector : List ℕ → ℕ → CountedRead (ℕ × ℕ) → ReadIn counted Vector
 as_vector = as_meant_pair vector_of
 
 -- ---- macroblocks
@@ -84,37 +79,37 @@ put_sent g macroblocks levels m = record {
   before = before_next m;
 }
 
-abbrev pub as_macroblock : List ℕ → ℕ → MacroblockRead → List ℕ → List ℕ → ReadIn counted Sent
-as_macroblock s n (GotMacroblock b p) macroblocks levels = got (record { macroblocks = macroblocks; levels = levels; before = before_of b }) (bits_left s n p.bit) p
-as_macroblock s n (NoMacroblock r) macroblocks levels = refused r
+abbrev pub as_macroblock : List ℕ → ℕ → CountedRead Behind → List ℕ → List ℕ → ReadIn counted Sent
+as_macroblock s n (Got b p) macroblocks levels = got (record { macroblocks = macroblocks; levels = levels; before = before_of b }) (bits_left s n p.bit) p
+as_macroblock s n (Refused r) macroblocks levels = refused r
 
-abbrev pub macroblock_stopped : MacroblockRead → Stopped
-macroblock_stopped (GotMacroblock b p) = bits_end_at p
-macroblock_stopped (NoMacroblock r) = r
+abbrev pub stopped_of : CountedRead Behind → Stopped
+stopped_of (Got b p) = bits_end_at p
+stopped_of (Refused r) = r
 
 -- ---- the picture
-abbrev pub as_header : List ℕ → ℕ → PairRead → ReadIn counted Header
-as_header s n (GotPair tr ptype p) = got (record { tr = tr; ptype = ptype }) (bits_left s n p.bit) p
-as_header s n (NoPair r) = refused r
+abbrev pub as_header : List ℕ → ℕ → CountedRead (ℕ × ℕ) → ReadIn counted Header
+as_header s n (Got (tr, ptype) p) = got (record { tr = tr; ptype = ptype }) (bits_left s n p.bit) p
+as_header s n (Refused r) = refused r
 
 -- spares that were got have a low number of reads
-abbrev pub Counted : PlaceRead → Type 0
-Counted (At p) = p.reads < 4294967296
+abbrev pub Counted : CountedRead (Unit {0}) → Type 0
+Counted (Got u p) = p.reads < 4294967296
 Counted (Refused r) = Unit {0}
 
 -- refusal 4: "PSC or GBSC expected and not there"
 abbrev pub code_is : ℕ → ℕ → Judged ℕ
 code_is code x = pick (eqb x code) (fine x) (against NoStartCode)
 
-abbrev pub no_header : Stopped → PairRead
-no_header r = NoPair r
+abbrev pub no_header : Stopped → CountedRead (ℕ × ℕ)
+no_header r = Refused r
 
 -- what the five reads of a header come to
-unfoldable pub header_of : Format → ℕ → FieldRead → FieldRead → FieldRead → PlaceRead → FieldRead → PairRead
+unfoldable pub header_of : Format → ℕ → FieldRead ℕ → FieldRead ℕ → FieldRead ℕ → CountedRead (Unit {0}) → FieldRead ℕ → CountedRead (ℕ × ℕ)
 header_of f at psc tr ptype spare gbsc =
     and_then no_header 0 psc (λ x p. ruled no_header (code_is 16 x) at p (λ start.
     and_then no_header 1 tr (λ reference at_ptype.
     and_then no_header 2 ptype (λ y q. ruled no_header (ptype_of f y) at_ptype.bit q (λ information.
     after_spare no_header spare (λ at_gbsc.
     and_then no_header at_gbsc.reads gbsc (λ z next. ruled no_header (code_is 1 z) at_gbsc.bit next (λ group.
-    GotPair reference information next))))))))
+    Got (reference, information) next))))))))

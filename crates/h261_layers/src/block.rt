@@ -11,18 +11,18 @@ ghost use Rattle.h261_layers.specs.Ready.{Reading, Span};
 ghost use Rattle.h261_layers.specs.Grammar.{coefficients as coefficients_read, intra_block, inter_block, blocks_read};
 
 use bits::{Place, Stopped};
-use fields::{NumberRead, PlaceRead, number_stopped, once, place_stopped};
+use fields::{CountedRead, once};
 use h261_words::{CoefficientRead, WordTables};
 use refusals::{Reason, Refusal};
 
 // Where a block ended, after so many reads: at EOB, or by the refusal.
-fn block_end(reads: usize, read: CoefficientRead) -> PlaceRead
+fn block_end(reads: usize, read: CoefficientRead) -> CountedRead<()>
     ensures { result ≡ block_end reads read }
 {
     match read {
-        CoefficientRead::Coefficient(_, _, bit) => PlaceRead::At(Place { bit, reads }),
-        CoefficientRead::EndOfBlock(bit) => PlaceRead::At(Place { bit, reads }),
-        CoefficientRead::Refused(refusal) => PlaceRead::Refused(Stopped { refusal, reads }),
+        CoefficientRead::Coefficient(_, _, bit) => CountedRead::Got((), Place { bit, reads }),
+        CoefficientRead::EndOfBlock(bit) => CountedRead::Got((), Place { bit, reads }),
+        CoefficientRead::Refused(refusal) => CountedRead::Refused(Stopped { refusal, reads }),
     }
 }
 
@@ -36,7 +36,7 @@ fn coefficients(
     levels: &mut [u8],
     from: usize,
     end: usize,
-) -> PlaceRead
+) -> CountedRead<()>
     requires { (Reading tables.now bytes.now count at) × (Span from end levels.old) }
     ensures { leaving bytes.now count result levels.new ≡ map_read (put_block levels.old from) (loop (λ turns. coefficients_read turns (end - from) (table_of opening)) (bits_left bytes.now count at.bit) at) }
 {
@@ -51,7 +51,7 @@ fn coefficients(
         };
         let to = k + (run as usize);
         if end <= to {
-            return PlaceRead::Refused(Stopped {
+            return CountedRead::Refused(Stopped {
                 refusal: Refusal {
                     reason: Reason::CoefficientPast,
                     place: place.bit,
@@ -74,16 +74,16 @@ fn intra_block(
     at: Place,
     levels: &mut [u8],
     base: usize,
-) -> PlaceRead
+) -> CountedRead<()>
     requires { (Reading tables.now bytes.now count at) × (base + 64 ≤ length levels.old) }
     ensures { leaving bytes.now count result levels.new ≡ map_read (put_block levels.old base) (intra_block (bits_left bytes.now count at.bit) at) }
 {
     let read = once(at, bits::field(bytes, count, at.bit, 8));
-    let NumberRead::Got(code, next) = read else {
-        return PlaceRead::Refused(number_stopped(read));
+    let CountedRead::Got(code, next) = read else {
+        return CountedRead::Refused(read.stopped());
     };
     if code % 128 == 0 {
-        return PlaceRead::Refused(Stopped {
+        return CountedRead::Refused(Stopped {
             refusal: Refusal {
                 reason: Reason::Forbidden,
                 place: at.bit,
@@ -112,7 +112,7 @@ fn one_block(
     intra: bool,
     levels: &mut [u8],
     base: usize,
-) -> PlaceRead
+) -> CountedRead<()>
     requires { (Reading tables.now bytes.now count at) × (base + 64 ≤ length levels.old) }
     ensures { leaving bytes.now count result levels.new ≡ map_read (put_block levels.old base) (pick intra intra_block inter_block (bits_left bytes.now count at.bit) at) }
 {
@@ -132,7 +132,7 @@ pub fn blocks(
     pattern: u32,
     levels: &mut [u8],
     base: usize,
-) -> PlaceRead
+) -> CountedRead<()>
     requires { (Reading tables.now bytes.now count at) × (base + 384 ≤ length levels.old) }
     ensures { leaving bytes.now count result levels.new ≡ map_read (put_blocks levels.old base) (blocks_read intra (bits_of 6 pattern) (bits_left bytes.now count at.bit) at) }
 {
@@ -141,11 +141,11 @@ pub fn blocks(
         let after = 5 - b;
         if (pattern >> after) % 2 == 1 {
             let read = one_block(tables, bytes, count, place, intra, levels, base + b * 64);
-            let PlaceRead::At(next) = read else {
-                return PlaceRead::Refused(place_stopped(read));
+            let CountedRead::Got((), next) = read else {
+                return CountedRead::Refused(read.stopped());
             };
             place = next;
         }
     }
-    PlaceRead::At(place)
+    CountedRead::Got((), place)
 }

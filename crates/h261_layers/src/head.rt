@@ -8,31 +8,28 @@ ghost use Rattle.h261_layers.specs.Answer.{Counted, header_of, as_header};
 ghost use Rattle.h261_layers.specs.Grammar.{group_head, header as header_read};
 
 use bits::{FieldRead, Place, Stopped};
-use fields::{
-    NumberRead, PairRead, PlaceRead, drop_spares, expect, field_stopped, number_stopped,
-    place_stopped, plain_spares, quantiser, spares,
-};
+use fields::{CountedRead, drop_spares, expect, field_stopped, plain_spares, quantiser, spares};
 use h261_groups::Format;
 use refusals::{Reason, Refusal};
 
 // GN, GQUANT and the spares of a group: its GQUANT.
-pub fn group_head(bytes: &[u8], count: usize, at: Place, number: u32) -> NumberRead
+pub fn group_head(bytes: &[u8], count: usize, at: Place, number: u32) -> CountedRead<u32>
     requires { Placed bytes.now count at }
     ensures { as_number bytes.now count result ≡ group_head number (bits_left bytes.now count at.bit) at }
 {
     let named = expect(bytes, count, at, 4, number, Reason::OtherGroup);
-    let PlaceRead::At(after_number) = named else {
-        return NumberRead::Refused(place_stopped(named));
+    let CountedRead::Got((), after_number) = named else {
+        return CountedRead::Refused(named.stopped());
     };
     let quantised = quantiser(bytes, count, after_number);
-    let NumberRead::Got(gquant, after_quantiser) = quantised else {
-        return NumberRead::Refused(number_stopped(quantised));
+    let CountedRead::Got(gquant, after_quantiser) = quantised else {
+        return CountedRead::Refused(quantised.stopped());
     };
     let dropped = spares(bytes, count, after_quantiser);
-    let PlaceRead::At(next) = dropped else {
-        return NumberRead::Refused(place_stopped(dropped));
+    let CountedRead::Got((), next) = dropped else {
+        return CountedRead::Refused(dropped.stopped());
     };
-    NumberRead::Got(gquant, next)
+    CountedRead::Got(gquant, next)
 }
 
 // What the reads of a picture's header come to: the first that was refused or is against its rule; else TR and PTYPE bits 1 to 3. PSC, TR and PTYPE
@@ -40,20 +37,20 @@ pub fn group_head(bytes: &[u8], count: usize, at: Place, number: u32) -> NumberR
 fn header_of(
     format: Format,
     at: usize,
-    psc: FieldRead,
-    tr: FieldRead,
-    ptype: FieldRead,
-    spare: PlaceRead,
-    gbsc: FieldRead,
-) -> PairRead
+    psc: FieldRead<u32>,
+    tr: FieldRead<u32>,
+    ptype: FieldRead<u32>,
+    spare: CountedRead<()>,
+    gbsc: FieldRead<u32>,
+) -> CountedRead<(u8, u8)>
     requires { (Below 32 tr) × (Below 64 ptype) × (Counted spare) }
     ensures { result ≡ header_of format at psc tr ptype spare gbsc }
 {
     let FieldRead::Got(start, _) = psc else {
-        return PairRead::Refused(field_stopped(1, psc));
+        return CountedRead::Refused(field_stopped(1, psc));
     };
     if start != 16 {
-        return PairRead::Refused(Stopped {
+        return CountedRead::Refused(Stopped {
             refusal: Refusal {
                 reason: Reason::NoStartCode,
                 place: at,
@@ -62,14 +59,14 @@ fn header_of(
         });
     }
     let FieldRead::Got(reference, at_ptype) = tr else {
-        return PairRead::Refused(field_stopped(2, tr));
+        return CountedRead::Refused(field_stopped(2, tr));
     };
     let FieldRead::Got(information, _) = ptype else {
-        return PairRead::Refused(field_stopped(3, ptype));
+        return CountedRead::Refused(field_stopped(3, ptype));
     };
     let wanted = h261_groups::bit(format) as u32;
     if information / 4 % 2 != wanted {
-        return PairRead::Refused(Stopped {
+        return CountedRead::Refused(Stopped {
             refusal: Refusal {
                 reason: Reason::OtherFormat,
                 place: at_ptype,
@@ -78,7 +75,7 @@ fn header_of(
         });
     }
     if information / 2 % 2 == 0 {
-        return PairRead::Refused(Stopped {
+        return CountedRead::Refused(Stopped {
             refusal: Refusal {
                 reason: Reason::OtherFormat,
                 place: at_ptype,
@@ -86,15 +83,15 @@ fn header_of(
             reads: 3,
         });
     }
-    let PlaceRead::At(at_gbsc) = spare else {
-        return PairRead::Refused(place_stopped(spare));
+    let CountedRead::Got((), at_gbsc) = spare else {
+        return CountedRead::Refused(spare.stopped());
     };
     let reads = at_gbsc.reads + 1;
     let FieldRead::Got(group, next) = gbsc else {
-        return PairRead::Refused(field_stopped(reads, gbsc));
+        return CountedRead::Refused(field_stopped(reads, gbsc));
     };
     if group != 1 {
-        return PairRead::Refused(Stopped {
+        return CountedRead::Refused(Stopped {
             refusal: Refusal {
                 reason: Reason::NoStartCode,
                 place: at_gbsc.bit,
@@ -102,15 +99,14 @@ fn header_of(
             reads,
         });
     }
-    PairRead::Got(
-        reference as u8,
-        (information / 8) as u8,
+    CountedRead::Got(
+        (reference as u8, (information / 8) as u8),
         Place { bit: next, reads },
     )
 }
 
 // A picture's header, PSC, TR, PTYPE, the spares and the first GBSC, read by a bit reader: TR and PTYPE bits 1 to 3. No read was made before it.
-pub fn header(bytes: &[u8], count: usize, at: usize, format: Format) -> PairRead
+pub fn header(bytes: &[u8], count: usize, at: usize, format: Format) -> CountedRead<(u8, u8)>
     requires { Placed bytes.now count (place_of at 0) }
     ensures { as_header bytes.now count result ≡ header_read format (bits_left bytes.now count at) (place_of at 0) }
 {

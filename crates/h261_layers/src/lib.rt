@@ -1,11 +1,7 @@
 // The layers of a picture below its groups: header, group head, macroblock, vector and blocks, from bits to the places of a description, or the refusal.
 #![tactic(auto)]
 
-ghost use Rattle.std.specs.Prelude.{◌≡◌};
-ghost use Rattle.h261_layers.specs.Answer.{macroblock_stopped};
-
 use bits::{Place, Stopped};
-use refusals::{Reason, Refusal};
 
 pub mod block;
 pub mod head;
@@ -27,26 +23,4 @@ pub struct Behind {
     pub address: usize,
     pub horizontal: u8,
     pub vertical: u8,
-}
-
-#[derive(Clone, Copy)]
-pub enum MacroblockRead {
-    Got(Behind, Place),
-    Refused(Stopped),
-}
-
-// The refusal of a macroblock that was refused.
-pub fn macroblock_stopped(read: MacroblockRead) -> Stopped
-    ensures { result ≡ macroblock_stopped read }
-{
-    match read {
-        MacroblockRead::Got(_, at) => Stopped {
-            refusal: Refusal {
-                reason: Reason::BitsEnd,
-                place: at.bit,
-            },
-            reads: at.reads,
-        },
-        MacroblockRead::Refused(stopped) => stopped,
-    }
 }

@@ -19,11 +19,9 @@ ghost use Rattle.fields.specs.Rules.{optional, quantiser as quantiser_read};
 
 use crate::block::blocks;
 use crate::vector::vector;
-use crate::{Behind, MacroblockRead, MbaRead};
+use crate::{Behind, MbaRead};
 use bits::{Place, Stopped};
-use fields::{
-    NumberRead, PairRead, PlaceRead, number_stopped, once, pair_stopped, place_stopped, quantiser,
-};
+use fields::{CountedRead, once, quantiser};
 use h261_description::restarts;
 use h261_groups::Format;
 use h261_words::WordTables;
@@ -43,8 +41,8 @@ fn mba_word(
     ensures { as_mba bytes.now count result ≡ judged_read (word table1) (mba_of last address) (bits_left bytes.now count at.bit) at }
 {
     let read = once(at, h261_words::mba(tables, bytes, count, at.bit));
-    let NumberRead::Got(meaning, next) = read else {
-        return MbaRead::Refused(number_stopped(read));
+    let CountedRead::Got(meaning, next) = read else {
+        return MbaRead::Refused(read.stopped());
     };
     if meaning == 34 {
         return MbaRead::Stuffing(next);
@@ -103,18 +101,24 @@ pub fn mba(
 }
 
 // MQUANT, where the type has it; else 0.
-fn mquant(bytes: &[u8], count: usize, at: Place, mtype: u16) -> NumberRead
+fn mquant(bytes: &[u8], count: usize, at: Place, mtype: u16) -> CountedRead<u32>
     requires { Placed bytes.now count at }
     ensures { as_number bytes.now count result ≡ optional (has_mquant mtype) 0 quantiser_read (bits_left bytes.now count at.bit) at }
 {
     if has_mquant(mtype) {
         return quantiser(bytes, count, at);
     }
-    NumberRead::Got(0, at)
+    CountedRead::Got(0, at)
 }
 
 // CBP, where the type has it; else all blocks of INTRA, and none.
-fn pattern(tables: &WordTables, bytes: &[u8], count: usize, at: Place, mtype: u16) -> NumberRead
+fn pattern(
+    tables: &WordTables,
+    bytes: &[u8],
+    count: usize,
+    at: Place,
+    mtype: u16,
+) -> CountedRead<u32>
     requires { Reading tables.now bytes.now count at }
     ensures { as_number bytes.now count result ≡ pattern_read mtype (bits_left bytes.now count at.bit) at }
 {
@@ -122,9 +126,9 @@ fn pattern(tables: &WordTables, bytes: &[u8], count: usize, at: Place, mtype: u1
         return once(at, h261_words::cbp(tables, bytes, count, at.bit));
     }
     if is_intra(mtype) {
-        return NumberRead::Got(63, at);
+        return CountedRead::Got(63, at);
     }
-    NumberRead::Got(0, at)
+    CountedRead::Got(0, at)
 }
 
 // The vector, where the type is MC; else zero.
@@ -138,7 +142,7 @@ fn moved(
     behind: Behind,
     step: usize,
     mtype: u16,
-) -> PairRead
+) -> CountedRead<(u8, u8)>
     requires { (Reading tables.now bytes.now count at) × (Stepped number behind step) }
     ensures { as_vector bytes.now count result ≡ optional (is_mc mtype) zero_vector (vector_read format number (behind.address + step) (preceding_of (before_of behind) step)) (bits_left bytes.now count at.bit) at }
 {
@@ -160,7 +164,7 @@ fn moved(
             behind.vertical,
         );
     }
-    PairRead::Got(16, 16, at)
+    CountedRead::Got((16, 16), at)
 }
 
 // A component in a byte of two's complement.
@@ -202,18 +206,18 @@ pub fn macroblock(
     step: usize,
     macroblocks: &mut [u8],
     levels: &mut [u8],
-) -> MacroblockRead
+) -> CountedRead<Behind>
     requires { (Reading tables.now bytes.now count at) × (MacroblockReady number group behind step macroblocks.old levels.old) }
     ensures { as_macroblock bytes.now count result macroblocks.new levels.new ≡ map_read (put_sent group macroblocks.old levels.old) (macroblock_read format number (before_of behind) step (bits_left bytes.now count at.bit) at) }
 {
     let kind = once(at, h261_words::mtype(tables, bytes, count, at.bit));
-    let NumberRead::Got(found, after_type) = kind else {
-        return MacroblockRead::Refused(number_stopped(kind));
+    let CountedRead::Got(found, after_type) = kind else {
+        return CountedRead::Refused(kind.stopped());
     };
     let mtype = found as u16;
     let quantised = mquant(bytes, count, after_type, mtype);
-    let NumberRead::Got(quantiser, after_quantiser) = quantised else {
-        return MacroblockRead::Refused(number_stopped(quantised));
+    let CountedRead::Got(quantiser, after_quantiser) = quantised else {
+        return CountedRead::Refused(quantised.stopped());
     };
     let pointed = moved(
         tables,
@@ -226,12 +230,12 @@ pub fn macroblock(
         step,
         mtype,
     );
-    let PairRead::Got(horizontal, vertical, after_vector) = pointed else {
-        return MacroblockRead::Refused(pair_stopped(pointed));
+    let CountedRead::Got((horizontal, vertical), after_vector) = pointed else {
+        return CountedRead::Refused(pointed.stopped());
     };
     let coded = pattern(tables, bytes, count, after_vector, mtype);
-    let NumberRead::Got(cbp, after_pattern) = coded else {
-        return MacroblockRead::Refused(number_stopped(coded));
+    let CountedRead::Got(cbp, after_pattern) = coded else {
+        return CountedRead::Refused(coded.stopped());
     };
     let address = behind.address + step;
     let index = group * 33 + (address - 1);
@@ -246,8 +250,8 @@ pub fn macroblock(
         levels,
         index * 384,
     );
-    let PlaceRead::At(next) = sent else {
-        return MacroblockRead::Refused(place_stopped(sent));
+    let CountedRead::Got((), next) = sent else {
+        return CountedRead::Refused(sent.stopped());
     };
     put_fields(
         macroblocks,
@@ -257,7 +261,7 @@ pub fn macroblock(
         horizontal,
         vertical,
     );
-    MacroblockRead::Got(
+    CountedRead::Got(
         Behind {
             address,
             horizontal,

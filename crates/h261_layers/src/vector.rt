@@ -7,7 +7,7 @@ ghost use Rattle.h261_layers.specs.Ready.{Reading, VectorReady};
 ghost use Rattle.h261_layers.specs.Vector.{component_read, vector_read};
 
 use bits::{Place, Stopped};
-use fields::{NumberRead, PairRead, number_stopped, once};
+use fields::{CountedRead, once};
 use h261_groups::Format;
 use h261_words::WordTables;
 use refusals::{Reason, Refusal};
@@ -19,17 +19,17 @@ fn component(
     count: usize,
     at: Place,
     preceding: u8,
-) -> NumberRead
+) -> CountedRead<u32>
     requires { (Reading tables.now bytes.now count at) × (Kept preceding) }
     ensures { as_component bytes.now count result ≡ component_read (component_of preceding) (bits_left bytes.now count at.bit) at }
 {
     let read = once(at, h261_words::mvd(tables, bytes, count, at.bit));
-    let NumberRead::Got(difference, next) = read else {
-        return NumberRead::Refused(number_stopped(read));
+    let CountedRead::Got(difference, next) = read else {
+        return CountedRead::Refused(read.stopped());
     };
     let landed = ((preceding as u32) + difference + 16) % 32;
     if landed == 0 {
-        return NumberRead::Refused(Stopped {
+        return CountedRead::Refused(Stopped {
             refusal: Refusal {
                 reason: Reason::VectorOut,
                 place: at.bit,
@@ -37,7 +37,7 @@ fn component(
             reads: next.reads,
         });
     }
-    NumberRead::Got(landed, next)
+    CountedRead::Got(landed, next)
 }
 
 // The first column and row of the macroblock at an address of a group.
@@ -66,17 +66,17 @@ pub fn vector(
     address: usize,
     horizontal: u8,
     vertical: u8,
-) -> PairRead
+) -> CountedRead<(u8, u8)>
     requires { (Reading tables.now bytes.now count at) × (VectorReady number address horizontal vertical) }
     ensures { as_vector bytes.now count result ≡ vector_read format number address (vector_of horizontal vertical) (bits_left bytes.now count at.bit) at }
 {
     let first = component(tables, bytes, count, at, horizontal);
-    let NumberRead::Got(across, after) = first else {
-        return PairRead::Refused(number_stopped(first));
+    let CountedRead::Got(across, after) = first else {
+        return CountedRead::Refused(first.stopped());
     };
     let second = component(tables, bytes, count, after, vertical);
-    let NumberRead::Got(down, next) = second else {
-        return PairRead::Refused(number_stopped(second));
+    let CountedRead::Got(down, next) = second else {
+        return CountedRead::Refused(second.stopped());
     };
     let x = column(number, address) + (across as usize);
     let y = row(number, address) + (down as usize);
@@ -88,16 +88,16 @@ pub fn vector(
         reads: next.reads,
     };
     if x < 16 {
-        return PairRead::Refused(out);
+        return CountedRead::Refused(out);
     }
     if h261_groups::width(format) < x {
-        return PairRead::Refused(out);
+        return CountedRead::Refused(out);
     }
     if y < 16 {
-        return PairRead::Refused(out);
+        return CountedRead::Refused(out);
     }
     if h261_groups::height(format) < y {
-        return PairRead::Refused(out);
+        return CountedRead::Refused(out);
     }
-    PairRead::Got(across as u8, down as u8, next)
+    CountedRead::Got((across as u8, down as u8), next)
 }

@@ -1,4 +1,5 @@
 -- From bits to a description in buffers, step by step. Assumes nothing.
+use Rattle.std.specs.Prelude.{Ok}
 use mathlib.Core.Path.{◌≡◌, sym, ap, ◌∙◌}
 use mathlib.Core.Bool.{Bool, true, false}
 use mathlib.Core.List.{List, ◌∷◌}
@@ -6,7 +7,6 @@ use Prim.Native.Nat.{ℕ, suc, ◌+◌, ◌*◌, ◌≤◌, ◌<◌}
 use native.Mathlib.Omega.{arith}
 use lib.Dec.{ltb, lit<}
 use lib.ListN.{length, set, replicate}
-use denote.Enum.Declared.{tag_of}
 use Rattle.laws.specs.Choice.{either}
 use Rattle.refusals.specs.declared.Reason.TheVariants.{Count}
 use Rattle.refusals.specs.Number.{refusal}
@@ -22,19 +22,15 @@ use Rattle.h261_groups.specs.declared.Format.{Format}
 use Rattle.h261_groups.specs.declared.Format.TheVariants.{Qcif, Cif}
 use Rattle.layout.specs.Flat.{Flat, put_groups, flat, zeros}
 use Rattle.h261_description.specs.Value.{laid_picture, shape}
-use Rattle.fields.specs.Answer.{map_read, leaving, place_of, pair_stopped, refused_picture}
+use Rattle.fields.specs.Answer.{map_read, leaving, place_of, stopped_of, refused_picture}
 use Rattle.fields.specs.declared.PictureRead.{PictureRead}
 use Rattle.fields.proofs.PictureAnswer.{Answers, not_above, answers-refused, answers_laid}
 use Rattle.h261_layers.specs.Answer.{as_header}
 use Rattle.h261_layers.specs.Grammar.{header, groups_read, picture, read_widths}
 use Rattle.h261_reader.specs.Described.{described}
 use Rattle.h261_reader.proofs.Counted.{described_counted, described-uncounted, described_count_is}
-use Rattle.fields.specs.declared.PairRead.{PairRead}
-use Rattle.fields.specs.declared.PairRead.TheVariants.{Got, Refused as NoHeader}
-use Rattle.fields.specs.contracts.PairRead.{the_type as pair_type}
-use Rattle.fields.specs.declared.PlaceRead.{PlaceRead}
-use Rattle.fields.specs.declared.PlaceRead.TheVariants.{At}
-use Rattle.refusals.specs.declared.Verdict.TheVariants.{Accepted}
+use Rattle.fields.specs.declared.CountedRead.{CountedRead}
+use Rattle.fields.specs.declared.CountedRead.TheVariants.{Got, Refused}
 use Rattle.fields.proofs.Meaning.{map-done}
 
 -- ---- three stores over zeros
@@ -62,14 +58,14 @@ module _ (f : Format) (s : List ℕ) (n : ℕ) (a : Bool) (w : a ≡ either (ltb
       let z : either (ltb (8 * length s) n) (ltb (limit (size_of f)) n) ≡ false = sym w ∙ e in
       rw (z, source_left s n (bounds e).0)
 
-  module _ (e : a ≡ false) (h : PairRead) (v : as_header s n h ≡ header f (bits_left s n 0) (place_of 0 0)) where
-    pub described_no_header : tag_of pair_type h ≡ 1 → described_counted f s n ≡ refused (pair_stopped h)
+  module _ (e : a ≡ false) (h : CountedRead (ℕ × ℕ)) (v : as_header s n h ≡ header f (bits_left s n 0) (place_of 0 0)) where
+    pub described_no_header : {why : Stopped} → h ≡ Refused why → described_counted f s n ≡ refused (stopped_of h)
     unfolding picture
-    described_no_header t = let d : header {P = counted} f (bits_left s n 0) (place_of 0 0) ≡ refused (pair_stopped h) = no h t v in described_bits e ∙ rw d
+    described_no_header t = let d : header {P = counted} f (bits_left s n 0) (place_of 0 0) ≡ refused (stopped_of h) = no h t v in described_bits e ∙ rw d
       where
-        no : (h : PairRead) → tag_of pair_type h ≡ 1 → as_header s n h ≡ header f (bits_left s n 0) (place_of 0 0) → header {P = counted} f (bits_left s n 0) (place_of 0 0) ≡ refused (pair_stopped h)
+        no : {why : Stopped} (h : CountedRead (ℕ × ℕ)) → h ≡ Refused why → as_header s n h ≡ header f (bits_left s n 0) (place_of 0 0) → header {P = counted} f (bits_left s n 0) (place_of 0 0) ≡ refused (stopped_of h)
         no (Got tr ptype p) t v = absurd (omega arith)
-        no (NoHeader r) t v = sym v
+        no (Refused r) t v = sym v
 
     pub header_is : (tr ptype : ℕ) (p : Place) → h ≡ Got tr ptype p → header {P = counted} f (bits_left s n 0) (place_of 0 0) ≡ got (record { tr = tr; ptype = ptype }) (bits_left s n p.bit) p
     header_is tr ptype p d = sym v ∙ ap (as_header s n) d
@@ -97,6 +93,6 @@ module _ (f : Format) (s : List ℕ) (n : ℕ) where
   refused_blank e d blank = answers-refused (zeros (shape f)) (described-uncounted f s n) (described_count_is f s n) e d blank
 
   -- accepted, and laid out
-  pub read_laid : (r : PlaceRead) (d : Flat) → leaving s n r d ≡ described_counted f s n → (p : Place) → r ≡ At p
-      → Answers (zeros (shape f)) (described f s n) (length (read_widths f s n)) (record { verdict = Accepted; reads = p.reads }) d
+  pub read_laid : (r : CountedRead (Unit {0})) (d : Flat) → leaving s n r d ≡ described_counted f s n → (p : Place) → r ≡ Got tt p
+      → Answers (zeros (shape f)) (described f s n) (length (read_widths f s n)) (record { verdict = Ok tt; reads = p.reads }) d
   read_laid r d v p e = answers_laid (zeros (shape f)) (described-uncounted f s n) (described_count_is f s n) s n r d v p e

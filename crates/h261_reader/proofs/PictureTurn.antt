@@ -9,7 +9,6 @@ use native.Mathlib.Nat.{le_antisymm}
 use native.Mathlib.Numerals.{add-one}
 use lib.Dec.{T, eqb}
 use lib.ListN.{length, get_or, set, drop, length-set}
-use denote.Enum.Declared.{tag_of}
 use Rattle.laws.specs.Choice.{alike}
 use Rattle.laws.proofs.Choice.{alike_same}
 use Rattle.laws.proofs.Rows.{lt-or-ge}
@@ -37,14 +36,13 @@ use Rattle.layout.specs.Flat.{Flat, put_macroblocks, put_groups, flat}
 use Rattle.layout.specs.Proper.{If}
 use Rattle.h261_description.specs.Proper.{ProperVector}
 use Rattle.layout.specs.Numbers.{is_quantiser}
-use Rattle.h261_layers.specs.Answer.{KeptBehind, before_of, as_mba, as_macroblock, Sent, put_sent, macroblock_stopped}
+use Rattle.h261_layers.specs.Answer.{KeptBehind, before_of, as_mba, as_macroblock, Sent, put_sent, stopped_of}
 use Rattle.fields.specs.Answer.{map_read}
 use Rattle.h261_layers.specs.declared.Behind.{Behind}
 use Rattle.h261_layers.specs.declared.MbaRead.{MbaRead}
 use Rattle.h261_layers.specs.declared.MbaRead.TheVariants.{Step, Stuffing, Ended, Refused as NoMba}
-use Rattle.h261_layers.specs.declared.MacroblockRead.{MacroblockRead}
-use Rattle.h261_layers.specs.declared.MacroblockRead.TheVariants.{Got, Refused}
-use Rattle.h261_layers.specs.contracts.MacroblockRead.{the_type as macroblock_type}
+use Rattle.fields.specs.declared.CountedRead.{CountedRead}
+use Rattle.fields.specs.declared.CountedRead.TheVariants.{Got, Refused}
 use Rattle.h261_layers.proofs.Layers.{Met, mba_reads, macroblock_reads, group_head_reads}
 use Rattle.h261_layers.specs.Grammar.{Mba, step, stuffed, ended, mba_of, mba, macroblock, none, group_head, groups_read}
 use Rattle.fields.proofs.Meaning.{was_got, onward}
@@ -146,10 +144,10 @@ module _ {s : List ℕ} {n : ℕ} {f : Format} {last : Bool} {number g : ℕ} {h
   pub step-led : (r : MbaRead) (k : ℕ) (q : Place) → as_mba s n r ≡ mba last b.address (bits_left s n p.bit) p → r ≡ Step k q → Led last b.address s n p (step k) q
   step-led r k q w e = mba-led b.address s n p h.placed (step k) q last (sym (is_found r (Step k q) w e)) (λ z. let y : ◌≡◌ {A = ℕ} 0 1 = cc in omega arith)
 
-  module _ (r : MbaRead) (k : ℕ) (q : Place) (w : as_mba s n r ≡ mba last b.address (bits_left s n p.bit) p) (e : r ≡ Step k q) (t : MacroblockRead) (ms' ls' : List ℕ)
+  module _ (r : MbaRead) (k : ℕ) (q : Place) (w : as_mba s n r ≡ mba last b.address (bits_left s n p.bit) p) (e : r ≡ Step k q) (t : CountedRead Behind) (ms' ls' : List ℕ)
       (v : as_macroblock s n t ms' ls' ≡ map_read (put_sent g ms ls) (macroblock f number (before_of b) k (bits_left s n q.bit) q)) where
     sent_is : (c : Behind) (z : Place) → t ≡ Got c z → got (record { macroblocks = ms'; levels = ls'; before = before_of c }) (bits_left s n z.bit) z ≡ map_read {P = counted} (put_sent g ms ls) (macroblock f number (before_of b) k (bits_left s n q.bit) q)
-    sent_is c z d = sym (ap (λ (y : MacroblockRead). as_macroblock s n y ms' ls') d) ∙ v
+    sent_is c z d = sym (ap (λ (y : CountedRead Behind). as_macroblock s n y ms' ls') d) ∙ v
 
     module _ (c : Behind) (z : Place) (d : t ≡ Got c z) where
       was : (m : Macroblock) × (macroblock {P = counted} f number (before_of b) k (bits_left s n q.bit) q ≡ got m (bits_left s n z.bit) z) × (put_sent g ms ls m ≡ record { macroblocks = ms'; levels = ls'; before = before_of c })
@@ -181,10 +179,10 @@ module _ {s : List ℕ} {n : ℕ} {f : Format} {last : Bool} {number g : ℕ} {h
             so_far = macroblocks_more h.so_far (is_found r (Step k q) w e) (record { macroblocks = ms'; levels = ls'; before = before_of c }) z (sent_is c z d) macroblock-led.0 macroblock-led.1.within.inside;
           }
 
-    pub group_no_macroblock : tag_of macroblock_type t ≡ 1 → refused (macroblock_stopped t) ≡ map_read {P = counted} (put_macroblocks 33 g (flat head ms₀ ls₀)) (macroblocks_at f last number (bits_left s n from.bit) from)
-    group_no_macroblock y = macroblocks_inside h.so_far (is_found r (Step k q) w e) (macroblock_stopped t) (no t y ∙ v)
+    pub group_no_macroblock : {why : Stopped} → t ≡ Refused why → refused (stopped_of t) ≡ map_read {P = counted} (put_macroblocks 33 g (flat head ms₀ ls₀)) (macroblocks_at f last number (bits_left s n from.bit) from)
+    group_no_macroblock y = macroblocks_inside h.so_far (is_found r (Step k q) w e) (stopped_of t) (no t y ∙ v)
       where
-        no : (t : MacroblockRead) → tag_of macroblock_type t ≡ 1 → refused (macroblock_stopped t) ≡ as_macroblock s n t ms' ls'
+        no : {why : Stopped} (t : CountedRead Behind) → t ≡ Refused why → refused (stopped_of t) ≡ as_macroblock s n t ms' ls'
         no (Got c z) y = absurd (omega arith)
         no (Refused r) y = refl
 

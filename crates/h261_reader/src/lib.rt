@@ -9,13 +9,11 @@ ghost use Rattle.h261_description.specs.Value.{shape};
 ghost use Rattle.h261_layers.specs.Grammar.{read_widths};
 ghost use Rattle.h261_reader.specs.Described.{described};
 
-use fields::{
-    PairRead, PictureRead, PlaceRead, count_above, pair_stopped, place_stopped, refused_picture,
-};
+use fields::{CountedRead, PictureRead, count_above, refused_picture};
 use h261_groups::Format;
 use h261_layers::head::header;
 use levels::clear;
-use refusals::{Reason, Refusal, Verdict};
+use refusals::{Reason, Refusal};
 
 mod picture;
 
@@ -36,7 +34,7 @@ pub fn parse_counted(
 {
     if count_above(bytes.len(), count, h261_groups::limit(format)) {
         return PictureRead {
-            verdict: Verdict::Refused(Refusal {
+            verdict: Err(Refusal {
                 reason: Reason::Count,
                 place: 0,
             }),
@@ -44,8 +42,8 @@ pub fn parse_counted(
         };
     }
     let opened = header(bytes, count, 0, format);
-    let PairRead::Got(tr, ptype, next) = opened else {
-        return refused_picture(pair_stopped(opened));
+    let CountedRead::Got((tr, ptype), next) = opened else {
+        return refused_picture(opened.stopped());
     };
     head[0] = tr;
     head[1] = ptype;
@@ -61,14 +59,14 @@ pub fn parse_counted(
         macroblocks,
         levels,
     );
-    let PlaceRead::At(end) = read else {
+    let CountedRead::Got((), end) = read else {
         clear(head);
         clear(macroblocks);
         clear(levels);
-        return refused_picture(place_stopped(read));
+        return refused_picture(read.stopped());
     };
     PictureRead {
-        verdict: Verdict::Accepted,
+        verdict: Ok(()),
         reads: end.reads,
     }
 }

@@ -10,11 +10,11 @@ ghost use Rattle.h261_layers.specs.Grammar.{groups_read};
 ghost use Rattle.layout.specs.Valid.{Lengths};
 
 use bits::{Place, Stopped};
-use fields::{NumberRead, PlaceRead, number_stopped};
+use fields::CountedRead;
 use h261_groups::Format;
 use h261_layers::head::group_head;
 use h261_layers::macroblock::{macroblock, mba};
-use h261_layers::{Behind, MacroblockRead, MbaRead, macroblock_stopped};
+use h261_layers::{Behind, MbaRead};
 use h261_words::WordTables;
 use refusals::{Reason, Refusal};
 
@@ -28,7 +28,7 @@ pub fn groups(
     head: &mut [u8],
     macroblocks: &mut [u8],
     levels: &mut [u8],
-) -> PlaceRead
+) -> CountedRead<()>
     requires { (Reading tables.now bytes.now count at) × (Lengths (shape format) (flat head.old macroblocks.old levels.old)) }
     ensures { leaving bytes.now count result (flat head.new macroblocks.new levels.new) ≡ map_read (put_groups (shape format) 0 (flat head.old macroblocks.old levels.old)) (groups_read format (group_numbers format) (bits_left bytes.now count at.bit) at) }
 {
@@ -45,8 +45,8 @@ pub fn groups(
     'picture: while group < all {
         let number = h261_groups::order::group_number(format, group);
         let opened = group_head(bytes, count, place, number as u32);
-        let NumberRead::Got(gquant, after) = opened else {
-            stopped = number_stopped(opened);
+        let CountedRead::Got(gquant, after) = opened else {
+            stopped = opened.stopped();
             break 'picture;
         };
         head[3 + group] = gquant as u8;
@@ -80,8 +80,8 @@ pub fn groups(
                         macroblocks,
                         levels,
                     );
-                    let MacroblockRead::Got(then, end) = read else {
-                        stopped = macroblock_stopped(read);
+                    let CountedRead::Got(then, end) = read else {
+                        stopped = read.stopped();
                         break 'picture;
                     };
                     behind = then;
@@ -103,7 +103,7 @@ pub fn groups(
         group += 1;
     }
     if group < all {
-        return PlaceRead::Refused(stopped);
+        return CountedRead::Refused(stopped);
     }
-    PlaceRead::At(place)
+    CountedRead::Got((), place)
 }

@@ -75,7 +75,7 @@ pub enum CoefficientRead {
 }
 
 // MBA at `at`: a step of 1 to 33, 34 for stuffing, 35 for a start code.
-pub fn mba(tables: &WordTables, bytes: &[u8], count: usize, at: usize) -> FieldRead
+pub fn mba(tables: &WordTables, bytes: &[u8], count: usize, at: usize) -> FieldRead<u32>
     requires { (Tables tables.now) × (Within bytes.now count at) }
     ensures { as_field bytes.now count result ≡ word_read table1 (bits_left bytes.now count at) at }
 {
@@ -88,7 +88,7 @@ pub fn mba(tables: &WordTables, bytes: &[u8], count: usize, at: usize) -> FieldR
 }
 
 // MTYPE at `at`: 1 to 10, in the order of document 01's table.
-pub fn mtype(tables: &WordTables, bytes: &[u8], count: usize, at: usize) -> FieldRead
+pub fn mtype(tables: &WordTables, bytes: &[u8], count: usize, at: usize) -> FieldRead<u32>
     requires { (Tables tables.now) × (Within bytes.now count at) }
     ensures { as_field bytes.now count result ≡ word_read table2 (bits_left bytes.now count at) at }
 {
@@ -101,7 +101,7 @@ pub fn mtype(tables: &WordTables, bytes: &[u8], count: usize, at: usize) -> Fiel
 }
 
 // A component of MVD at `at`: 16 more than the difference that Table 3 prints first.
-pub fn mvd(tables: &WordTables, bytes: &[u8], count: usize, at: usize) -> FieldRead
+pub fn mvd(tables: &WordTables, bytes: &[u8], count: usize, at: usize) -> FieldRead<u32>
     requires { (Tables tables.now) × (Within bytes.now count at) }
     ensures { as_field bytes.now count result ≡ word_read table3 (bits_left bytes.now count at) at }
 {
@@ -114,7 +114,7 @@ pub fn mvd(tables: &WordTables, bytes: &[u8], count: usize, at: usize) -> FieldR
 }
 
 // CBP at `at`: 1 to 63.
-pub fn cbp(tables: &WordTables, bytes: &[u8], count: usize, at: usize) -> FieldRead
+pub fn cbp(tables: &WordTables, bytes: &[u8], count: usize, at: usize) -> FieldRead<u32>
     requires { (Tables tables.now) × (Within bytes.now count at) }
     ensures { as_field bytes.now count result ≡ word_read table4 (bits_left bytes.now count at) at }
 {

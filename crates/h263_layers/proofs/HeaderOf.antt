@@ -8,7 +8,7 @@ use Prim.Native.Nat.{ℕ, ◌+◌, ◌<◌, ◌≤◌, ◌/◌, ◌%◌}
 use native.Mathlib.Omega.{arith}
 use lib.Dec.{eqb}
 use borrow.Author.Tests.{eq-eqb, ne_eqb}
-use denote.Enum.Declared.{tag_of}
+use Rattle.refusals.specs.declared.Refusal.{Refusal}
 use Rattle.laws.specs.Choice.{pick}
 use Rattle.laws.proofs.Choice.{second_no}
 use Rattle.refusals.specs.declared.Reason.TheVariants.{NoStartCode, OtherFormat, QuantiserZero, OptionalMode}
@@ -21,20 +21,16 @@ use Rattle.bits.specs.declared.Place.{Place}
 use Rattle.bits.specs.declared.Stopped.{Stopped}
 use Rattle.bits.specs.declared.FieldRead.{FieldRead}
 use Rattle.bits.specs.declared.FieldRead.TheVariants.{Got as GotField, Refused as NoField}
-use Rattle.bits.specs.contracts.FieldRead.{the_type as field_type}
 use Rattle.bits.proofs.Fields.{FieldGot, field-got}
 use Rattle.bit_reader.specs.Reader.{place_after}
-use Rattle.fields.specs.Answer.{place_of, leaving, field_stopped, place_stopped}
+use Rattle.fields.specs.Answer.{place_of, leaving, field_stopped, stopped_of}
 use Rattle.fields.specs.Header.{and_then, ruled, after_spare}
 use Rattle.fields.specs.Rules.{quantiser, spares}
-use Rattle.fields.specs.declared.PlaceRead.{PlaceRead}
-use Rattle.fields.specs.declared.PlaceRead.TheVariants.{At}
-use Rattle.fields.specs.contracts.PlaceRead.{the_type as place_type}
+use Rattle.fields.specs.declared.CountedRead.{CountedRead}
+use Rattle.fields.specs.declared.CountedRead.TheVariants.{Got, Refused}
 use Rattle.fields.proofs.HeaderRow.{refused_then, got_then, rule_kept, rule_broken, refused_spare, field_row, ruled_row, spare_row}
 use Rattle.size.specs.declared.Size.{Size}
 use Rattle.h263_description.specs.Value.{format_code}
-use Rattle.h263_layers.specs.declared.HeaderRead.{HeaderRead}
-use Rattle.h263_layers.specs.declared.HeaderRead.TheVariants.{Got as GotHeader, Refused as NoHeader}
 use Rattle.h263_layers.specs.Grammar.{Ptype, ptype_in, format_of, mode_bit, modes_of, ptype_read, cpm_of, cpm_read, Header, header}
 use Rattle.h263_layers.specs.Answer.{as_header, Spans, against_at, no_header, moded, code_is, quantiser_of, header_of}
 
@@ -93,34 +89,34 @@ mode_low x = by (eqb (x / 8 % 2) 1) (eqb (x / 4 % 2) 1) (eqb (x / 2 % 2) 1)
     by false false false = omega arith
 
 -- PTYPE after TR
-pub spans_got : (k : ℕ) {v p w q : ℕ} (x y : FieldRead) → Spans k x y → x ≡ GotField v p → y ≡ GotField w q → p + k < 18446744073709551616
-spans_got k {v} {p} x y s e f = subst (λ (z : FieldRead). Spans k (GotField v p) z) f (subst (λ (z : FieldRead). Spans k z y) e s)
+pub spans_got : (k : ℕ) {v p w q : ℕ} (x y : FieldRead ℕ) → Spans k x y → x ≡ GotField v p → y ≡ GotField w q → p + k < 18446744073709551616
+spans_got k {v} {p} x y s e f = subst (λ (z : FieldRead ℕ). Spans k (GotField v p) z) f (subst (λ (z : FieldRead ℕ). Spans k z y) e s)
 
 -- ---- what is left of the header
-abbrev from_spare : ℕ → Ptype → ℕ → PlaceRead → HeaderRead
-from_spare reference said quantised spare = after_spare no_header spare (λ next. GotHeader (record { tr = reference; ptype = said.ptype; kind = said.type; pquant = quantised }) next)
+abbrev from_spare : ℕ → Ptype → ℕ → CountedRead (Unit {0}) → CountedRead Header
+from_spare reference said quantised spare = after_spare no_header spare (λ next. Got (record { tr = reference; ptype = said.ptype; kind = said.type; pquant = quantised }) next)
 
-abbrev from_cpm : ℕ → Ptype → ℕ → Place → FieldRead → PlaceRead → HeaderRead
+abbrev from_cpm : ℕ → Ptype → ℕ → Place → FieldRead ℕ → CountedRead (Unit {0}) → CountedRead Header
 from_cpm reference said quantised at_cpm cpm spare = and_then no_header 4 cpm (λ w q. ruled no_header (cpm_of w) at_cpm.bit q (λ single. from_spare reference said quantised spare))
 
-abbrev from_pquant : ℕ → Ptype → Place → FieldRead → FieldRead → PlaceRead → HeaderRead
+abbrev from_pquant : ℕ → Ptype → Place → FieldRead ℕ → FieldRead ℕ → CountedRead (Unit {0}) → CountedRead Header
 from_pquant reference said at_pquant pquant cpm spare =
     and_then no_header 3 pquant (λ z q. ruled no_header (quantiser_of z) at_pquant.bit q (λ quantised. from_cpm reference said quantised q cpm spare))
 
-abbrev from_ptype : Size → ℕ → Place → FieldRead → FieldRead → FieldRead → PlaceRead → HeaderRead
+abbrev from_ptype : Size → ℕ → Place → FieldRead ℕ → FieldRead ℕ → FieldRead ℕ → CountedRead (Unit {0}) → CountedRead Header
 from_ptype size reference at_ptype ptype pquant cpm spare =
     and_then no_header 2 ptype (λ y q. ruled no_header (format_of size y) at_ptype.bit q (λ information.
     moded information at_ptype.bit q (λ said. from_pquant reference said q pquant cpm spare)))
 
-abbrev from_tr : Size → FieldRead → FieldRead → FieldRead → FieldRead → PlaceRead → HeaderRead
+abbrev from_tr : Size → FieldRead ℕ → FieldRead ℕ → FieldRead ℕ → FieldRead ℕ → CountedRead (Unit {0}) → CountedRead Header
 from_tr size tr ptype pquant cpm spare = and_then no_header 1 tr (λ reference at_ptype. from_ptype size reference at_ptype ptype pquant cpm spare)
 
 -- ---- each read in turn
-module _ (size : Size) (at : ℕ) (psc tr ptype pquant cpm : FieldRead) (spare : PlaceRead) where
-  abbrev whole : HeaderRead
+module _ (size : Size) (at : ℕ) (psc tr ptype pquant cpm : FieldRead ℕ) (spare : CountedRead (Unit {0})) where
+  abbrev whole : CountedRead Header
   whole = header_of size at psc tr ptype pquant cpm spare
 
-  pub no_psc : (y : Stopped) → tag_of field_type psc ≡ 1 → y ≡ field_stopped 1 psc → NoHeader y ≡ whole
+  pub no_psc : {why : Refusal} (y : Stopped) → psc ≡ NoField why → y ≡ field_stopped 1 psc → Refused y ≡ whole
   unfolding header_of
   no_psc y t e = refused_then no_header 0 psc _ y t e
 
@@ -134,21 +130,21 @@ module _ (size : Size) (at : ℕ) (psc tr ptype pquant cpm : FieldRead) (spare :
       unfolding header_of
       from_tr_lem = got_then no_header 0 _ got_psc ∙ rule_kept no_header at (place_of p 1) (λ start. from_tr size tr ptype pquant cpm spare) (code_yes x is_psc)
 
-      pub no_tr : (y : Stopped) → tag_of field_type tr ≡ 1 → y ≡ field_stopped 2 tr → NoHeader y ≡ whole
+      pub no_tr : {why : Refusal} (y : Stopped) → tr ≡ NoField why → y ≡ field_stopped 2 tr → Refused y ≡ whole
       no_tr y t e = refused_then no_header 1 tr _ y t e ∙ sym from_tr_lem
 
       module _ {reference at_ptype : ℕ} (got_tr : tr ≡ GotField reference at_ptype) where
         from_ptype_lem : whole ≡ from_ptype size reference (place_of at_ptype 2) ptype pquant cpm spare
         from_ptype_lem = from_tr_lem ∙ got_then no_header 1 _ got_tr
 
-        pub no_ptype : (y : Stopped) → tag_of field_type ptype ≡ 1 → y ≡ field_stopped 3 ptype → NoHeader y ≡ whole
+        pub no_ptype : {why : Refusal} (y : Stopped) → ptype ≡ NoField why → y ≡ field_stopped 3 ptype → Refused y ≡ whole
         no_ptype y t e = refused_then no_header 2 ptype _ y t e ∙ sym from_ptype_lem
 
         module _ {y q : ℕ} (got_ptype : ptype ≡ GotField y q) where
-          abbrev Said : Ptype → HeaderRead
+          abbrev Said : Ptype → CountedRead Header
           Said said = from_pquant reference said (place_of q 3) pquant cpm spare
 
-          abbrev Rest : ℕ → HeaderRead
+          abbrev Rest : ℕ → CountedRead Header
           Rest information = moded information at_ptype (place_of q 3) Said
 
           other : format_of size y ≡ against OtherFormat → against_at OtherFormat at_ptype 3 ≡ whole
@@ -171,11 +167,11 @@ module _ (size : Size) (at : ℕ) (psc tr ptype pquant cpm : FieldRead) (spare :
               from_pquant_lem : whole ≡ Said (ptype_in y)
               from_pquant_lem = from_modes ∙ ap (λ (b : Bool). pick b (Said (ptype_in y)) (against_at OptionalMode (at_ptype + mode_bit y) 3)) (eq-eqb (y % 16) 0 no_mode)
 
-              pub no_pquant : (r : Stopped) → tag_of field_type pquant ≡ 1 → r ≡ field_stopped 4 pquant → NoHeader r ≡ whole
+              pub no_pquant : {why : Refusal} (r : Stopped) → pquant ≡ NoField why → r ≡ field_stopped 4 pquant → Refused r ≡ whole
               no_pquant r t e = refused_then no_header 3 pquant _ r t e ∙ sym from_pquant_lem
 
               module _ {z at_cpm : ℕ} (got_pquant : pquant ≡ GotField z at_cpm) where
-                abbrev Quantised : ℕ → HeaderRead
+                abbrev Quantised : ℕ → CountedRead Header
                 Quantised quantised = from_cpm reference (ptype_in y) quantised (place_of at_cpm 4) cpm spare
 
                 pub zero_pquant : z ≡ 0 → against_at QuantiserZero q 4 ≡ whole
@@ -185,11 +181,11 @@ module _ (size : Size) (at : ℕ) (psc tr ptype pquant cpm : FieldRead) (spare :
                   from_cpm_lem : whole ≡ Quantised z
                   from_cpm_lem = from_pquant_lem ∙ got_then no_header 3 _ got_pquant ∙ rule_kept no_header q (place_of at_cpm 4) Quantised (quantiser_yes z is_pquant)
 
-                  pub no_cpm : (r : Stopped) → tag_of field_type cpm ≡ 1 → r ≡ field_stopped 5 cpm → NoHeader r ≡ whole
+                  pub no_cpm : {why : Refusal} (r : Stopped) → cpm ≡ NoField why → r ≡ field_stopped 5 cpm → Refused r ≡ whole
                   no_cpm r t e = refused_then no_header 4 cpm _ r t e ∙ sym from_cpm_lem
 
                   module _ {w at_spares : ℕ} (got_cpm : cpm ≡ GotField w at_spares) where
-                    abbrev Single : ℕ → HeaderRead
+                    abbrev Single : ℕ → CountedRead Header
                     Single single = from_spare reference (ptype_in y) z spare
 
                     pub set_cpm : (w ≡ 0 → ⊥) → against_at OptionalMode at_cpm 5 ≡ whole
@@ -199,19 +195,19 @@ module _ (size : Size) (at : ℕ) (psc tr ptype pquant cpm : FieldRead) (spare :
                       from_spare_lem : whole ≡ from_spare reference (ptype_in y) z spare
                       from_spare_lem = from_cpm_lem ∙ got_then no_header 4 _ got_cpm ∙ rule_kept no_header at_cpm (place_of at_spares 5) Single (cpm_yes w is_cpm)
 
-                      pub no_spare : (r : Stopped) → tag_of place_type spare ≡ 1 → r ≡ place_stopped spare → NoHeader r ≡ whole
+                      pub no_spare : {why : Stopped} (r : Stopped) → spare ≡ Refused why → r ≡ stopped_of spare → Refused r ≡ whole
                       no_spare r t e = refused_spare no_header spare _ r t e ∙ sym from_spare_lem
 
-                      pub header-got : {next : Place} → spare ≡ At next
-                          → GotHeader (record { tr = reference; ptype = y / 256 % 8; kind = y / 16 % 2; pquant = z }) next ≡ whole
-                      header-got e = sym (from_spare_lem ∙ ap (λ (x : PlaceRead). from_spare reference (ptype_in y) z x) e)
+                      pub header-got : {next : Place} → spare ≡ Got tt next
+                          → Got (record { tr = reference; ptype = y / 256 % 8; kind = y / 16 % 2; pquant = z }) next ≡ whole
+                      header-got e = sym (from_spare_lem ∙ ap (λ (x : CountedRead (Unit {0})). from_spare reference (ptype_in y) z x) e)
 
 -- ---- the reads of a reader that goes on after each
 -- where the spares are read from: after the five fields before them
-abbrev pub spare_at : ℕ → FieldRead → Place
+abbrev pub spare_at : ℕ → FieldRead ℕ → Place
 spare_at n cpm = place_of (place_after n cpm) 5
 
-pub record HeaderReads (s : List ℕ) (n at : ℕ) (psc tr ptype pquant cpm : FieldRead) (spare : PlaceRead) : Type 0 where
+pub record HeaderReads (s : List ℕ) (n at : ℕ) (psc tr ptype pquant cpm : FieldRead ℕ) (spare : CountedRead (Unit {0})) : Type 0 where
   pub psc_read : as_field s n psc ≡ field 22 (bits_left s n at) at
   pub tr_read : as_field s n tr ≡ field 8 (bits_left s n (place_after n psc)) (place_after n psc)
   pub ptype_read : as_field s n ptype ≡ field 13 (bits_left s n (place_after n tr)) (place_after n tr)
@@ -220,7 +216,7 @@ pub record HeaderReads (s : List ℕ) (n at : ℕ) (psc tr ptype pquant cpm : Fi
   pub spare_read : leaving s n spare 0 ≡ spares (bits_left s n (place_after n cpm)) (spare_at n cpm)
 
 -- a field of k bits, from where the one before it ended
-pub field_spans : (s : List ℕ) (n k : ℕ) (x y : FieldRead) → n < 18446744073709551616 → Within s n (place_after n x)
+pub field_spans : (s : List ℕ) (n k : ℕ) (x y : FieldRead ℕ) → n < 18446744073709551616 → Within s n (place_after n x)
     → as_field s n y ≡ field k (bits_left s n (place_after n x)) (place_after n x) → Spans k x y
 field_spans s n k (GotField v p) (GotField u q) l w e =
     let g : FieldGot s n p k u q = field-got s n p k u q (bits_left s n q) w.inside (sym e) in
@@ -229,7 +225,7 @@ field_spans s n k (GotField v p) (NoField r) l w e = tt
 field_spans s n k (NoField r) y l w e = tt
 
 -- five reads may be made before the spares: PSC has 22 bits, or the bits have ended
-pub spare_placed : (s : List ℕ) (n p place : ℕ) (psc : FieldRead) → Placed s n (place_of p 0) → as_field s n psc ≡ field 22 (bits_left s n p) p → place_after n psc ≤ place → Within s n place
+pub spare_placed : (s : List ℕ) (n p place : ℕ) (psc : FieldRead ℕ) → Placed s n (place_of p 0) → as_field s n psc ≡ field 22 (bits_left s n p) p → place_after n psc ≤ place → Within s n place
     → Placed s n (place_of place 5)
 spare_placed s n p place (GotField v q) w e l k =
     let g : FieldGot s n p 22 v q = field-got s n p 22 v q (bits_left s n q) w.within.inside (sym e) in
@@ -240,7 +236,7 @@ spare_placed s n p place (NoField y) w e l k = record { within = k; countable = 
 -- what comes of PTYPE, where what follows it is the header
 module _ {whole : ReadIn counted Header} (s : List ℕ) (n : ℕ) where
   ptype_row : (size : Size) (p : Place) (rest : Ptype → ReaderIn counted Header) → whole ≡ (ptype_read size >>= rest) (bits_left s n p.bit) p
-      → (x : FieldRead) → as_field s n x ≡ field 13 (bits_left s n p.bit) p.bit → (then : Ptype → Place → HeaderRead)
+      → (x : FieldRead ℕ) → as_field s n x ≡ field 13 (bits_left s n p.bit) p.bit → (then : Ptype → Place → CountedRead Header)
       → ((said : Ptype) (q : ℕ) → place_after n x ≡ q → whole ≡ rest said (bits_left s n q) (place_of q (p.reads + 1)) → as_header s n (then said (place_of q (p.reads + 1))) ≡ whole)
       → as_header s n (and_then no_header p.reads x (λ y q. ruled no_header (format_of size y) p.bit q (λ information. moded information p.bit q (λ said. then said q)))) ≡ whole
   unfolding ptype_read
@@ -275,7 +271,7 @@ read_ptype size tr = ptype_read size >>= λ said. read_pquant tr said
 abbrev read_tr : Size → ReaderIn counted Header
 read_tr size = field 8 >>= λ tr. read_ptype size tr
 
-pub header_read : (size : Size) {s : List ℕ} {n at : ℕ} {psc tr ptype pquant cpm : FieldRead} {spare : PlaceRead} → HeaderReads s n at psc tr ptype pquant cpm spare
+pub header_read : (size : Size) {s : List ℕ} {n at : ℕ} {psc tr ptype pquant cpm : FieldRead ℕ} {spare : CountedRead (Unit {0})} → HeaderReads s n at psc tr ptype pquant cpm spare
     → as_header s n (header_of size at psc tr ptype pquant cpm spare) ≡ header size (bits_left s n at) (place_of at 0)
 unfolding header_of header
 header_read size {s} {n} {at} {psc} {tr} {ptype} {pquant} {cpm} {spare} h =
@@ -284,4 +280,4 @@ header_read size {s} {n} {at} {psc} {tr} {ptype} {pquant} {cpm} {spare} h =
     ptype_row s n size (place_of at_ptype 2) (read_pquant reference) row₂ ptype (subst (λ (p : ℕ). as_field s n ptype ≡ field 13 (bits_left s n p) p) e₂ h.ptype_read) (λ said p. from_pquant reference said p pquant cpm spare) (λ said at_pquant e₃ row₃.
     ruled_row no_header (as_header s n) (λ y. refl) s n 5 (place_of at_pquant 3) quantiser_of (read_cpm reference said) row₃ pquant (subst (λ (p : ℕ). as_field s n pquant ≡ field 5 (bits_left s n p) p) e₃ h.pquant_read) (λ quantised p. from_cpm reference said quantised p cpm spare) (λ quantised at_cpm e₄ row₄.
     ruled_row no_header (as_header s n) (λ y. refl) s n 1 (place_of at_cpm 4) cpm_of (λ single. read_spares reference said quantised) row₄ cpm (subst (λ (p : ℕ). as_field s n cpm ≡ field 1 (bits_left s n p) p) e₄ h.cpm_read) (λ single p. from_spare reference said quantised spare) (λ single at_spares e₅ row₅.
-    spare_row no_header (as_header s n) (λ y. refl) s n (place_of at_spares 5) (λ dropped. done (record { tr = reference; ptype = said.ptype; type = said.type; pquant = quantised })) row₅ spare (subst (λ (p : ℕ). leaving s n spare 0 ≡ spares (bits_left s n p) (place_of p 5)) e₅ h.spare_read) (λ next. GotHeader (record { tr = reference; ptype = said.ptype; kind = said.type; pquant = quantised }) next) (λ next e₆ row₆. sym row₆))))))
+    spare_row no_header (as_header s n) (λ y. refl) s n (place_of at_spares 5) (λ dropped. done (record { tr = reference; ptype = said.ptype; type = said.type; pquant = quantised })) row₅ spare (subst (λ (p : ℕ). leaving s n spare 0 ≡ spares (bits_left s n p) (place_of p 5)) e₅ h.spare_read) (λ next. Got (record { tr = reference; ptype = said.ptype; kind = said.type; pquant = quantised }) next) (λ next e₆ row₆. sym row₆))))))

@@ -14,9 +14,7 @@ use Rattle.bits.specs.declared.FieldRead.{FieldRead}
 use Rattle.bits.specs.declared.FieldRead.TheVariants.{Got as GotField, Refused as NoField}
 use Rattle.fields.specs.Answer.{as_meant, as_meant_pair}
 use Rattle.fields.specs.Header.{Below, and_then, ruled, after_spare}
-use Rattle.fields.specs.declared.NumberRead.{NumberRead}
-use Rattle.fields.specs.declared.PairRead.{PairRead}
-use Rattle.fields.specs.declared.PlaceRead.{PlaceRead}
+use Rattle.fields.specs.declared.CountedRead.{CountedRead}
 use Rattle.size.specs.declared.Size.{Size}
 use Rattle.layout.specs.Value.{Vector, Macroblock}
 use Rattle.layout.specs.Flat.{index, fields_of, put_blocks}
@@ -29,8 +27,7 @@ use Rattle.h263_layers.specs.Grammar.{Slot, unsent, coded, Found, stuffed, slot,
 use Rattle.h263_layers.specs.declared.start.Ahead as C
 use Rattle.h263_layers.specs.declared.start.Ahead.TheVariants.{Stands, Absent, CutOff}
 use Rattle.h263_layers.specs.declared.Header as D
-use Rattle.h263_layers.specs.declared.HeaderRead.{HeaderRead}
-use Rattle.h263_layers.specs.declared.HeaderRead.TheVariants.{Got as GotHeader, Refused as NoHeader}
+use Rattle.fields.specs.declared.CountedRead.TheVariants.{Got, Refused}
 use Rattle.h263_layers.specs.declared.FoundRead.{FoundRead}
 use Rattle.h263_layers.specs.declared.FoundRead.TheVariants.{Stuffed, Unsent as UnsentFound, Coded as CodedFound, Refused as NoFound}
 use Rattle.h263_layers.specs.declared.OpenedRead.{OpenedRead}
@@ -53,10 +50,10 @@ vector_of h v = record { horizontal = component_of h; vertical = component_of v 
 abbrev pub vector_kept : Kept → Vector
 vector_kept k = vector_of k.horizontal k.vertical
 
-abbrev pub as_component : List ℕ → ℕ → NumberRead → ReadIn counted ℤ
+abbrev pub as_component : List ℕ → ℕ → CountedRead ℕ → ReadIn counted ℤ
 as_component = as_meant component_of
 
-abbrev pub as_vector : List ℕ → ℕ → PairRead → ReadIn counted Vector
+abbrev pub as_vector : List ℕ → ℕ → CountedRead (ℕ × ℕ) → ReadIn counted Vector
 as_vector = as_meant_pair vector_of
 
 -- ---- macroblocks
@@ -90,28 +87,28 @@ put_sent each g macroblocks levels m =
 abbrev pub header_in : D.Header → Header
 header_in h = record { tr = h.tr; ptype = h.ptype; type = h.kind; pquant = h.pquant }
 
-abbrev pub as_header : List ℕ → ℕ → HeaderRead → ReadIn counted Header
-as_header s n (GotHeader h p) = got (header_in h) (bits_left s n p.bit) p
-as_header s n (NoHeader r) = refused r
+abbrev pub as_header : List ℕ → ℕ → CountedRead Header → ReadIn counted Header
+as_header s n (Got h p) = got (header_in h) (bits_left s n p.bit) p
+as_header s n (Refused r) = refused r
 
 -- where the next field was got too, the k bits after a field have numbers
-abbrev pub Spans : ℕ → FieldRead → FieldRead → Type 0
+abbrev pub Spans : ℕ → FieldRead ℕ → FieldRead ℕ → Type 0
 Spans k (GotField x p) (GotField y q) = p + k < 18446744073709551616
 Spans k (GotField x p) (NoField r) = Unit {0}
 Spans k (NoField r) y = Unit {0}
 
 -- what is asked of a header's fields: TR has 8 bits, PTYPE 13 after it, and PQUANT 5
-pub record HeaderAsked (tr ptype pquant : FieldRead) : Type 0 where
+pub record HeaderAsked (tr ptype pquant : FieldRead ℕ) : Type 0 where
   pub reference : Below 256 tr
   pub information : Spans 13 tr ptype
   pub quantised : Below 32 pquant
 
 -- a refusal at a place, with so many reads
-abbrev pub against_at : Reason → ℕ → ℕ → HeaderRead
-against_at reason place reads = NoHeader (record { refusal = refusal reason place; reads = reads })
+abbrev pub against_at : Reason → ℕ → ℕ → CountedRead Header
+against_at reason place reads = Refused (record { refusal = refusal reason place; reads = reads })
 
 -- the refusal of an optional mode, placed at its bit of PTYPE, else what comes of what PTYPE says
-abbrev pub moded : ℕ → ℕ → Place → (Ptype → HeaderRead) → HeaderRead
+abbrev pub moded : ℕ → ℕ → Place → (Ptype → CountedRead Header) → CountedRead Header
 moded x at next rest = pick (eqb (x % 16) 0) (rest (ptype_in x)) (against_at OptionalMode (at + mode_bit x) next.reads)
 
 -- the rules of PSC and PQUANT
@@ -121,11 +118,11 @@ code_is x = pick (eqb x 0b0000000000000000100000) (fine x) (against NoStartCode)
 abbrev pub quantiser_of : ℕ → Judged ℕ
 quantiser_of q = pick (eqb q 0) (against QuantiserZero) (fine q)
 
-abbrev pub no_header : Stopped → HeaderRead
-no_header r = NoHeader r
+abbrev pub no_header : Stopped → CountedRead Header
+no_header r = Refused r
 
 -- what the six reads of a header come to
-unfoldable pub header_of : Size → ℕ → FieldRead → FieldRead → FieldRead → FieldRead → FieldRead → PlaceRead → HeaderRead
+unfoldable pub header_of : Size → ℕ → FieldRead ℕ → FieldRead ℕ → FieldRead ℕ → FieldRead ℕ → FieldRead ℕ → CountedRead (Unit {0}) → CountedRead Header
 header_of size at psc tr ptype pquant cpm spare =
     and_then no_header 0 psc (λ x p. ruled no_header (code_is x) at p (λ start.
     and_then no_header 1 tr (λ reference at_ptype.
@@ -133,4 +130,4 @@ header_of size at psc tr ptype pquant cpm spare =
     and_then no_header 3 pquant (λ z at_cpm. ruled no_header (quantiser_of z) at_pquant.bit at_cpm (λ quantised.
     and_then no_header 4 cpm (λ w at_spares. ruled no_header (cpm_of w) at_cpm.bit at_spares (λ single.
     after_spare no_header spare (λ next.
-    GotHeader (record { tr = reference; ptype = said.ptype; kind = said.type; pquant = quantised }) next)))))))))))
+    Got (record { tr = reference; ptype = said.ptype; kind = said.type; pquant = quantised }) next)))))))))))

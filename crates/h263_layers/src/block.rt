@@ -10,7 +10,7 @@ ghost use Rattle.h263_layers.specs.Ready.{Reading, Span};
 ghost use Rattle.h263_layers.specs.Grammar.{events as events_read, intra_block, inter_block, blocks_read};
 
 use bits::{Place, Stopped};
-use fields::{NumberRead, PlaceRead, number_stopped, once, place_stopped};
+use fields::{CountedRead, once};
 use h263_words::{EventRead, WordTables};
 use refusals::{Reason, Refusal};
 
@@ -39,7 +39,7 @@ fn events(
     levels: &mut [u8],
     from: usize,
     end: usize,
-) -> PlaceRead
+) -> CountedRead<()>
     requires { (Reading tables.now bytes.now count at) × (Span from end levels.old) }
     ensures { leaving bytes.now count result levels.new ≡ map_read (put_block levels.old from) (loop (λ turns. events_read turns (end - from)) (bits_left bytes.now count at.bit) at) }
 {
@@ -49,11 +49,11 @@ fn events(
         let read = h263_words::event(tables, bytes, count, place.bit);
         let reads = place.reads + 1;
         let EventRead::Event(last, run, code, next) = read else {
-            return PlaceRead::Refused(event_stopped(reads, read));
+            return CountedRead::Refused(event_stopped(reads, read));
         };
         let to = k + (run as usize);
         if end <= to {
-            return PlaceRead::Refused(Stopped {
+            return CountedRead::Refused(Stopped {
                 refusal: Refusal {
                     reason: Reason::CoefficientPast,
                     place: place.bit,
@@ -64,7 +64,7 @@ fn events(
         levels[to] = code;
         place = Place { bit: next, reads };
         if last == 1 {
-            return PlaceRead::At(place);
+            return CountedRead::Got((), place);
         }
         k = to + 1;
     }
@@ -79,16 +79,16 @@ fn intra_block(
     coded: u32,
     levels: &mut [u8],
     base: usize,
-) -> PlaceRead
+) -> CountedRead<()>
     requires { (Reading tables.now bytes.now count at) × (base + 64 ≤ length levels.old) }
     ensures { leaving bytes.now count result levels.new ≡ map_read (put_block levels.old base) (intra_block (bit_of coded) (bits_left bytes.now count at.bit) at) }
 {
     let read = once(at, bits::field(bytes, count, at.bit, 8));
-    let NumberRead::Got(code, next) = read else {
-        return PlaceRead::Refused(number_stopped(read));
+    let CountedRead::Got(code, next) = read else {
+        return CountedRead::Refused(read.stopped());
     };
     if code % 128 == 0 {
-        return PlaceRead::Refused(Stopped {
+        return CountedRead::Refused(Stopped {
             refusal: Refusal {
                 reason: Reason::Forbidden,
                 place: at.bit,
@@ -98,7 +98,7 @@ fn intra_block(
     }
     levels[base] = code as u8;
     if coded == 0 {
-        return PlaceRead::At(next);
+        return CountedRead::Got((), next);
     }
     events(tables, bytes, count, next, levels, base + 1, base + 64)
 }
@@ -112,12 +112,12 @@ fn inter_block(
     coded: u32,
     levels: &mut [u8],
     base: usize,
-) -> PlaceRead
+) -> CountedRead<()>
     requires { (Reading tables.now bytes.now count at) × (base + 64 ≤ length levels.old) }
     ensures { leaving bytes.now count result levels.new ≡ map_read (put_block levels.old base) (inter_block (bit_of coded) (bits_left bytes.now count at.bit) at) }
 {
     if coded == 0 {
-        return PlaceRead::At(at);
+        return CountedRead::Got((), at);
     }
     events(tables, bytes, count, at, levels, base, base + 64)
 }
@@ -131,7 +131,7 @@ fn one_block(
     coded: u32,
     levels: &mut [u8],
     base: usize,
-) -> PlaceRead
+) -> CountedRead<()>
     requires { (Reading tables.now bytes.now count at) × (base + 64 ≤ length levels.old) }
     ensures { leaving bytes.now count result levels.new ≡ map_read (put_block levels.old base) (pick intra (intra_block (bit_of coded)) (inter_block (bit_of coded)) (bits_left bytes.now count at.bit) at) }
 {
@@ -151,7 +151,7 @@ pub fn blocks(
     pattern: u32,
     levels: &mut [u8],
     base: usize,
-) -> PlaceRead
+) -> CountedRead<()>
     requires { (Reading tables.now bytes.now count at) × (base + 384 ≤ length levels.old) }
     ensures { leaving bytes.now count result levels.new ≡ map_read (put_blocks levels.old base) (blocks_read intra (bits_of 6 pattern) (bits_left bytes.now count at.bit) at) }
 {
@@ -169,10 +169,10 @@ pub fn blocks(
             levels,
             base + b * 64,
         );
-        let PlaceRead::At(next) = read else {
-            return PlaceRead::Refused(place_stopped(read));
+        let CountedRead::Got((), next) = read else {
+            return CountedRead::Refused(read.stopped());
         };
         place = next;
     }
-    PlaceRead::At(place)
+    CountedRead::Got((), place)
 }

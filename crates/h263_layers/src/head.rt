@@ -6,44 +6,41 @@ ghost use Rattle.fields.specs.Answer.{as_number, place_of};
 ghost use Rattle.h263_layers.specs.Answer.{HeaderAsked, against_at, header_of, as_header};
 ghost use Rattle.h263_layers.specs.Grammar.{head_fields, group_head, mode_bit, header as header_read};
 
+use crate::Header;
 use crate::start::{Ahead, ahead_at};
-use crate::{Header, HeaderRead};
 use bits::{FieldRead, Place, Stopped, field};
-use fields::{
-    NumberRead, PlaceRead, drop_spares, expect, field_stopped, number_stopped, once, place_stopped,
-    quantiser,
-};
+use fields::{CountedRead, drop_spares, expect, field_stopped, once, quantiser};
 use refusals::{Reason, Refusal};
 use size::Size;
 
 // GBSC, GN, GFID and GQUANT of a group: its GQUANT.
-fn head_fields(bytes: &[u8], count: usize, at: Place, number: u32) -> NumberRead
+fn head_fields(bytes: &[u8], count: usize, at: Place, number: u32) -> CountedRead<u32>
     requires { Placed bytes.now count at }
     ensures { as_number bytes.now count result ≡ head_fields number (bits_left bytes.now count at.bit) at }
 {
     let started = once(at, field(bytes, count, at.bit, 17));
-    let NumberRead::Got(_, after_start) = started else {
-        return NumberRead::Refused(number_stopped(started));
+    let CountedRead::Got(_, after_start) = started else {
+        return CountedRead::Refused(started.stopped());
     };
     let named = expect(bytes, count, after_start, 5, number, Reason::OtherGroup);
-    let PlaceRead::At(after_number) = named else {
-        return NumberRead::Refused(place_stopped(named));
+    let CountedRead::Got((), after_number) = named else {
+        return CountedRead::Refused(named.stopped());
     };
     let framed = once(after_number, field(bytes, count, after_number.bit, 2));
-    let NumberRead::Got(_, after_frame) = framed else {
-        return NumberRead::Refused(number_stopped(framed));
+    let CountedRead::Got(_, after_frame) = framed else {
+        return CountedRead::Refused(framed.stopped());
     };
     quantiser(bytes, count, after_frame)
 }
 
 // GSTUF, where it stands, and the header of a group: its GQUANT, 0 where no start code stands.
-pub fn group_head(bytes: &[u8], count: usize, at: Place, number: u32) -> NumberRead
+pub fn group_head(bytes: &[u8], count: usize, at: Place, number: u32) -> CountedRead<u32>
     requires { Placed bytes.now count at }
     ensures { as_number bytes.now count result ≡ group_head number (bits_left bytes.now count at.bit) at }
 {
     match ahead_at(bytes, count, at.bit) {
-        Ahead::Absent => NumberRead::Got(0, at),
-        Ahead::CutOff => NumberRead::Refused(Stopped {
+        Ahead::Absent => CountedRead::Got(0, at),
+        Ahead::CutOff => CountedRead::Refused(Stopped {
             refusal: Refusal {
                 reason: Reason::BitsEnd,
                 place: at.bit,
@@ -55,8 +52,8 @@ pub fn group_head(bytes: &[u8], count: usize, at: Place, number: u32) -> NumberR
                 return head_fields(bytes, count, at, number);
             }
             let dropped = once(at, field(bytes, count, at.bit, gstuf));
-            let NumberRead::Got(_, after) = dropped else {
-                return NumberRead::Refused(number_stopped(dropped));
+            let CountedRead::Got(_, after) = dropped else {
+                return CountedRead::Refused(dropped.stopped());
             };
             head_fields(bytes, count, after, number)
         }
@@ -64,10 +61,10 @@ pub fn group_head(bytes: &[u8], count: usize, at: Place, number: u32) -> NumberR
 }
 
 // A refusal of a field against its rule.
-fn against(reason: Reason, place: usize, reads: usize) -> HeaderRead
+fn against(reason: Reason, place: usize, reads: usize) -> CountedRead<Header>
     ensures { result ≡ against_at reason place reads }
 {
-    HeaderRead::Refused(Stopped {
+    CountedRead::Refused(Stopped {
         refusal: Refusal { reason, place },
         reads,
     })
@@ -94,27 +91,27 @@ fn mode_bit(information: u32) -> usize
 fn header_of(
     size: Size,
     at: usize,
-    psc: FieldRead,
-    tr: FieldRead,
-    ptype: FieldRead,
-    pquant: FieldRead,
-    cpm: FieldRead,
-    spare: PlaceRead,
-) -> HeaderRead
+    psc: FieldRead<u32>,
+    tr: FieldRead<u32>,
+    ptype: FieldRead<u32>,
+    pquant: FieldRead<u32>,
+    cpm: FieldRead<u32>,
+    spare: CountedRead<()>,
+) -> CountedRead<Header>
     requires { HeaderAsked tr ptype pquant }
     ensures { result ≡ header_of size at psc tr ptype pquant cpm spare }
 {
     let FieldRead::Got(start, _) = psc else {
-        return HeaderRead::Refused(field_stopped(1, psc));
+        return CountedRead::Refused(field_stopped(1, psc));
     };
     if start != 32 {
         return against(Reason::NoStartCode, at, 1);
     }
     let FieldRead::Got(reference, at_ptype) = tr else {
-        return HeaderRead::Refused(field_stopped(2, tr));
+        return CountedRead::Refused(field_stopped(2, tr));
     };
     let FieldRead::Got(information, at_pquant) = ptype else {
-        return HeaderRead::Refused(field_stopped(3, ptype));
+        return CountedRead::Refused(field_stopped(3, ptype));
     };
     if information / 2048 != 2 {
         return against(Reason::OtherFormat, at_ptype, 3);
@@ -126,19 +123,19 @@ fn header_of(
         return against(Reason::OptionalMode, at_ptype + mode_bit(information), 3);
     }
     let FieldRead::Got(quantised, at_cpm) = pquant else {
-        return HeaderRead::Refused(field_stopped(4, pquant));
+        return CountedRead::Refused(field_stopped(4, pquant));
     };
     if quantised == 0 {
         return against(Reason::QuantiserZero, at_pquant, 4);
     }
     let FieldRead::Got(multipoint, _) = cpm else {
-        return HeaderRead::Refused(field_stopped(5, cpm));
+        return CountedRead::Refused(field_stopped(5, cpm));
     };
     if multipoint != 0 {
         return against(Reason::OptionalMode, at_cpm, 5);
     }
-    let PlaceRead::At(next) = spare else {
-        return HeaderRead::Refused(place_stopped(spare));
+    let CountedRead::Got((), next) = spare else {
+        return CountedRead::Refused(spare.stopped());
     };
     let said = Header {
         tr: reference as u8,
@@ -146,11 +143,11 @@ fn header_of(
         kind: (information / 16 % 2) as u8,
         pquant: quantised as u8,
     };
-    HeaderRead::Got(said, next)
+    CountedRead::Got(said, next)
 }
 
 // A picture's header, PSC, TR, PTYPE, PQUANT, CPM and the spares, read by a bit reader. No read was made before it.
-pub fn header(bytes: &[u8], count: usize, at: usize, size: Size) -> HeaderRead
+pub fn header(bytes: &[u8], count: usize, at: usize, size: Size) -> CountedRead<Header>
     requires { Placed bytes.now count (place_of at 0) }
     ensures { as_header bytes.now count result ≡ header_read size (bits_left bytes.now count at) (place_of at 0) }
 {

@@ -18,12 +18,6 @@ pub struct Header {
     pub pquant: u8,
 }
 
-#[derive(Clone, Copy)]
-pub enum HeaderRead {
-    Got(Header, Place),
-    Refused(Stopped),
-}
-
 // What stands where a macroblock is to begin: stuffing, a macroblock that isn't sent, or one with this MCBPC.
 #[derive(Clone, Copy)]
 pub enum FoundRead {

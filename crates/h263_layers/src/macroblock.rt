@@ -23,7 +23,7 @@ use crate::head::group_head;
 use crate::vector::vector;
 use crate::{FoundRead, OpenedRead};
 use bits::{Place, Stopped, field};
-use fields::{NumberRead, PairRead, PlaceRead, number_stopped, once, pair_stopped, place_stopped};
+use fields::{CountedRead, once};
 use h263_description::kind::{has_dquant, is_inter, is_intra};
 use h263_description::predicted::Kept;
 use h263_words::WordTables;
@@ -36,8 +36,8 @@ fn kind_found(tables: &WordTables, bytes: &[u8], count: usize, at: Place, intra:
     ensures { as_found bytes.now count result ≡ judged_read (word (mcbpc_of intra)) found_of (bits_left bytes.now count at.bit) at }
 {
     let read = once(at, h263_words::mcbpc(tables, bytes, count, at.bit, intra));
-    let NumberRead::Got(kind, next) = read else {
-        return FoundRead::Refused(number_stopped(read));
+    let CountedRead::Got(kind, next) = read else {
+        return FoundRead::Refused(read.stopped());
     };
     if kind == 24 {
         return FoundRead::Stuffed(next);
@@ -63,8 +63,8 @@ fn found(tables: &WordTables, bytes: &[u8], count: usize, at: Place, intra: bool
         return kind_found(tables, bytes, count, at, true);
     }
     let read = once(at, field(bytes, count, at.bit, 1));
-    let NumberRead::Got(cod, next) = read else {
-        return FoundRead::Refused(number_stopped(read));
+    let CountedRead::Got(cod, next) = read else {
+        return FoundRead::Refused(read.stopped());
     };
     if cod == 1 {
         return FoundRead::Unsent(next);
@@ -93,14 +93,14 @@ fn headed(
     number: usize,
     address: usize,
     gquant: u32,
-) -> NumberRead
+) -> CountedRead<u32>
     requires { (Placed bytes.now count at) × (number ≤ 31) }
     ensures { as_number bytes.now count result ≡ optional (may_stand number address gquant) gquant (group_head number) (bits_left bytes.now count at.bit) at }
 {
     if may_stand(number, address, gquant) {
         return group_head(bytes, count, at, number as u32);
     }
-    NumberRead::Got(gquant, at)
+    CountedRead::Got(gquant, at)
 }
 
 // The macroblock at an address, after its group's header, where one stands, and stuffing.
@@ -121,8 +121,8 @@ pub fn opened(
     let mut standing = gquant;
     loop {
         let head = headed(bytes, count, place, number, address, standing);
-        let NumberRead::Got(quantiser, after) = head else {
-            return OpenedRead::Refused(number_stopped(head));
+        let CountedRead::Got(quantiser, after) = head else {
+            return OpenedRead::Refused(head.stopped());
         };
         standing = quantiser;
         match found(tables, bytes, count, after, intra) {
@@ -143,30 +143,30 @@ pub fn opened(
 }
 
 // DQUANT: the difference, in a byte of two's complement.
-fn difference(bytes: &[u8], count: usize, at: Place) -> NumberRead
+fn difference(bytes: &[u8], count: usize, at: Place) -> CountedRead<u32>
     requires { Placed bytes.now count at }
     ensures { as_number bytes.now count result ≡ dquant_read (bits_left bytes.now count at.bit) at }
 {
     let read = once(at, field(bytes, count, at.bit, 2));
-    let NumberRead::Got(code, next) = read else {
-        return NumberRead::Refused(number_stopped(read));
+    let CountedRead::Got(code, next) = read else {
+        return CountedRead::Refused(read.stopped());
     };
     let size = code % 2 + 1;
     if code < 2 {
-        return NumberRead::Got(256 - size, next);
+        return CountedRead::Got(256 - size, next);
     }
-    NumberRead::Got(size, next)
+    CountedRead::Got(size, next)
 }
 
 // DQUANT, where the type has it; else 0.
-fn dquant(bytes: &[u8], count: usize, at: Place, kind: u8) -> NumberRead
+fn dquant(bytes: &[u8], count: usize, at: Place, kind: u8) -> CountedRead<u32>
     requires { Placed bytes.now count at }
     ensures { as_number bytes.now count result ≡ optional (has_dquant kind) 0 dquant_read (bits_left bytes.now count at.bit) at }
 {
     if has_dquant(kind) {
         return difference(bytes, count, at);
     }
-    NumberRead::Got(0, at)
+    CountedRead::Got(0, at)
 }
 
 // The vector, where the type is INTER; else zero, kept as 32.
@@ -180,14 +180,14 @@ fn moved(
     address: usize,
     predicted: Kept,
     kind: u8,
-) -> PairRead
+) -> CountedRead<(u8, u8)>
     requires { (Reading tables.now bytes.now count at) × (VectorReady size number address predicted) }
     ensures { as_vector bytes.now count result ≡ optional (is_inter kind) zero_vector (vector_read size number address (vector_kept predicted)) (bits_left bytes.now count at.bit) at }
 {
     if is_inter(kind) {
         return vector(tables, bytes, count, at, size, number, address, predicted);
     }
-    PairRead::Got(32, 32, at)
+    CountedRead::Got((32, 32), at)
 }
 
 // CBPY's four bits, turned unless the macroblock is INTRA, then CBPC's two.
@@ -233,18 +233,18 @@ pub fn macroblock(
     mcbpc: u32,
     macroblocks: &mut [u8],
     levels: &mut [u8],
-) -> PlaceRead
+) -> CountedRead<()>
     requires { (Reading tables.now bytes.now count at) × (MacroblockReady size number address predicted mcbpc macroblocks.old levels.old) }
     ensures { leaving bytes.now count result (sent_in macroblocks.new levels.new) ≡ map_read (put_sent (macroblocks_across size) number macroblocks.old levels.old) (macroblock_read size number address (vector_kept predicted) mcbpc (bits_left bytes.now count at.bit) at) }
 {
     let coded = once(at, h263_words::cbpy(tables, bytes, count, at.bit));
-    let NumberRead::Got(luminance, after_pattern) = coded else {
-        return PlaceRead::Refused(number_stopped(coded));
+    let CountedRead::Got(luminance, after_pattern) = coded else {
+        return CountedRead::Refused(coded.stopped());
     };
     let kind = (mcbpc / 4) as u8;
     let quantised = dquant(bytes, count, after_pattern, kind);
-    let NumberRead::Got(changed, after_quantiser) = quantised else {
-        return PlaceRead::Refused(number_stopped(quantised));
+    let CountedRead::Got(changed, after_quantiser) = quantised else {
+        return CountedRead::Refused(quantised.stopped());
     };
     let pointed = moved(
         tables,
@@ -257,8 +257,8 @@ pub fn macroblock(
         predicted,
         kind,
     );
-    let PairRead::Got(horizontal, vertical, after_vector) = pointed else {
-        return PlaceRead::Refused(pair_stopped(pointed));
+    let CountedRead::Got((horizontal, vertical), after_vector) = pointed else {
+        return CountedRead::Refused(pointed.stopped());
     };
     let intra = is_intra(kind);
     let index = number * h263_description::across(size) + (address - 1);
@@ -272,8 +272,8 @@ pub fn macroblock(
         levels,
         index * 384,
     );
-    let PlaceRead::At(next) = sent else {
-        return PlaceRead::Refused(place_stopped(sent));
+    let CountedRead::Got((), next) = sent else {
+        return CountedRead::Refused(sent.stopped());
     };
     put_fields(
         macroblocks,
@@ -283,5 +283,5 @@ pub fn macroblock(
         horizontal,
         vertical,
     );
-    PlaceRead::At(next)
+    CountedRead::Got((), next)
 }

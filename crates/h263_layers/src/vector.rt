@@ -7,7 +7,7 @@ ghost use Rattle.h263_layers.specs.Ready.{Reading, VectorReady};
 ghost use Rattle.h263_layers.specs.Vector.{component_read, vector_read};
 
 use bits::{Place, Stopped};
-use fields::{NumberRead, PairRead, number_stopped, once};
+use fields::{CountedRead, once};
 use h263_description::predicted::Kept;
 use h263_words::WordTables;
 use refusals::{Reason, Refusal};
@@ -20,15 +20,15 @@ fn component(
     count: usize,
     at: Place,
     predicted: usize,
-) -> NumberRead
+) -> CountedRead<u32>
     requires { (Reading tables.now bytes.now count at) × (predicted ≤ 63) }
     ensures { as_component bytes.now count result ≡ component_read (component_of predicted) (bits_left bytes.now count at.bit) at }
 {
     let read = once(at, h263_words::mvd(tables, bytes, count, at.bit));
-    let NumberRead::Got(difference, next) = read else {
-        return NumberRead::Refused(number_stopped(read));
+    let CountedRead::Got(difference, next) = read else {
+        return CountedRead::Refused(read.stopped());
     };
-    NumberRead::Got(((predicted as u32) + difference + 32) % 64, next)
+    CountedRead::Got(((predicted as u32) + difference + 32) % 64, next)
 }
 
 // Both components; whether the vector points out of the picture is judged once both are read.
@@ -41,17 +41,17 @@ pub fn vector(
     number: usize,
     address: usize,
     predicted: Kept,
-) -> PairRead
+) -> CountedRead<(u8, u8)>
     requires { (Reading tables.now bytes.now count at) × (VectorReady size number address predicted) }
     ensures { as_vector bytes.now count result ≡ vector_read size number address (vector_kept predicted) (bits_left bytes.now count at.bit) at }
 {
     let first = component(tables, bytes, count, at, predicted.horizontal);
-    let NumberRead::Got(across, after) = first else {
-        return PairRead::Refused(number_stopped(first));
+    let CountedRead::Got(across, after) = first else {
+        return CountedRead::Refused(first.stopped());
     };
     let second = component(tables, bytes, count, after, predicted.vertical);
-    let NumberRead::Got(down, next) = second else {
-        return PairRead::Refused(number_stopped(second));
+    let CountedRead::Got(down, next) = second else {
+        return CountedRead::Refused(second.stopped());
     };
     let x = (address - 1) * 32 + (across as usize);
     let y = number * 32 + (down as usize);
@@ -63,16 +63,16 @@ pub fn vector(
         reads: next.reads,
     };
     if x < 32 {
-        return PairRead::Refused(out);
+        return CountedRead::Refused(out);
     }
     if size::width(size) * 2 < x {
-        return PairRead::Refused(out);
+        return CountedRead::Refused(out);
     }
     if y < 32 {
-        return PairRead::Refused(out);
+        return CountedRead::Refused(out);
     }
     if size::height(size) * 2 < y {
-        return PairRead::Refused(out);
+        return CountedRead::Refused(out);
     }
-    PairRead::Got(across as u8, down as u8, next)
+    CountedRead::Got((across as u8, down as u8), next)
 }

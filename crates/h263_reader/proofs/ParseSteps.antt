@@ -1,4 +1,5 @@
 -- From bits to a description in buffers, step by step. Assumes nothing.
+use Rattle.std.specs.Prelude.{Ok}
 use mathlib.Core.Path.{◌≡◌, refl, sym, ap, subst, ◌∙◌}
 use mathlib.Core.Bool.{Bool, true, false}
 use mathlib.Core.List.{List, [], ◌∷◌}
@@ -11,7 +12,6 @@ use lib.ListN.{length, set, replicate}
 use Rattle.laws.specs.Choice.{pick, either}
 use Rattle.laws.proofs.Rows.{lt-or-ge}
 use Rattle.refusals.specs.declared.Reason.TheVariants.{Count, AfterLast}
-use Rattle.refusals.specs.declared.Verdict.TheVariants.{Accepted}
 use Rattle.refusals.specs.Number.{refusal}
 use Rattle.bits.specs.Bits.{Bit, bits_left}
 use Rattle.bits.proofs.Source.{source_left}
@@ -23,8 +23,8 @@ use Rattle.bits.specs.declared.Place.{Place}
 use Rattle.bits.specs.declared.Stopped.{Stopped}
 use Rattle.fields.specs.Answer.{map_read, leaving, place_of, refused_picture}
 use Rattle.fields.specs.declared.PictureRead.{PictureRead}
-use Rattle.fields.specs.declared.PlaceRead.{PlaceRead}
-use Rattle.fields.specs.declared.PlaceRead.TheVariants.{At, Refused}
+use Rattle.fields.specs.declared.CountedRead.{CountedRead}
+use Rattle.fields.specs.declared.CountedRead.TheVariants.{Got, Refused}
 use Rattle.fields.proofs.Meaning.{length_left}
 use Rattle.fields.proofs.PictureAnswer.{Answers, not_above, answers-refused, answers_laid}
 use Rattle.size.specs.declared.Size.{Size}
@@ -36,8 +36,6 @@ use Rattle.layout.specs.Flat.{Flat, flat, put_groups, zeros}
 use Rattle.h263_description.specs.Value.{Picture, format_number, shape, group_numbers, laid_picture}
 use Rattle.h263_description.specs.Fields.{is_intra_type}
 use Rattle.h263_layers.specs.declared.Header as D
-use Rattle.h263_layers.specs.declared.HeaderRead.{HeaderRead}
-use Rattle.h263_layers.specs.declared.HeaderRead.TheVariants.{Got, Refused as NoHeader}
 use Rattle.h263_layers.specs.Answer.{header_in, as_header}
 use Rattle.h263_layers.specs.Grammar.{Header, header, groups_read, ended, picture, read_widths}
 use Rattle.h263_layers.proofs.HeaderReads.{HeaderCounts, header_counts}
@@ -52,17 +50,17 @@ limit_low Qcif = lit< tt
 limit_low Cif = lit< tt
 
 -- ---- the end
-module _ (n : ℕ) (r : PlaceRead) (p : Place) (e : r ≡ At p) where
+module _ (n : ℕ) (r : CountedRead (Unit {0})) (p : Place) (e : r ≡ Got tt p) where
   pub ended_past : p.bit < n → Refused (stop_in counted (refusal AfterLast p.bit) p) ≡ ended_at n r
-  ended_past l = sym (ap (ended_at n) e ∙ ap (λ (b : Bool). pick b (Refused (stop_in counted (refusal AfterLast p.bit) p)) (At p)) (lt-ltb p.bit n l))
+  ended_past l = sym (ap (ended_at n) e ∙ ap (λ (b : Bool). pick b (Refused (stop_in counted (refusal AfterLast p.bit) p)) (Got tt p)) (lt-ltb p.bit n l))
 
-  pub ended_there : n ≤ p.bit → At p ≡ ended_at n r
-  ended_there l = sym (ap (ended_at n) e ∙ ap (λ (b : Bool). pick b (Refused (stop_in counted (refusal AfterLast p.bit) p)) (At p)) (le-ltb p.bit n l))
+  pub ended_there : n ≤ p.bit → Got tt p ≡ ended_at n r
+  ended_there l = sym (ap (ended_at n) e ∙ ap (λ (b : Bool). pick b (Refused (stop_in counted (refusal AfterLast p.bit) p)) (Got tt p)) (le-ltb p.bit n l))
 
 -- what was left in the buffers, and then the end
-pub leaving-ended : {A : Type 0} (s : List ℕ) (n : ℕ) (r : PlaceRead) (a : A) → leaving s n (ended_at n r) a ≡ next (leaving s n r a) ended
+pub leaving-ended : {A : Type 0} (s : List ℕ) (n : ℕ) (r : CountedRead (Unit {0})) (a : A) → leaving s n (ended_at n r) a ≡ next (leaving s n r a) ended
 leaving-ended {A} s n (Refused r) a = refl
-leaving-ended {A} s n (At p) a = go (lt-or-ge p.bit n)
+leaving-ended {A} s n (Got u p) a = go (lt-or-ge p.bit n)
   where
     some : (bs : List Bit) → 1 ≤ length bs → ◌≡◌ {A = ReadIn counted A} (refused (stop_in counted (refusal AfterLast p.bit) p)) (ended a bs p)
     some [] l = absurd (omega arith)
@@ -71,12 +69,12 @@ leaving-ended {A} s n (At p) a = go (lt-or-ge p.bit n)
     none : (bs : List Bit) → bs ≡ [] → ◌≡◌ {A = ReadIn counted A} (got a bs p) (ended a bs p)
     none bs e = ap (λ (bs : List Bit). got a bs p) e ∙ sym (ap (λ (bs : List Bit). ended a bs p) e)
 
-    go : (p.bit < n) ⊎ (n ≤ p.bit) → leaving s n (pick (ltb p.bit n) (Refused (stop_in counted (refusal AfterLast p.bit) p)) (At p)) a ≡ ended a (bits_left s n p.bit) p
+    go : (p.bit < n) ⊎ (n ≤ p.bit) → leaving s n (pick (ltb p.bit n) (Refused (stop_in counted (refusal AfterLast p.bit) p)) (Got tt p)) a ≡ ended a (bits_left s n p.bit) p
     go (inl l) =
-        ap (λ (b : Bool). leaving s n (pick b (Refused (stop_in counted (refusal AfterLast p.bit) p)) (At p)) a) (lt-ltb p.bit n l)
+        ap (λ (b : Bool). leaving s n (pick b (Refused (stop_in counted (refusal AfterLast p.bit) p)) (Got tt p)) a) (lt-ltb p.bit n l)
         ∙ some (bits_left s n p.bit) (omega (arith, length_left s n p.bit))
     go (inr l) =
-        ap (λ (b : Bool). leaving s n (pick b (Refused (stop_in counted (refusal AfterLast p.bit) p)) (At p)) a) (le-ltb p.bit n l)
+        ap (λ (b : Bool). leaving s n (pick b (Refused (stop_in counted (refusal AfterLast p.bit) p)) (Got tt p)) a) (le-ltb p.bit n l)
         ∙ none (bits_left s n p.bit) (left_none s n p.bit l)
 
 -- ---- the picture from after its header on
@@ -101,7 +99,7 @@ module _ (size : Size) (h : Header) where
   groups_ended (refused r) = refl
   groups_ended endless = refl
 
-  pub picture_laid : (s : List ℕ) (n : ℕ) (at : Place) (r x : PlaceRead) (number : ℕ) {a b c : List ℕ} (a' b' c' : List ℕ) → x ≡ ended_at n r → number ≡ format_number size → flat a b c ≡ zeros (shape size)
+  pub picture_laid : (s : List ℕ) (n : ℕ) (at : Place) (r x : CountedRead (Unit {0})) (number : ℕ) {a b c : List ℕ} (a' b' c' : List ℕ) → x ≡ ended_at n r → number ≡ format_number size → flat a b c ≡ zeros (shape size)
       → leaving s n r (flat a' b' c')
       ≡ map_read (put_groups (shape size) 0 (flat (set (set (set (set (set a 0 h.tr) 1 h.ptype) 2 number) 3 h.type) 4 h.pquant) b c))
       (groups_read size (is_intra_type h.type) (group_numbers size) [] (bits_left s n at.bit) at)
@@ -111,7 +109,7 @@ module _ (size : Size) (h : Header) where
       let head : set (set (set (set (set a 0 h.tr) 1 h.ptype) 2 number) 3 h.type) 4 h.pquant ≡ h.tr ∷ h.ptype ∷ format_number size ∷ h.type ∷ h.pquant ∷ replicate (macroblocks_down size) 0
       = cleared (macroblocks_down size) h.tr h.ptype number h.type h.pquant a (ap (λ (d : Flat). d.head) blank)
       ∙ ap (λ (y : ℕ). h.tr ∷ h.ptype ∷ y ∷ h.type ∷ h.pquant ∷ replicate (macroblocks_down size) 0) e in
-      ap (λ (y : PlaceRead). leaving s n y (flat a' b' c')) is
+      ap (λ (y : CountedRead (Unit {0})). leaving s n y (flat a' b' c')) is
       ∙ leaving-ended s n r (flat a' b' c')
       ∙ ap (λ (x : ReadIn counted Flat). next x ended) (w ∙ (λ i. map_read (put_groups (shape size) 0 (flat (head i) (blank i).macroblocks (blank i).levels)) groups))
       ∙ groups_ended groups
@@ -134,8 +132,8 @@ module _ (size : Size) (s : List ℕ) (n : ℕ) (a : Bool) (w : a ≡ either (lt
         let z : either (ltb (8 * length s) n) (ltb (limit size) n) ≡ false = sym w ∙ e in
         rw (z, source_left s n bounds.0)
 
-    module _ (h : HeaderRead) (v : as_header s n h ≡ header size (bits_left s n 0) (place_of 0 0)) where
-      pub described_no_header : (r : Stopped) → h ≡ NoHeader r → described_counted size s n ≡ refused r
+    module _ (h : CountedRead Header) (v : as_header s n h ≡ header size (bits_left s n 0) (place_of 0 0)) where
+      pub described_no_header : (r : Stopped) → h ≡ Refused r → described_counted size s n ≡ refused r
       unfolding picture
       described_no_header r d =
           let x : header {P = counted} size (bits_left s n 0) (place_of 0 0) ≡ refused r = sym v ∙ ap (as_header s n) d in
@@ -164,6 +162,6 @@ module _ (size : Size) (s : List ℕ) (n : ℕ) where
       answers-refused (zeros (shape size)) (described-uncounted size s n) (described_count_is size s n) e d blank
 
   -- accepted, and laid out
-  pub read_laid : (r : PlaceRead) (d : Flat) → leaving s n r d ≡ described_counted size s n → (p : Place) → r ≡ At p
-      → Answers (zeros (shape size)) (described size s n) (length (read_widths size s n)) (record { verdict = Accepted; reads = p.reads }) d
+  pub read_laid : (r : CountedRead (Unit {0})) (d : Flat) → leaving s n r d ≡ described_counted size s n → (p : Place) → r ≡ Got tt p
+      → Answers (zeros (shape size)) (described size s n) (length (read_widths size s n)) (record { verdict = Ok tt; reads = p.reads }) d
   read_laid r d v p e = answers_laid (zeros (shape size)) (described-uncounted size s n) (described_count_is size s n) s n r d v p e

@@ -7,7 +7,6 @@ use native.Mathlib.Omega.{arith}
 use lib.Dec.{leb, leb→le, lit≤}
 use lib.ListN.{length, set, drop, length-set, length-replicate, drop_of_length-le}
 use lib.Seq.{sets}
-use denote.Enum.Declared.{tag_of}
 use Rattle.laws.proofs.Choice.{both_right}
 use Rattle.laws.proofs.Rows.{rows_in}
 use Rattle.bits.specs.Bits.{bits_left}
@@ -16,10 +15,9 @@ use Rattle.bits.specs.Read.{ReadIn, got, refused}
 use Rattle.bits.specs.Answer.{Placed}
 use Rattle.bits.specs.declared.Place.{Place}
 use Rattle.bits.specs.declared.Stopped.{Stopped}
-use Rattle.fields.specs.Answer.{map_read, leaving, place_stopped}
-use Rattle.fields.specs.declared.PlaceRead.{PlaceRead}
-use Rattle.fields.specs.declared.PlaceRead.TheVariants.{At}
-use Rattle.fields.specs.contracts.PlaceRead.{the_type as place_type}
+use Rattle.fields.specs.Answer.{map_read, leaving, stopped_of}
+use Rattle.fields.specs.declared.CountedRead.{CountedRead}
+use Rattle.fields.specs.declared.CountedRead.TheVariants.{Got}
 use Rattle.fields.proofs.Meaning.{was_got, was_refused, onward}
 use Rattle.fields.proofs.Told.{within_next, no_place, is_place}
 use Rattle.size.specs.declared.Size.{Size}
@@ -173,18 +171,18 @@ module _ {start : ReadIn counted Flat} {s : List ℕ} {n : ℕ} {size : Size} {i
             predicted_is h.laid number column refl l c headed is
             ∙ ap (λ (b : Bool). predictor (macroblocks_across size) b (vectors_of vectors) (length vectors)) he
 
-        module _ (t : PlaceRead) (ms' ls' : List ℕ)
+        module _ (t : CountedRead (Unit {0})) (ms' ls' : List ℕ)
             (v : leaving s n t (sent_in ms' ls') ≡ map_read (put_sent (macroblocks_across size) number ms ls) (macroblock size number (column + 1) (vector_kept predicted) kind (bits_left s n z.bit) z)) where
           read_is : leaving s n t (sent_in ms' ls') ≡ map_read (put_sent (macroblocks_across size) number ms ls) (macroblock size number (column + 1) aim kind (bits_left s n z.bit) z)
           read_is = v ∙ ap (λ (a : Vector). map_read (put_sent (macroblocks_across size) number ms ls) (macroblock size number (column + 1) a kind (bits_left s n z.bit) z)) aimed
 
-          pub row_unsaid : tag_of place_type t ≡ 1 → refused (place_stopped t) ≡ start
+          pub row_unsaid : {why : Stopped} → t ≡ Refused why → refused (stopped_of t) ≡ start
           row_unsaid y =
-              let no = was_refused (put_sent (macroblocks_across size) number ms ls) (macroblock size number (column + 1) aim kind (bits_left s n z.bit) z) (place_stopped t)
+              let no = was_refused (put_sent (macroblocks_across size) number ms ls) (macroblock size number (column + 1) aim kind (bits_left s n z.bit) z) (stopped_of t)
               (no_place s n (sent_in ms' ls') t y read_is) in
-              sym (turn ∙ row_no_macroblock size intra number (column + 1) gquant (flat head ms ls) vectors (bits_left s n p.bit) p some.0 q kind (bits_left s n z.bit) z (is_found (Coded q kind z) e) (place_stopped t) no)
+              sym (turn ∙ row_no_macroblock size intra number (column + 1) gquant (flat head ms ls) vectors (bits_left s n p.bit) p some.0 q kind (bits_left s n z.bit) z (is_found (Coded q kind z) e) (stopped_of t) no)
 
-          module _ (y : Place) (d : t ≡ At y) where
+          module _ (y : Place) (d : t ≡ Got tt y) where
             was : (m : Macroblock) × (macroblock {P = counted} size number (column + 1) aim kind (bits_left s n z.bit) z ≡ got m (bits_left s n y.bit) y) × (put_sent (macroblocks_across size) number ms ls m ≡ sent_in ms' ls')
             was = was_got (put_sent (macroblocks_across size) number ms ls) (macroblock size number (column + 1) aim kind (bits_left s n z.bit) z) (sent_in ms' ls') (bits_left s n y.bit) y
                 (is_place s n (sent_in ms' ls') t y read_is d)

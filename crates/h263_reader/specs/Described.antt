@@ -7,8 +7,8 @@ use Rattle.bits.specs.Places.{Places, counted, stop_in}
 use Rattle.bits.specs.Read.{Read, ReaderIn, ◌>>=◌}
 use Rattle.bits.specs.declared.Place.{Place}
 use Rattle.fields.specs.Answer.{map_read}
-use Rattle.fields.specs.declared.PlaceRead.{PlaceRead}
-use Rattle.fields.specs.declared.PlaceRead.TheVariants.{At, Refused as NoPlace}
+use Rattle.fields.specs.declared.CountedRead.{CountedRead}
+use Rattle.fields.specs.declared.CountedRead.TheVariants.{Got, Refused}
 use Rattle.size.specs.declared.Size.{Size}
 use Rattle.layout.specs.Flat.{Flat}
 use Rattle.h263_description.specs.Value.{Picture, head_length, macroblocks_length, levels_length, group_numbers, laid_picture}
@@ -30,9 +30,9 @@ after_header size head =
     >>= λ groups. ended (record { tr = head.tr; ptype = head.ptype; type = head.type; pquant = head.pquant; groups = groups })
 
 -- refusal 13: "bits left there are 13 at that place": where the groups ended, if the bits end there
-abbrev pub ended_at : ℕ → PlaceRead → PlaceRead
-ended_at n (At p) = pick (ltb p.bit n) (NoPlace (stop_in counted (refusal AfterLast p.bit) p)) (At p)
-ended_at n (NoPlace r) = NoPlace r
+abbrev pub ended_at : ℕ → CountedRead (Unit {0}) → CountedRead (Unit {0})
+ended_at n (Got u p) = pick (ltb p.bit n) (Refused (stop_in counted (refusal AfterLast p.bit) p)) (Got tt p)
+ended_at n (Refused r) = Refused r
 
 -- the description of the picture that N bits of a slice are
 unfoldable pub described : Size → List ℕ → ℕ → Read Flat

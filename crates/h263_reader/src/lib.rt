@@ -13,24 +13,24 @@ ghost use Rattle.h263_layers.specs.Grammar.{read_widths};
 ghost use Rattle.h263_reader.specs.Described.{after_header, ended_at, described};
 
 use bits::{Place, Stopped};
-use fields::{PictureRead, PlaceRead, count_above, place_stopped, refused_picture};
+use fields::{CountedRead, PictureRead, count_above, refused_picture};
+use h263_layers::Header;
 use h263_layers::head::header;
-use h263_layers::{Header, HeaderRead};
 use levels::clear;
-use refusals::{Reason, Refusal, Verdict};
+use refusals::{Reason, Refusal};
 use size::Size;
 
 mod picture;
 
 // Bits that are left after the last macroblock are 13, whatever they are. Looking for them is no read.
-fn ended(read: PlaceRead, count: usize) -> PlaceRead
+fn ended(read: CountedRead<()>, count: usize) -> CountedRead<()>
     ensures { result ≡ ended_at count read }
 {
-    let PlaceRead::At(end) = read else {
+    let CountedRead::Got((), end) = read else {
         return read;
     };
     if end.bit < count {
-        return PlaceRead::Refused(Stopped {
+        return CountedRead::Refused(Stopped {
             refusal: Refusal {
                 reason: Reason::AfterLast,
                 place: end.bit,
@@ -38,7 +38,7 @@ fn ended(read: PlaceRead, count: usize) -> PlaceRead
             reads: end.reads,
         });
     }
-    PlaceRead::At(end)
+    CountedRead::Got((), end)
 }
 
 // The picture from after its header on, laid out: what the header says, and the groups, after which the bits end.
@@ -51,7 +51,7 @@ fn laid(
     head: &mut [u8],
     macroblocks: &mut [u8],
     levels: &mut [u8],
-) -> PlaceRead
+) -> CountedRead<()>
     requires { (Placed bytes.now count at) × (flat head.old macroblocks.old levels.old ≡ zeros (shape size)) }
     ensures { leaving bytes.now count result (flat head.new macroblocks.new levels.new) ≡ map_read (laid_picture size) (after_header size (header_in said) (bits_left bytes.now count at.bit) at) }
 {
@@ -92,7 +92,7 @@ pub fn parse_counted(
 {
     if count_above(bytes.len(), count, size::limit(size)) {
         return PictureRead {
-            verdict: Verdict::Refused(Refusal {
+            verdict: Err(Refusal {
                 reason: Reason::Count,
                 place: 0,
             }),
@@ -101,17 +101,17 @@ pub fn parse_counted(
     }
     let opened = header(bytes, count, 0, size);
     match opened {
-        HeaderRead::Refused(stopped) => refused_picture(stopped),
-        HeaderRead::Got(said, next) => {
+        CountedRead::Refused(stopped) => refused_picture(stopped),
+        CountedRead::Got(said, next) => {
             let read = laid(bytes, count, said, next, size, head, macroblocks, levels);
-            let PlaceRead::At(end) = read else {
+            let CountedRead::Got((), end) = read else {
                 clear(head);
                 clear(macroblocks);
                 clear(levels);
-                return refused_picture(place_stopped(read));
+                return refused_picture(read.stopped());
             };
             PictureRead {
-                verdict: Verdict::Accepted,
+                verdict: Ok(()),
                 reads: end.reads,
             }
         }

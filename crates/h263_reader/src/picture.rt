@@ -9,7 +9,7 @@ ghost use Rattle.h263_layers.specs.Grammar.{groups_read};
 ghost use Rattle.h263_reader.specs.Described.{GroupsReady};
 
 use bits::{Place, Stopped};
-use fields::{PlaceRead, place_stopped};
+use fields::CountedRead;
 use h263_description::predicted::predictor;
 use h263_layers::OpenedRead;
 use h263_layers::macroblock::{macroblock, opened};
@@ -38,7 +38,7 @@ pub fn groups(
     head: &mut [u8],
     macroblocks: &mut [u8],
     levels: &mut [u8],
-) -> PlaceRead
+) -> CountedRead<()>
     requires { GroupsReady tables.now bytes.now count at size head.old macroblocks.old levels.old }
     ensures { leaving bytes.now count result (flat head.new macroblocks.new levels.new) ≡ map_read (put_groups (shape size) 0 (flat head.old macroblocks.old levels.old)) (groups_read size intra (group_numbers size) [] (bits_left bytes.now count at.bit) at) }
 {
@@ -89,8 +89,8 @@ pub fn groups(
                         macroblocks,
                         levels,
                     );
-                    let PlaceRead::At(end) = read else {
-                        stopped = place_stopped(read);
+                    let CountedRead::Got((), end) = read else {
+                        stopped = read.stopped();
                         break 'picture;
                     };
                     gquant = standing;
@@ -107,7 +107,7 @@ pub fn groups(
         number += 1;
     }
     if number < down {
-        return PlaceRead::Refused(stopped);
+        return CountedRead::Refused(stopped);
     }
-    PlaceRead::At(place)
+    CountedRead::Got((), place)
 }

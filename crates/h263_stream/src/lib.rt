@@ -12,7 +12,7 @@ ghost use Rattle.h263_stream.specs.Passed.{ran_from, kept_from, before_code};
 ghost use Rattle.h263_stream.specs.Filled.{fills_from, ends_after, ends_within, is_dropped, room_of, all_bits, bits_to, bits_refused, picture_bits, picture_read};
 
 use coding::Kind;
-use refusals::{Refusal, Verdict};
+use refusals::Refusal;
 use size::Size;
 
 // What has gone by of a stream.
@@ -314,7 +314,7 @@ fn bits_refused(bytes: &[u8], all: usize, why: Refusal) -> usize
 
 // ---- the verdict alone, with scratch in the size's own lengths
 
-fn judge_sub_qcif(bytes: &[u8], count: usize) -> Verdict
+fn judge_sub_qcif(bytes: &[u8], count: usize) -> Result<(), Refusal>
     ensures { told_verdict result ≡ verdict_on (found (described SubQcif bytes.now count)) }
 {
     let mut head = [0u8; 11];
@@ -331,7 +331,7 @@ fn judge_sub_qcif(bytes: &[u8], count: usize) -> Verdict
     read.verdict
 }
 
-fn judge_qcif(bytes: &[u8], count: usize) -> Verdict
+fn judge_qcif(bytes: &[u8], count: usize) -> Result<(), Refusal>
     ensures { told_verdict result ≡ verdict_on (found (described Qcif bytes.now count)) }
 {
     let mut head = [0u8; 14];
@@ -348,7 +348,7 @@ fn judge_qcif(bytes: &[u8], count: usize) -> Verdict
     read.verdict
 }
 
-fn judge_cif(bytes: &[u8], count: usize) -> Verdict
+fn judge_cif(bytes: &[u8], count: usize) -> Result<(), Refusal>
     ensures { told_verdict result ≡ verdict_on (found (described Cif bytes.now count)) }
 {
     let mut head = [0u8; 23];
@@ -365,7 +365,7 @@ fn judge_cif(bytes: &[u8], count: usize) -> Verdict
     read.verdict
 }
 
-fn judge(size: Size, bytes: &[u8], count: usize) -> Verdict
+fn judge(size: Size, bytes: &[u8], count: usize) -> Result<(), Refusal>
     ensures { told_verdict result ≡ verdict_on (found (described size bytes.now count)) }
 {
     match size {
@@ -383,8 +383,8 @@ pub fn picture_bits(size: Size, bytes: &[u8], count: usize) -> usize
     let seen = smaller(all, size::limit(size));
     let verdict = judge(size, bytes, seen);
     match verdict {
-        Verdict::Accepted => bits_to(bytes, all, seen),
-        Verdict::Refused(why) => bits_refused(bytes, all, why),
+        Ok(()) => bits_to(bytes, all, seen),
+        Err(why) => bits_refused(bytes, all, why),
     }
 }
 
@@ -396,7 +396,7 @@ pub fn read(
     head: &mut [u8],
     macroblocks: &mut [u8],
     levels: &mut [u8],
-) -> Verdict
+) -> Result<(), Refusal>
     ensures verdict { told_verdict result ≡ verdict_on (picture_read size bytes.now count (flat head.old macroblocks.old levels.old)) }
     ensures buffers { flat head.new macroblocks.new levels.new ≡ found_or (flat head.old macroblocks.old levels.old) (picture_read size bytes.now count (flat head.old macroblocks.old levels.old)) }
 {

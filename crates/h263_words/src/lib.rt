@@ -59,7 +59,13 @@ pub enum EventRead {
 }
 
 // MCBPC at `at`, in an INTRA picture or in an INTER one: 4 times the type and CBPC, or 24 for stuffing. INTER4V words are words.
-pub fn mcbpc(tables: &WordTables, bytes: &[u8], count: usize, at: usize, intra: bool) -> FieldRead
+pub fn mcbpc(
+    tables: &WordTables,
+    bytes: &[u8],
+    count: usize,
+    at: usize,
+    intra: bool,
+) -> FieldRead<u32>
     requires { (Tables tables.now) × (Within bytes.now count at) }
     ensures { as_field bytes.now count result ≡ word_read (mcbpc_of intra) (bits_left bytes.now count at) at }
 {
@@ -71,7 +77,7 @@ pub fn mcbpc(tables: &WordTables, bytes: &[u8], count: usize, at: usize, intra: 
 }
 
 // CBPY at `at`, 0 to 15: the pattern of an INTRA macroblock.
-pub fn cbpy(tables: &WordTables, bytes: &[u8], count: usize, at: usize) -> FieldRead
+pub fn cbpy(tables: &WordTables, bytes: &[u8], count: usize, at: usize) -> FieldRead<u32>
     requires { (Tables tables.now) × (Within bytes.now count at) }
     ensures { as_field bytes.now count result ≡ word_read cbpy_table (bits_left bytes.now count at) at }
 {
@@ -99,7 +105,7 @@ fn looked_up(tables: &WordTables, small: usize, start: usize, number: usize) -> 
 }
 
 // A component of MVD at `at`: 32 more than the difference that Table 11 prints first, in half samples.
-pub fn mvd(tables: &WordTables, bytes: &[u8], count: usize, at: usize) -> FieldRead
+pub fn mvd(tables: &WordTables, bytes: &[u8], count: usize, at: usize) -> FieldRead<u32>
     requires { (Tables tables.now) × (Within bytes.now count at) }
     ensures { as_field bytes.now count result ≡ word_read mvd_table (bits_left bytes.now count at) at }
 {

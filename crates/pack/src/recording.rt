@@ -5,7 +5,7 @@ use account::End;
 use account::streams::Streams;
 use coding::Kind;
 use h261_groups::Format;
-use refusals::{Refusal, Verdict};
+use refusals::Refusal;
 use sender::{Answer, Sender};
 use size::Size;
 use std::io::Write;
@@ -158,7 +158,7 @@ fn read(
     head: &mut [u8],
     macroblocks: &mut [u8],
     levels: &mut [u8],
-) -> Verdict {
+) -> Result<(), Refusal> {
     match whole {
         Whole::H261(format, count, ones) => {
             stream::read(format, picture, count, ones, head, macroblocks, levels)
@@ -184,7 +184,7 @@ fn finish_in<I, O: Write, E: Write>(
     second: &mut [u8],
 ) -> Recording {
     match read(whole, picture, head, macroblocks, levels) {
-        Verdict::Accepted => send(
+        Ok(()) => send(
             streams,
             recording,
             offset,
@@ -195,7 +195,7 @@ fn finish_in<I, O: Write, E: Write>(
             first,
             second,
         ),
-        Verdict::Refused(why) => refused(streams, recording, offset, why),
+        Err(why) => refused(streams, recording, offset, why),
     }
 }
 

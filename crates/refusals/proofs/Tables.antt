@@ -1,4 +1,5 @@
 -- A refusal carries a table exactly if no codeword was there, and all else that it tells is what it told before: by the cases of a reason. Assumes nothing.
+use Rattle.std.specs.Prelude.{Ok, Err}
 use Prim.Native.Nat.{ℕ, ◌≤◌}
 use mathlib.Core.Path.{◌≡◌, refl}
 use native.Mathlib.Omega.{arith}
@@ -7,7 +8,6 @@ use Rattle.refusals.specs.declared.Reason.{Reason}
 use Rattle.refusals.specs.declared.Reason.TheVariants.{Length, Count, BitsEnd, NoStartCode, OtherFormat, OtherGroup, QuantiserZero, NoCodeword, AddressPast, Forbidden, CoefficientPast, VectorOut, AfterLast, OptionalMode, BlockCheck, BlockField, OtherClip, UntrueMark, Invalid, AboveLimit, NotRefresh, AllSent, NoneKept, NoLock}
 use Rattle.refusals.specs.declared.Table.{Table}
 use Rattle.refusals.specs.declared.Table.TheVariants.{Mba, Mtype, Mvd, Cbp, Tcoeff, McbpcIntra, McbpcInter, Cbpy, Mvd263, Tcoef263}
-use Rattle.refusals.specs.declared.Verdict.TheVariants.{Accepted, Refused}
 use Rattle.refusals.specs.Number.{number, table_number, read_table}
 use Rattle.refusals.specs.Told.{untabled}
 use Rattle.refusals.specs.Tables.{Tabled, TabledExactly, VerdictStays}
@@ -60,5 +60,5 @@ pub tabled_exactly : TabledExactly
 tabled_exactly why = of_reason why.reason why.place
 
 pub verdict_stays : VerdictStays
-verdict_stays Accepted = refl
-verdict_stays (Refused why) = refl
+verdict_stays (Ok u) = refl
+verdict_stays (Err why) = refl

@@ -1,4 +1,5 @@
 -- Telling a refusal by its numbers loses nothing of it: each number of the table is one reason's, and 8 with a table's number one table's. Assumes nothing.
+use Rattle.std.specs.Prelude.{Result, Ok, Err}
 use Prim.Native.Nat.{ℕ}
 use mathlib.Core.Path.{◌≡◌, refl, sym, ap, ◌∙◌}
 use mathlib.Core.List.{List, [], ◌∷◌}
@@ -9,8 +10,6 @@ use Rattle.refusals.specs.declared.Reason.TheVariants.{Length, Count, BitsEnd, N
 use Rattle.refusals.specs.declared.Table.{Table}
 use Rattle.refusals.specs.declared.Table.TheVariants.{Mba, Mtype, Mvd, Cbp, Tcoeff, McbpcIntra, McbpcInter, Cbpy, Mvd263, Tcoef263}
 use Rattle.refusals.specs.declared.Refusal.{Refusal}
-use Rattle.refusals.specs.declared.Verdict.{Verdict}
-use Rattle.refusals.specs.declared.Verdict.TheVariants.{Accepted, Refused}
 use Rattle.refusals.specs.Number.{number, table_number, read_table, refusal}
 use Rattle.refusals.specs.Told.{Numbers, numbers_of, Told, accepted, refused_by, told_verdict, verdict_on, found_or, NumbersOnce, RefusalToldOnce, VerdictToldOnce}
 
@@ -112,21 +111,21 @@ module _ {A : Type 0} where
 
 -- ---- a verdict
 pub verdict_told_once : VerdictToldOnce
-verdict_told_once Accepted Accepted e = refl
-verdict_told_once (Refused a) (Refused b) e = ap Refused (refused_once a b e)
-verdict_told_once Accepted (Refused b) e = absurd (told_apart e)
-verdict_told_once (Refused a) Accepted e = absurd (told_apart (sym e))
+verdict_told_once (Ok u) (Ok v) e = refl
+verdict_told_once (Err a) (Err b) e = ap Err (refused_once a b e)
+verdict_told_once (Ok u) (Err b) e = absurd (told_apart e)
+verdict_told_once (Err a) (Ok u) e = absurd (told_apart (sym e))
 
 -- the verdict on what is given, with what it left in the buffers
-module _ {A : Type 0} {verdict : Verdict} {left : A} (before : A) (x : Told A) (v : told_verdict verdict ≡ verdict_on x) (b : left ≡ found_or before x) where
-  pub was_accepted : verdict ≡ Accepted → x ≡ accepted left
+module _ {A : Type 0} {verdict : Result (Unit {0}) Refusal} {left : A} (before : A) (x : Told A) (v : told_verdict verdict ≡ verdict_on x) (b : left ≡ found_or before x) where
+  pub was_accepted : verdict ≡ Ok tt → x ≡ accepted left
   was_accepted e = given x (sym (ap told_verdict e) ∙ v) b
     where
       given : (x : Told A) → accepted tt ≡ verdict_on x → left ≡ found_or before x → x ≡ accepted left
       given (accepted a) w b = ap accepted (sym b)
       given (refused_by numbers) w b = absurd (told_apart w)
 
-  pub was_refused : {why : Refusal} → verdict ≡ Refused why → x ≡ refused_by (numbers_of why)
+  pub was_refused : {why : Refusal} → verdict ≡ Err why → x ≡ refused_by (numbers_of why)
   was_refused {why} e = kept x (sym (ap told_verdict e) ∙ v)
     where
       kept : (x : Told A) → refused_by (numbers_of why) ≡ verdict_on x → x ≡ refused_by (numbers_of why)

@@ -1,8 +1,6 @@
 -- "Everything else in an answer stays. Other refusals carry table 0.": what is promised of the table that a refusal carries. Assumes nothing.
-use Rattle.std.specs.Prelude.{ℕ, ◌≤◌, ◌≡◌}
+use Rattle.std.specs.Prelude.{ℕ, ◌≤◌, ◌≡◌, Result, Ok, Err}
 use Rattle.refusals.specs.declared.Refusal.{Refusal}
-use Rattle.refusals.specs.declared.Verdict.{Verdict}
-use Rattle.refusals.specs.declared.Verdict.TheVariants.{Accepted, Refused}
 use Rattle.refusals.specs.Number.{number}
 use Rattle.refusals.specs.Told.{Numbers, numbers_of, Told, accepted, refused_by, told_verdict}
 
@@ -20,9 +18,9 @@ pub data ToldBefore (A : Type 0) : Type 0 where
   given : A → ToldBefore A
   refused_at : ℕ → ℕ → ToldBefore A
 
-abbrev pub verdict_before : Verdict → ToldBefore (Unit {0})
-verdict_before Accepted = given tt
-verdict_before (Refused why) = refused_at (number why.reason) why.place
+abbrev pub verdict_before : Result (Unit {0}) Refusal → ToldBefore (Unit {0})
+verdict_before (Ok u) = given tt
+verdict_before (Err why) = refused_at (number why.reason) why.place
 
 -- an answer without its table
 abbrev pub without_table : {A : Type 0} → Told A → ToldBefore A
@@ -31,4 +29,4 @@ without_table (refused_by numbers) = refused_at numbers.number numbers.place
 
 -- the old answer is the new one without its table
 abbrev pub VerdictStays : Type 0
-VerdictStays = (v : Verdict) → verdict_before v ≡ without_table (told_verdict v)
+VerdictStays = (v : Result (Unit {0}) Refusal) → verdict_before v ≡ without_table (told_verdict v)

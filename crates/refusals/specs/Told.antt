@@ -1,10 +1,8 @@
 -- What document 01 calls an outcome, by its own numbers. "Where an answer is an enum, a definition sets out this paper's number and values for each of its cases."
 -- Assumes nothing.
-use Rattle.std.specs.Prelude.{ℕ, ◌≡◌}
+use Rattle.std.specs.Prelude.{ℕ, ◌≡◌, Result, Ok, Err}
 use Rattle.refusals.specs.declared.Reason.{Reason}
 use Rattle.refusals.specs.declared.Refusal.{Refusal}
-use Rattle.refusals.specs.declared.Verdict.{Verdict}
-use Rattle.refusals.specs.declared.Verdict.TheVariants.{Accepted, Refused}
 use Rattle.refusals.specs.Number.{number, read_table}
 
 -- a refusal in numbers: its own in the table of refusals, its bit place, and the table of codewords that was being read
@@ -29,9 +27,9 @@ abbrev pub refused : {A : Type 0} → ℕ → ℕ → Told A
 refused n place = refused_by (untabled n place)
 
 -- ---- a verdict: its acceptance has no value
-abbrev pub told_verdict : Verdict → Told (Unit {0})
-told_verdict Accepted = accepted tt
-told_verdict (Refused why) = refused_by (numbers_of why)
+abbrev pub told_verdict : Result (Unit {0}) Refusal → Told (Unit {0})
+told_verdict (Ok u) = accepted tt
+told_verdict (Err why) = refused_by (numbers_of why)
 
 -- the verdict alone, without what is given
 abbrev pub verdict_on : {A : Type 0} → Told A → Told (Unit {0})
@@ -51,4 +49,4 @@ abbrev pub RefusalToldOnce : Type 0
 RefusalToldOnce = (a b : Refusal) → numbers_of a ≡ numbers_of b → a ≡ b
 
 abbrev pub VerdictToldOnce : Type 0
-VerdictToldOnce = (a b : Verdict) → told_verdict a ≡ told_verdict b → a ≡ b
+VerdictToldOnce = (a b : Result (Unit {0}) Refusal) → told_verdict a ≡ told_verdict b → a ≡ b

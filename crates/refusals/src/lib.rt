@@ -1,7 +1,7 @@
 // Document 01's table of refusals: each reason by name, and the refusal with its bit place. A refusal is passed on unopened.
 #![tactic(auto)]
 
-ghost use Rattle.std.specs.Prelude.{◌≡◌};
+ghost use Rattle.std.specs.Prelude.{◌≡◌, Err};
 ghost use Rattle.refusals.specs.Number.{number, table_number, read_table, refusal};
 
 // The table of codewords that was being read: H.261's Tables 1 to 5, then H.263's.
@@ -53,25 +53,11 @@ pub struct Refusal {
     pub place: usize,
 }
 
-// The verdict of the rules on a picture.
-#[derive(Clone, Copy)]
-pub enum Verdict {
-    Accepted,
-    Refused(Refusal),
-}
-
-// What a writer answers: the number of bits, or the refusal.
-#[derive(Clone, Copy)]
-pub enum Written {
-    Bits(usize),
-    Refused(Refusal),
-}
-
 // Nothing is written, for this reason. Its place is 0.
-pub fn not_written(reason: Reason) -> Written
-    ensures { result ≡ Written.Refused (refusal reason 0) }
+pub fn not_written(reason: Reason) -> Result<usize, Refusal>
+    ensures { result ≡ Err (refusal reason 0) }
 {
-    Written::Refused(Refusal { reason, place: 0 })
+    Err(Refusal { reason, place: 0 })
 }
 
 // A refusal's number in the table, for programs that print it.

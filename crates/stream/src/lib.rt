@@ -15,7 +15,7 @@ ghost use Rattle.stream.specs.Fill.{ShortFill};
 
 use coding::Kind;
 use h261_groups::Format;
-use refusals::{Refusal, Verdict};
+use refusals::Refusal;
 
 // What has gone by of a stream.
 #[derive(Clone, Copy)]
@@ -370,19 +370,19 @@ fn read_unfilled(
     head: &mut [u8],
     macroblocks: &mut [u8],
     levels: &mut [u8],
-) -> Verdict
+) -> Result<(), Refusal>
     ensures verdict { told_verdict result ≡ verdict_on (unfilled format bytes.now ones (flat head.old macroblocks.old levels.old) (numbers_of why)) }
     ensures buffers { flat head.new macroblocks.new levels.new ≡ found_or (flat head.old macroblocks.old levels.old) (unfilled format bytes.now ones (flat head.old macroblocks.old levels.old) (numbers_of why)) }
 {
     if !among_zeros(why, ones) {
-        return Verdict::Refused(why);
+        return Err(why);
     }
     let kind = Kind::H261(format);
     let read = coding::read(kind, bytes, why.place, head, macroblocks, levels);
     let verdict = read.verdict;
     match verdict {
-        Verdict::Accepted => Verdict::Accepted,
-        Verdict::Refused(_second) => Verdict::Refused(why),
+        Ok(()) => Ok(()),
+        Err(_second) => Err(why),
     }
 }
 
@@ -395,7 +395,7 @@ fn read_whole(
     head: &mut [u8],
     macroblocks: &mut [u8],
     levels: &mut [u8],
-) -> Verdict
+) -> Result<(), Refusal>
     ensures verdict { told_verdict result ≡ verdict_on (filled_read format bytes.now count ones (flat head.old macroblocks.old levels.old)) }
     ensures buffers { flat head.new macroblocks.new levels.new ≡ found_or (flat head.old macroblocks.old levels.old) (filled_read format bytes.now count ones (flat head.old macroblocks.old levels.old)) }
 {
@@ -405,8 +405,8 @@ fn read_whole(
     let read = coding::read(kind, bytes, first, head, macroblocks, levels);
     let verdict = read.verdict;
     match verdict {
-        Verdict::Accepted => Verdict::Accepted,
-        Verdict::Refused(why) => read_unfilled(format, bytes, ones, why, head, macroblocks, levels),
+        Ok(()) => Ok(()),
+        Err(why) => read_unfilled(format, bytes, ones, why, head, macroblocks, levels),
     }
 }
 
@@ -443,7 +443,7 @@ pub fn read(
     head: &mut [u8],
     macroblocks: &mut [u8],
     levels: &mut [u8],
-) -> Verdict
+) -> Result<(), Refusal>
     ensures verdict { told_verdict result ≡ verdict_on (filled_read format bytes.now count ones (flat head.old macroblocks.old levels.old)) }
     ensures buffers { flat head.new macroblocks.new levels.new ≡ found_or (flat head.old macroblocks.old levels.old) (filled_read format bytes.now count ones (flat head.old macroblocks.old levels.old)) }
 {
@@ -454,9 +454,7 @@ pub fn read(
     let read = coding::read(kind, bytes, ones + 1, head, macroblocks, levels);
     let verdict = read.verdict;
     match verdict {
-        Verdict::Accepted => Verdict::Accepted,
-        Verdict::Refused(_first) => {
-            read_whole(format, bytes, count, ones, head, macroblocks, levels)
-        }
+        Ok(()) => Ok(()),
+        Err(_first) => { read_whole(format, bytes, count, ones, head, macroblocks, levels) }
     }
 }

@@ -44,7 +44,7 @@ fn say_got<O: Write>(stdout: &mut O, meaning: u64, next: usize) {
     say(stdout, b"\n");
 }
 
-fn say_field<O: Write>(stdout: &mut O, r: FieldRead) {
+fn say_field<O: Write>(stdout: &mut O, r: FieldRead<u32>) {
     match r {
         FieldRead::Got(v, p) => say_got(stdout, v as u64, p),
         FieldRead::Refused(x) => say_refused(stdout, x),

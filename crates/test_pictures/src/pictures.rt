@@ -4,7 +4,7 @@
 use crate::BEFORE;
 use checks::part;
 use coding::Kind;
-use refusals::{Refusal, Verdict};
+use refusals::Refusal;
 use std::io::{Read, Write};
 
 fn say_reads<O: Write>(stdout: &mut O, reads: usize) {
@@ -36,15 +36,15 @@ fn same_refusal(a: Refusal, b: Refusal) -> bool {
 }
 
 // Whether two verdicts are the same.
-fn agree(a: Verdict, b: Verdict) -> bool {
+fn agree(a: Result<(), Refusal>, b: Result<(), Refusal>) -> bool {
     match a {
-        Verdict::Accepted => match b {
-            Verdict::Accepted => true,
-            Verdict::Refused(_) => false,
+        Ok(()) => match b {
+            Ok(()) => true,
+            Err(_) => false,
         },
-        Verdict::Refused(why) => match b {
-            Verdict::Accepted => false,
-            Verdict::Refused(other) => same_refusal(why, other),
+        Err(why) => match b {
+            Ok(()) => false,
+            Err(other) => same_refusal(why, other),
         },
     }
 }
@@ -58,9 +58,9 @@ fn unchanged(head: &[u8], macroblocks: &[u8], levels: &[u8], store: &[u8]) -> bo
 
 fn say_verdict<O: Write>(
     stdout: &mut O,
-    verdict: Verdict,
+    verdict: Result<(), Refusal>,
     reads: usize,
-    decoded: Verdict,
+    decoded: Result<(), Refusal>,
     head: &[u8],
     macroblocks: &[u8],
     levels: &[u8],
@@ -71,8 +71,8 @@ fn say_verdict<O: Write>(
         return;
     }
     match verdict {
-        Verdict::Accepted => say_accepted(stdout, reads, head, macroblocks, levels, store),
-        Verdict::Refused(why) => {
+        Ok(()) => say_accepted(stdout, reads, head, macroblocks, levels, store),
+        Err(why) => {
             if unchanged(head, macroblocks, levels, store) {
                 checks::say_refusal(stdout, why);
                 say_reads(stdout, reads);

@@ -3,7 +3,6 @@
 use crate::BEFORE;
 use checks::{Description, part};
 use coding::Kind;
-use refusals::{Verdict, Written};
 use std::io::{Read, Write};
 
 // Whether the bits are read as this description, into lent scratch.
@@ -21,8 +20,8 @@ fn gives(
     let read = coding::read(kind, bytes, count, head_read, macroblocks_read, levels_read);
     let verdict = read.verdict;
     match verdict {
-        Verdict::Refused(_) => false,
-        Verdict::Accepted => {
+        Err(_) => false,
+        Ok(()) => {
             text::same(head, head_read)
                 && text::same(macroblocks, macroblocks_read)
                 && text::same(levels, levels_read)
@@ -67,7 +66,7 @@ fn say<O: Write>(
 ) {
     let written = coding::write(kind, head, macroblocks, levels, out);
     match written {
-        Written::Bits(count) => {
+        Ok(count) => {
             if reads_back(out, count, kind, head, macroblocks, levels) {
                 checks::say(stdout, b"written");
                 checks::say_number(stdout, count as u64);
@@ -77,7 +76,7 @@ fn say<O: Write>(
                 checks::say(stdout, b"not read back\n");
             }
         }
-        Written::Refused(why) => {
+        Err(why) => {
             checks::say_refusal(stdout, why);
             checks::say_check(stdout, out);
             checks::say(stdout, b"\n");

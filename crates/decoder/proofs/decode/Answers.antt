@@ -1,8 +1,8 @@
 -- `decoder::decode` meets its contract: the lengths are judged first, and there is no mark. Assumes nothing.
+use Rattle.std.specs.Prelude.{Ok, Err}
 use mathlib.Core.Path.{sym, ap, ◌∙◌}
 use lib.ListN.{length}
 use Rattle.size.specs.Size.{store_length}
-use Rattle.refusals.specs.declared.Verdict.TheVariants.{Accepted, Refused}
 use Rattle.refusals.specs.Number.{number, read_table}
 use Rattle.refusals.specs.Told.{verdict_on, found_or}
 use Rattle.decoder.specs.declared.Drawn.{Drawn}
@@ -31,14 +31,14 @@ pub returns-in-Picture : goal.returns-in-Picture
 returns-in-Picture c =
     let all = by_drawn c.args.kind c.args.bytes.now c.args.count c.args.reference.now (length c.args.store.now)
     (c.store_length-named.ensures ∙ ap store_length c.size_of-size.ensures)
-    c.if-reference-named.false c.if-store-named.false Accepted c.draw-drawn.result c.args.store.now _
+    c.if-reference-named.false c.if-store-named.false (Ok tt) c.draw-drawn.result c.args.store.now _
     (sym (ap (λ (x : Drawn). verdict_on (told_drawn x)) c.in-Picture.is)) c.draw-drawn.ensures.answer c.draw-drawn.ensures.samples in
     record { verdict = all.0; samples = all.1 }
 
-pub returns-in-Refused : goal.returns-in-Refused
-returns-in-Refused c =
+pub returns-in-Err : goal.returns-in-Err
+returns-in-Err c =
     let all = by_drawn c.args.kind c.args.bytes.now c.args.count c.args.reference.now (length c.args.store.now)
     (c.store_length-named.ensures ∙ ap store_length c.size_of-size.ensures)
-    c.if-reference-named.false c.if-store-named.false (Refused _) c.draw-drawn.result c.args.store.now _
+    c.if-reference-named.false c.if-store-named.false (Err _) c.draw-drawn.result c.args.store.now _
     (sym (ap (λ (x : Drawn). verdict_on (told_drawn x)) c.in-Refused.is)) c.draw-drawn.ensures.answer c.draw-drawn.ensures.samples in
     record { verdict = all.0; samples = all.1 }

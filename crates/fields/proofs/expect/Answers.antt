@@ -9,7 +9,7 @@ use Rattle.fields.proofs.expect.Goals as goal
 pub returns-in_default : goal.returns-in_default
 returns-in_default c =
     let read = number_once (once_field _) _ _ _ c.field.result c.once-read.ensures c.field.ensures in
-    rw (no_number _ _ c.once-read.result c.in_default.in_default-own.keys2 read) (ap refused c.number_stopped.ensures)
+    rw (no_number _ _ c.once-read.result c.in_default.is read) (ap refused c.stopped.ensures)
 
 pub returns-then-found-value : goal.returns-then-found-value
 returns-then-found-value c =

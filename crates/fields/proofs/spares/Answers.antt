@@ -11,9 +11,9 @@ use Rattle.fields.specs.Answer.{as_number}
 use Rattle.fields.proofs.Told.{no_number, is_number, number_once}
 use Rattle.fields.proofs.RuleTurn.{spares_first, spares-refused, spares-none, spares_at, spares_inside, spares_less, spares_more}
 use Rattle.fields.proofs.spares.Goals as goal
-use Rattle.fields.proofs.spares.Goals.{After-field-in-loop-bit, After-number_stopped, After-number_stopped-in_default-spare, Else-bit-eq0, In-Got-spare, Then-bit-eq0}
+use Rattle.fields.proofs.spares.Goals.{After-field-in-loop-bit, After-stopped, After-stopped-in_default-spare, Else-bit-eq0, In-Got-spare, Then-bit-eq0}
 
-more_read : (c : After-number_stopped) → as_number c.args.bytes.now c.args.count c.once-more.result
+more_read : (c : After-stopped) → as_number c.args.bytes.now c.args.count c.once-more.result
     ≡ field {P = counted} 1 (bits_left c.args.bytes.now c.args.count c.loop-bit.at.bit) c.loop-bit.at
 more_read c = number_once (once_field 1) _ _ _ c.field.result c.once-more.ensures c.field.ensures
 
@@ -43,15 +43,15 @@ more_got-at2 c = is_number _ _ _ _ _ (more_read-at4 c) c.in-Got.is
 more_placed-at2 : (c : After-field-in-loop-bit) → Placed c.args.bytes.now c.args.count c.in-Got.after
 more_placed-at2 c = spares_at c.loop-bit.invariant _ _ (more_got-at2 c)
 
-more_read-at5 : (c : After-number_stopped-in_default-spare) → as_number c.args.bytes.now c.args.count c.once-more.result
+more_read-at5 : (c : After-stopped-in_default-spare) → as_number c.args.bytes.now c.args.count c.once-more.result
     ≡ field {P = counted} 1 (bits_left c.args.bytes.now c.args.count c.loop-bit.at.bit) c.loop-bit.at
 more_read-at5 c = number_once (once_field 1) _ _ _ c.field.result c.once-more.ensures c.field.ensures
 
-more_got-at3 : (c : After-number_stopped-in_default-spare) → field {P = counted} 1 (bits_left c.args.bytes.now c.args.count c.loop-bit.at.bit) c.loop-bit.at
+more_got-at3 : (c : After-stopped-in_default-spare) → field {P = counted} 1 (bits_left c.args.bytes.now c.args.count c.loop-bit.at.bit) c.loop-bit.at
     ≡ got c.in-Got.bit (bits_left c.args.bytes.now c.args.count c.in-Got.after.bit) c.in-Got.after
 more_got-at3 c = is_number _ _ _ _ _ (more_read-at5 c) c.in-Got.is
 
-spare_read : (c : After-number_stopped-in_default-spare) → as_number c.args.bytes.now c.args.count c.once-spare.result
+spare_read : (c : After-stopped-in_default-spare) → as_number c.args.bytes.now c.args.count c.once-spare.result
     ≡ field {P = counted} 8 (bits_left c.args.bytes.now c.args.count c.in-Got.after.bit) c.in-Got.after
 spare_read c = number_once (once_field 8) _ _ _ c.field-in-loop-bit.result c.once-spare.ensures c.field-in-loop-bit.ensures
 
@@ -78,8 +78,8 @@ once-more-requires c = let l = c.loop-bit.invariant.placed.countable in omega ar
 
 pub returns-in_default : goal.returns-in_default
 returns-in_default c =
-    ap refused c.number_stopped.ensures
-    ∙ spares-refused c.loop-bit.invariant _ (no_number _ _ c.once-more.result c.in_default.in_default-own.keys2 (more_read c))
+    ap refused c.stopped.ensures
+    ∙ spares-refused c.loop-bit.invariant _ (no_number _ _ c.once-more.result c.in_default.is (more_read c))
 
 pub returns-then-bit-eq0 : goal.returns-then-bit-eq0
 returns-then-bit-eq0 c =
@@ -93,9 +93,9 @@ once-spare-requires c = let l = (more_placed-at2 c).countable in omega arith
 
 pub returns-in_default-spare : goal.returns-in_default-spare
 returns-in_default-spare c =
-    ap refused c.number_stopped-in_default-spare.ensures
+    ap refused c.stopped-in_default-spare.ensures
     ∙ spares_inside c.loop-bit.invariant _ _ (more_got-at3 c) c.if-bit-eq0.false _
-    (no_number _ _ c.once-spare.result c.in_default-spare.in_default-spare-own.keys2 (spare_read c))
+    (no_number _ _ c.once-spare.result c.in_default-spare.is (spare_read c))
 
 pub loop-bit-smaller : goal.loop-bit-smaller
 loop-bit-smaller c =

@@ -53,8 +53,8 @@ pub returns-in_default : goal.returns-in_default
 returns-in_default c =
     let all = refused_blank c.args.format _ _
     (described_no_header _ _ _ c.count_above.result (above_is-at3 c) c.if-count_above.false c.header-opened.result c.header-opened.ensures
-    c.in_default.in_default-own.keys2)
-    (c.refused_picture.ensures ∙ ap refused_picture c.pair_stopped.ensures) c.requires in
+    c.in_default.is)
+    (c.refused_picture.ensures ∙ ap refused_picture c.stopped.ensures) c.requires in
     record { verdict = all.0; buffers = all.1.0; reads = all.1.1 }
 
 pub bounds-head-0 : goal.bounds-head-0
@@ -83,8 +83,8 @@ returns-in_default-read c =
     let long = zeros_lengths (shape c.args.format) c.requires in
     let laid = groups_described _ _ _ _ (above_is-at5 c) c.if-count_above.false c.header-opened.result c.header-opened.ensures c.in-Got.is
     c.bit.ensures c.requires c.groups-read.ensures in
-    let all = refused_blank c.args.format _ _ (no_place _ _ _ c.groups-read.result c.in_default-read.in_default-read-own.keys2 laid)
-    (c.refused_picture-in_default-read.ensures ∙ ap refused_picture c.place_stopped.ensures)
+    let all = refused_blank c.args.format _ _ (no_place _ _ _ c.groups-read.result c.in_default-read.is laid)
+    (c.refused_picture-in_default-read.ensures ∙ ap refused_picture c.stopped-in_default-read.ensures)
     (zeros-flat (shape c.args.format) c.clear.ensures (c.groups-read.auto.head ∙ simp length-set long.head_length) c.clear-in_default-read.ensures
     (c.groups-read.auto.macroblocks ∙ long.macroblocks_length) c.clear-in_default-read-2.ensures (c.groups-read.auto.levels ∙ long.levels_length)) in
     record { verdict = all.0; buffers = all.1.0; reads = all.1.1 }
@@ -93,5 +93,5 @@ pub returns : goal.returns
 returns c =
     let laid = groups_described _ _ _ _ (above_is-at6 c) c.if-count_above.false c.header-opened.result c.header-opened.ensures c.in-Got.is
     c.bit.ensures c.requires c.groups-read.ensures in
-    let all = read_laid c.args.format _ _ c.groups-read.result _ laid _ c.in-At.is in
+    let all = read_laid c.args.format _ _ c.groups-read.result _ laid _ c.in-Got-read.is in
     record { verdict = all.0; buffers = all.1.0; reads = all.1.1 }

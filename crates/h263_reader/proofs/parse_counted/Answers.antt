@@ -53,8 +53,8 @@ returns-in_default c =
     let long = zeros_lengths (shape c.args.size) c.requires in
     let described = described-header c.args.size c.args.bytes.now c.args.count c.count_above.result (above_is-at4 c) c.if-count_above.false c.header-opened.result
     c.header-opened.ensures _ _ c.in-Got.is in
-    let all = refused_blank c.args.size _ _ (no_place _ _ _ c.laid-read.result c.in_default.in_default-own.keys2 (c.laid-read.ensures ∙ sym described))
-    (c.refused_picture-in_default.ensures ∙ ap refused_picture c.place_stopped.ensures)
+    let all = refused_blank c.args.size _ _ (no_place _ _ _ c.laid-read.result c.in_default.is (c.laid-read.ensures ∙ sym described))
+    (c.refused_picture-in_default.ensures ∙ ap refused_picture c.stopped.ensures)
     (zeros-flat (shape c.args.size) c.clear.ensures (c.laid-read.auto.head ∙ long.head_length) c.clear-in_default.ensures
     (c.laid-read.auto.macroblocks ∙ long.macroblocks_length) c.clear-in_default-2.ensures (c.laid-read.auto.levels ∙ long.levels_length)) in
     record { verdict = all.0; buffers = all.1.0; reads = all.1.1 }
@@ -67,9 +67,9 @@ returns-in-Refused c =
     c.refused_picture.ensures c.requires in
     record { verdict = all.0; buffers = all.1.0; reads = all.1.1 }
 
-pub returns-in-At : goal.returns-in-At
-returns-in-At c =
+pub returns-in-Got : goal.returns-in-At
+returns-in-Got c =
     let described = described-header c.args.size c.args.bytes.now c.args.count c.count_above.result (above_is-at6 c) c.if-count_above.false c.header-opened.result
     c.header-opened.ensures _ _ c.in-Got.is in
-    let all = read_laid c.args.size _ _ c.laid-read.result _ (c.laid-read.ensures ∙ sym described) _ c.in-At.is in
+    let all = read_laid c.args.size _ _ c.laid-read.result _ (c.laid-read.ensures ∙ sym described) _ c.in-Got-read.is in
     record { verdict = all.0; buffers = all.1.0; reads = all.1.1 }

@@ -51,4 +51,4 @@ pub returns-in-Length : goal.returns-in-Length
 returns-in-Length c = is_one c.in-Length.is
 
 pub returns-in_default : goal.returns-in_default
-returns-in_default c = not_one c.args.reason (opened c.in_default.in_default-own.keys2)
+returns-in_default c = not_one c.args.reason (opened c.in_default.is)

@@ -4,7 +4,7 @@ use native.Mathlib.Omega.{arith}
 use lib.ListN.{length-set}
 use Rattle.h261_words.specs.Answer.{as_coefficient}
 use Rattle.fields.specs.Answer.{leaving}
-use Rattle.fields.specs.declared.PlaceRead.{PlaceRead}
+use Rattle.fields.specs.declared.CountedRead.{CountedRead}
 use Rattle.h261_layers.proofs.CoefficientsTurn.{coefficients_first, coefficients_end, coefficients_past, coefficients_next, coefficients_more}
 use borrow.Enum.Refused.{opened}
 use Rattle.h261_layers.proofs.block.coefficients.Goals as goal
@@ -21,8 +21,8 @@ overflow_add-reads c = let l = c.loop-run.invariant.1.placed.countable in omega 
 
 pub returns-in_default : goal.returns-in_default
 returns-in_default c =
-    ap (λ (r : PlaceRead). leaving c.args.bytes.now c.args.count r c.loop-run.levels) c.block_end.ensures
-    ∙ coefficients_end c.loop-run.invariant.1 c.coefficient-read.result (opened c.in_default.in_default-own.keys2) c.coefficient-read.ensures
+    ap (λ (r : CountedRead (Unit {0})). leaving c.args.bytes.now c.args.count r c.loop-run.levels) c.block_end.ensures
+    ∙ coefficients_end c.loop-run.invariant.1 c.coefficient-read.result (opened c.in_default.is) c.coefficient-read.ensures
 
 pub returns-then-end-to : goal.returns-then-end-to
 returns-then-end-to c =

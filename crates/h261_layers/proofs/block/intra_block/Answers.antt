@@ -14,9 +14,9 @@ use Rattle.h261_layers.proofs.IntraSteps.{intra_refused, intra_forbidden, intra_
 use Rattle.fields.specs.Answer.{as_number}
 use borrow.Author.Rules.{rules}
 use Rattle.h261_layers.proofs.block.intra_block.Goals as goal
-use Rattle.h261_layers.proofs.block.intra_block.Goals.{After-coefficients-arg-1, After-number_stopped, After-slice_known-2-1, Else-code-eq0, Then-code-eq0}
+use Rattle.h261_layers.proofs.block.intra_block.Goals.{After-coefficients-arg-1, After-stopped, After-slice_known-2-1, Else-code-eq0, Then-code-eq0}
 
-code_read : (c : After-number_stopped) → as_number c.args.bytes.now c.args.count c.once-read.result ≡ field {P = counted} 8 (bits_left c.args.bytes.now c.args.count c.args.at.bit) c.args.at
+code_read : (c : After-stopped) → as_number c.args.bytes.now c.args.count c.once-read.result ≡ field {P = counted} 8 (bits_left c.args.bytes.now c.args.count c.args.at.bit) c.args.at
 code_read c = number_once (once_field 8) _ _ _ c.field.result c.once-read.ensures c.field.ensures
 
 code_read-at2 : (c : Then-code-eq0) → as_number c.args.bytes.now c.args.count c.once-read.result ≡ field {P = counted} 8 (bits_left c.args.bytes.now c.args.count c.args.at.bit) c.args.at
@@ -61,7 +61,7 @@ once-read-requires c = let l = c.requires.0.placed.countable in omega arith
 
 pub returns-in_default : goal.returns-in_default
 returns-in_default c =
-    ap refused c.number_stopped.ensures ∙ intra_refused _ _ _ _ _ (no_number _ _ c.once-read.result c.in_default.in_default-own.keys2 (code_read c))
+    ap refused c.stopped.ensures ∙ intra_refused _ _ _ _ _ (no_number _ _ c.once-read.result c.in_default.is (code_read c))
 
 pub returns-then-code-eq0 : goal.returns-then-code-eq0
 returns-then-code-eq0 c = intra_forbidden _ _ _ _ _ _ _ (code c) (small c) c.if-code-eq0.true

@@ -14,19 +14,19 @@ use Rattle.bit_reader.specs.Reader.{reader_over, reader_bits, reader_past, place
 use Rattle.bit_reader.specs.declared.BitReader.{BitReader}
 use Rattle.fields.specs.Answer.{place_of, leaving}
 use Rattle.fields.specs.Rules.{spares}
-use Rattle.fields.specs.declared.PlaceRead.{PlaceRead}
+use Rattle.fields.specs.declared.CountedRead.{CountedRead}
 use Rattle.fields.proofs.HeaderRow.{After, after_field, field_below}
 use Rattle.h261_layers.specs.Answer.{as_header}
 use Rattle.h261_layers.proofs.HeaderOf.{header_read, spare_placed, spare_counted, spare_within}
 use Rattle.h261_layers.proofs.head.header.Goals as goal
 
 -- a field that was read, and the reader after it
-record Go (s : Bor (List ℕ)) (n p k : ℕ) (x : FieldRead) (r : BitReader) : Type 0 where
+record Go (s : Bor (List ℕ)) (n p k : ℕ) (x : FieldRead ℕ) (r : BitReader) : Type 0 where
   is_read : as_field s.now n x ≡ field k (bits_left s.now n p) p
   after : After s.now n p (place_after n x)
   over : r ≡ reader_over s n (place_after n x)
 
-go : (s : Bor (List ℕ)) (n p k : ℕ) (x : FieldRead) (r q : BitReader) → Within s.now n p → r ≡ reader_over s n p
+go : (s : Bor (List ℕ)) (n p k : ℕ) (x : FieldRead ℕ) (r q : BitReader) → Within s.now n p → r ≡ reader_over s n p
     → as_field r.bytes.now r.count x ≡ field k (reader_bits r) r.place → q ≡ reader_past r x → Go s n p k x q
 go s n p k x r q w e h past =
     let is : as_field s.now n x ≡ field k (bits_left s.now n p) p = subst (λ (z : BitReader). as_field z.bytes.now z.count x ≡ field k (reader_bits z) z.place) e h in
@@ -38,11 +38,11 @@ over_inside s n p r e w = rw e w
 over_placed : (s : Bor (List ℕ)) (n p : ℕ) (r : BitReader) → r ≡ reader_over s n p → Placed s.now n (place_of p 3) → Placed r.bytes.now r.count (place_of r.place 3)
 over_placed s n p r e w = rw e w
 
-over_spares : (s : Bor (List ℕ)) (n p : ℕ) (r : BitReader) (x : PlaceRead) → r ≡ reader_over s n p
+over_spares : (s : Bor (List ℕ)) (n p : ℕ) (r : BitReader) (x : CountedRead (Unit {0})) → r ≡ reader_over s n p
     → leaving r.bytes.now r.count x 0 ≡ spares (reader_bits r) (place_of r.place 3) → leaving s.now n x 0 ≡ spares (bits_left s.now n p) (place_of p 3)
 over_spares s n p r x e h = subst (λ (z : BitReader). leaving z.bytes.now z.count x 0 ≡ spares (reader_bits z) (place_of z.place 3)) e h
 
-over_field : (s : Bor (List ℕ)) (n p k : ℕ) (r : BitReader) (x : FieldRead) → r ≡ reader_over s n p
+over_field : (s : Bor (List ℕ)) (n p k : ℕ) (r : BitReader) (x : FieldRead ℕ) → r ≡ reader_over s n p
     → as_field r.bytes.now r.count x ≡ field k (reader_bits r) r.place → as_field s.now n x ≡ field k (bits_left s.now n p) p
 over_field s n p k r x e h = subst (λ (z : BitReader). as_field z.bytes.now z.count x ≡ field k (reader_bits z) z.place) e h
 

@@ -11,9 +11,9 @@ use Rattle.fields.specs.Answer.{as_number}
 use Rattle.fields.proofs.Told.{no_number, is_number, number_once}
 use Rattle.h261_layers.proofs.MacroblockSteps.{mba-refused, mba-stuffed, mba_start_last, mba_start, mba_past, mba-step}
 use Rattle.h261_layers.proofs.macroblock.mba_word.Goals as goal
-use Rattle.h261_layers.proofs.macroblock.mba_word.Goals.{After-number_stopped, Else-address-step-gt33, Else-last, Then-address-step-gt33, Then-last, Then-meaning-eq34}
+use Rattle.h261_layers.proofs.macroblock.mba_word.Goals.{After-stopped, Else-address-step-gt33, Else-last, Then-address-step-gt33, Then-last, Then-meaning-eq34}
 
-mba_read : (c : After-number_stopped) → as_number c.args.bytes.now c.args.count c.once-read.result ≡ word {P = counted} table1 (bits_left c.args.bytes.now c.args.count c.args.at.bit) c.args.at
+mba_read : (c : After-stopped) → as_number c.args.bytes.now c.args.count c.once-read.result ≡ word {P = counted} table1 (bits_left c.args.bytes.now c.args.count c.args.at.bit) c.args.at
 mba_read c = number_once (once_word table1) _ _ _ c.mba.result c.once-read.ensures c.mba.ensures
 
 mba_read-at2 : (c : Then-meaning-eq34) → as_number c.args.bytes.now c.args.count c.once-read.result ≡ word {P = counted} table1 (bits_left c.args.bytes.now c.args.count c.args.at.bit) c.args.at
@@ -59,8 +59,8 @@ once-read-requires c = let l = c.requires.0.placed.countable in omega arith
 
 pub returns-in_default : goal.returns-in_default
 returns-in_default c =
-    ap refused c.number_stopped.ensures
-    ∙ mba-refused c.args.last c.args.address _ _ _ (no_number _ _ c.once-read.result c.in_default.in_default-own.keys2 (mba_read c))
+    ap refused c.stopped.ensures
+    ∙ mba-refused c.args.last c.args.address _ _ _ (no_number _ _ c.once-read.result c.in_default.is (mba_read c))
 
 pub returns-then-meaning-eq34 : goal.returns-then-meaning-eq34
 returns-then-meaning-eq34 c = mba-stuffed c.args.last c.args.address _ _ _ _ _ (found c) c.if-meaning-eq34.true

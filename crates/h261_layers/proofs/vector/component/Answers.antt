@@ -12,9 +12,9 @@ use Rattle.fields.proofs.Told.{no_number, is_number, number_once}
 use Rattle.h261_words.specs.Tables.{table3}
 use Rattle.h261_layers.proofs.VectorSteps.{component-refused, component_out, component_in, pair_below}
 use Rattle.h261_layers.proofs.vector.component.Goals as goal
-use Rattle.h261_layers.proofs.vector.component.Goals.{After-number_stopped, In-Got}
+use Rattle.h261_layers.proofs.vector.component.Goals.{After-stopped, In-Got}
 
-pair_read : (c : After-number_stopped) → as_number c.args.bytes.now c.args.count c.once-read.result ≡ word {P = counted} table3 (bits_left c.args.bytes.now c.args.count c.args.at.bit) c.args.at
+pair_read : (c : After-stopped) → as_number c.args.bytes.now c.args.count c.once-read.result ≡ word {P = counted} table3 (bits_left c.args.bytes.now c.args.count c.args.at.bit) c.args.at
 pair_read c = number_once (once_word table3) _ _ _ c.mvd.result c.once-read.ensures c.mvd.ensures
 
 pair_read-at2 : (c : In-Got) → as_number c.args.bytes.now c.args.count c.once-read.result ≡ word {P = counted} table3 (bits_left c.args.bytes.now c.args.count c.args.at.bit) c.args.at
@@ -35,8 +35,8 @@ once-read-requires c = let l = c.requires.0.placed.countable in omega arith
 
 pub returns-in_default : goal.returns-in_default
 returns-in_default c =
-    ap refused c.number_stopped.ensures
-    ∙ component-refused _ c.requires.1 _ _ _ (no_number _ _ c.once-read.result c.in_default.in_default-own.keys2 (pair_read c))
+    ap refused c.stopped.ensures
+    ∙ component-refused _ c.requires.1 _ _ _ (no_number _ _ c.once-read.result c.in_default.is (pair_read c))
 
 pub overflow_add-landed : goal.overflow_add-landed
 overflow_add-landed c = omega (arith, below c, c.requires.1.high)

@@ -12,15 +12,15 @@ use Rattle.h261_layers.specs.Vector.{component_read, components_read}
 use Rattle.h261_layers.proofs.Layers.{component_reads}
 use Rattle.h261_layers.proofs.VectorSteps.{components_begun, after_first, vector_refused, BothRead, vector_left, vector_right, vector_above, vector_below, vector_inside, component_kept}
 use Rattle.h261_layers.proofs.vector.vector.Goals as goal
-use Rattle.h261_layers.proofs.vector.vector.Goals.{After-number_stopped, After-number_stopped-in_default-second, In-Got, In-Got-second}
+use Rattle.h261_layers.proofs.vector.vector.Goals.{After-stopped, After-stopped-in_default-second, In-Got, In-Got-second}
 
-abbrev preceding : (s : After-number_stopped) → Vector
+abbrev preceding : (s : After-stopped) → Vector
 preceding s = vector_of s.args.horizontal s.args.vertical
 
-abbrev To : (s : After-number_stopped) → ReaderIn counted Vector → Place → Type 0
+abbrev To : (s : After-stopped) → ReaderIn counted Vector → Place → Type 0
 To s rest p = Row (components_read (preceding s) (bits_left s.args.bytes.now s.args.count s.args.at.bit) s.args.at) s.args.bytes.now s.args.count rest p
 
-begun : (s : After-number_stopped) → To s (component_read (component_of s.args.horizontal) >>= after_first (preceding s)) s.args.at
+begun : (s : After-stopped) → To s (component_read (component_of s.args.horizontal) >>= after_first (preceding s)) s.args.at
 begun s = components_begun (preceding s) s.args.bytes.now s.args.count s.args.at s.requires.0.placed
 
 abbrev preceding-at2 : (s : In-Got) → Vector
@@ -37,7 +37,7 @@ first c =
     row_meant component_of (λ P. component_read (component_of c.args.horizontal)) (after_first (preceding-at2 c)) (begun-at2 c) (component_reads _)
     c.component-first.ensures c.in-Got.is
 
-abbrev preceding-at3 : (s : After-number_stopped-in_default-second) → Vector
+abbrev preceding-at3 : (s : After-stopped-in_default-second) → Vector
 preceding-at3 s = vector_of s.args.horizontal s.args.vertical
 
 abbrev preceding-at4 : (s : In-Got-second) → Vector
@@ -70,8 +70,8 @@ component-first-requires c = (c.requires.0, c.requires.1.horizontally)
 pub returns-in_default : goal.returns-in_default
 returns-in_default c =
     vector_refused c.args.format c.args.number c.args.address (preceding c) _ _ _
-    (row_no_meant component_of (λ P. component_read (component_of c.args.horizontal)) (after_first (preceding c)) (begun c) c.component-first.result c.in_default.in_default-own.keys2
-    c.component-first.ensures c.number_stopped.ensures)
+    (row_no_meant component_of (λ P. component_read (component_of c.args.horizontal)) (after_first (preceding c)) (begun c) c.component-first.result c.in_default.is
+    c.component-first.ensures c.stopped.ensures)
 
 pub component-second-requires : goal.component-second-requires
 component-second-requires c = (record { tabled = c.requires.0.tabled; placed = (first c).placed }, c.requires.1.vertically)
@@ -80,7 +80,7 @@ pub returns-in_default-second : goal.returns-in_default-second
 returns-in_default-second c =
     vector_refused c.args.format c.args.number c.args.address (preceding-at3 c) _ _ _
     (row_no_meant component_of (λ P. component_read (component_of c.args.vertical)) (λ v. done (record { horizontal = component_of c.in-Got.across; vertical = v })) (first (goal.at.returns-in_default-second c).In-Got)
-    c.component-second.result c.in_default-second.in_default-second-own.keys2 c.component-second.ensures c.number_stopped-in_default-second.ensures)
+    c.component-second.result c.in_default-second.is c.component-second.ensures c.stopped-in_default-second.ensures)
 
 pub column-requires : goal.column-requires
 column-requires c = c.requires.1.addressed

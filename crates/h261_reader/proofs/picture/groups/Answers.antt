@@ -69,16 +69,16 @@ left c =
       | then-picture-test+in_default w ↦
           left_as
           (out_head lengths picture.invariant picture.place _ _ (less c w.picture-test.true) w.group_number-number.ensures
-          (no_number _ _ w.group_head-opened.result w.in_default.in_default-own.keys2 w.group_head-opened.ensures))
-          w.head-is w.macroblocks-is w.levels-is w.place-is (w.stopped-is ∙ w.number_stopped-stopped.ensures)
+          (no_number _ _ w.group_head-opened.result w.in_default.is w.group_head-opened.ensures))
+          w.head-is w.macroblocks-is w.levels-is w.place-is (w.stopped-is ∙ w.stopped-stopped.ensures)
       | then-picture-test+in-Got+in-Step+in_default-read w ↦
           left_as
           (out_inside lengths picture.invariant _ _ _ _ _ _ _ (less c w.picture-test.true) w.group_number-number.ensures
           (is_number _ _ _ _ _ w.group_head-opened.ensures w.in-Got.is)
           (w.macroblock-read.auto.macroblocks ∙ w.group.invariant.ms_long) (w.macroblock-read.auto.levels ∙ w.group.invariant.ls_long)
           (group_no_macroblock w.group.invariant w.mba-found.result _ _ (last_found bytes _ w.mba-found.result picture.group _ _ _ _ _ w.mba-found.ensures counted)
-          w.in-Step.is w.macroblock-read.result _ _ w.macroblock-read.ensures w.in_default-read.in_default-read-own.keys2))
-          w.head-is w.macroblocks-is w.levels-is w.place-is (w.stopped-is ∙ w.macroblock_stopped-stopped.ensures)
+          w.in-Step.is w.macroblock-read.result _ _ w.macroblock-read.ensures w.in_default-read.is))
+          w.head-is w.macroblocks-is w.levels-is w.place-is (w.stopped-is ∙ w.stopped-stopped.ensures)
       | then-picture-test+in-Got+in-Refused w ↦
           left_as
           (out_inside lengths picture.invariant _ _ _ _ _ _ _ (less c w.picture-test.true) w.group_number-number.ensures
@@ -105,16 +105,16 @@ left_at2 c =
       | then-picture-test+in_default w ↦
           left_as
           (out_head lengths picture.invariant picture.place _ _ (less_at2 c w.picture-test.true) w.group_number-number.ensures
-          (no_number _ _ w.group_head-opened.result w.in_default.in_default-own.keys2 w.group_head-opened.ensures))
-          w.head-is w.macroblocks-is w.levels-is w.place-is (w.stopped-is ∙ w.number_stopped-stopped.ensures)
+          (no_number _ _ w.group_head-opened.result w.in_default.is w.group_head-opened.ensures))
+          w.head-is w.macroblocks-is w.levels-is w.place-is (w.stopped-is ∙ w.stopped-stopped.ensures)
       | then-picture-test+in-Got+in-Step+in_default-read w ↦
           left_as
           (out_inside lengths picture.invariant _ _ _ _ _ _ _ (less_at2 c w.picture-test.true) w.group_number-number.ensures
           (is_number _ _ _ _ _ w.group_head-opened.ensures w.in-Got.is)
           (w.macroblock-read.auto.macroblocks ∙ w.group.invariant.ms_long) (w.macroblock-read.auto.levels ∙ w.group.invariant.ls_long)
           (group_no_macroblock w.group.invariant w.mba-found.result _ _ (last_found bytes _ w.mba-found.result picture.group _ _ _ _ _ w.mba-found.ensures counted)
-          w.in-Step.is w.macroblock-read.result _ _ w.macroblock-read.ensures w.in_default-read.in_default-read-own.keys2))
-          w.head-is w.macroblocks-is w.levels-is w.place-is (w.stopped-is ∙ w.macroblock_stopped-stopped.ensures)
+          w.in-Step.is w.macroblock-read.result _ _ w.macroblock-read.ensures w.in_default-read.is))
+          w.head-is w.macroblocks-is w.levels-is w.place-is (w.stopped-is ∙ w.stopped-stopped.ensures)
       | then-picture-test+in-Got+in-Refused w ↦
           left_as
           (out_inside lengths picture.invariant _ _ _ _ _ _ _ (less_at2 c w.picture-test.true) w.group_number-number.ensures
@@ -180,8 +180,8 @@ macroblock-read-requires c =
       },
     )
 
-pub macroblock_stopped-stopped-requires : goal.macroblock_stopped-stopped-requires
-macroblock_stopped-stopped-requires c = search rules
+pub stopped-stopped-requires : goal.macroblock_stopped-stopped-requires
+stopped-stopped-requires c = search rules
 
 pub group-smaller-in-Step : goal.group-smaller-in-Step
 group-smaller-in-Step c =

@@ -17,14 +17,14 @@ one_block-read-requires c = (
 
 pub returns-in_default : goal.returns-in_default
 returns-in_default c =
-    ap refused c.place_stopped.ensures
+    ap refused c.stopped.ensures
     ∙ blocks_refused c.loop-b.invariant c.loop-b-test.true _
-    (sym (no_place _ _ _ c.one_block-read.result c.in_default.in_default-own.keys2 c.one_block-read.ensures))
+    (sym (no_place _ _ _ c.one_block-read.result c.in_default.is c.one_block-read.ensures))
 
 pub loop-b-preserved : goal.loop-b-preserved
 loop-b-preserved c =
     blocks_more c.loop-b.invariant c.loop-b-test.true _ _
-    (sym (is_place _ _ _ _ _ c.one_block-read.ensures c.in-At.is)) c.one_block-read.auto.levels
+    (sym (is_place _ _ _ _ _ c.one_block-read.ensures c.in-Got.is)) c.one_block-read.auto.levels
 
 pub returns : goal.returns
 returns c = blocks_done c.loop-b.invariant c.loop-b-test.false

@@ -15,7 +15,7 @@ use Rattle.h263_layers.specs.Start.{stands, ahead}
 use Rattle.h263_layers.specs.Grammar.{head_fields, group_head}
 use Rattle.h263_layers.proofs.HeadSteps.{told_absent, told_cut, told_stands, head_absent, head_cut, head_alone, stuffed_begun, some_bits, stuffing_short}
 use Rattle.h263_layers.proofs.head.group_head.Goals as goal
-use Rattle.h263_layers.proofs.head.group_head.Goals.{After-head_fields, After-number_stopped, Else-gstuf-eq0, In-Got}
+use Rattle.h263_layers.proofs.head.group_head.Goals.{After-head_fields, After-stopped, Else-gstuf-eq0, In-Got}
 
 standing : (c : After-head_fields) → stands c.in-Stands.gstuf ≡ ahead (bits_left c.args.bytes.now c.args.count c.args.at.bit) c.args.at.bit
 standing c = told_stands _ _ c.ahead_at.ensures c.in-Stands.is
@@ -32,7 +32,7 @@ To s rest p = Row (group_head s.args.number (bits_left s.args.bytes.now s.args.c
 begun : (c : Else-gstuf-eq0) → To c (field c.in-Stands.gstuf >>= λ dropped. head_fields c.args.number) c.args.at
 begun c = stuffed_begun _ _ _ _ _ c.requires (standing-at2 c) c.if-gstuf-eq0.false
 
-dropped_read : (c : After-number_stopped) → as_number c.args.bytes.now c.args.count c.once-dropped.result ≡ field {P = counted} c.in-Stands.gstuf (bits_left c.args.bytes.now c.args.count c.args.at.bit) c.args.at
+dropped_read : (c : After-stopped) → as_number c.args.bytes.now c.args.count c.once-dropped.result ≡ field {P = counted} c.in-Stands.gstuf (bits_left c.args.bytes.now c.args.count c.args.at.bit) c.args.at
 dropped_read c = number_once (once_field c.in-Stands.gstuf) _ _ _ c.field.result c.once-dropped.ensures c.field.ensures
 
 abbrev To-at2 : (s : In-Got) → ReaderIn counted ℕ → Place → Type 0
@@ -69,8 +69,8 @@ once-dropped-requires c = let l = c.requires.countable in omega arith
 
 pub returns-in_default : goal.returns-in_default
 returns-in_default c =
-    row_no_number (λ P. field c.in-Stands.gstuf) (λ dropped. head_fields c.args.number) (begun (goal.at.returns-in_default c).Else-gstuf-eq0) c.once-dropped.result c.in_default.in_default-own.keys2
-    (dropped_read c) c.number_stopped.ensures
+    row_no_number (λ P. field c.in-Stands.gstuf) (λ dropped. head_fields c.args.number) (begun (goal.at.returns-in_default c).Else-gstuf-eq0) c.once-dropped.result c.in_default.is
+    (dropped_read c) c.stopped.ensures
 
 pub head_fields-requires-in-Stands : goal.head_fields-requires-in-Stands
 head_fields-requires-in-Stands c = (dropped c).placed

@@ -19,15 +19,15 @@ use Rattle.fields.proofs.Told.{number_once}
 use Rattle.h263_layers.specs.Grammar.{head_fields}
 use Rattle.h263_layers.proofs.HeadSteps.{fields_begun, after_start, after_number}
 use Rattle.h263_layers.proofs.head.head_fields.Goals as goal
-use Rattle.h263_layers.proofs.head.head_fields.Goals.{After-number_stopped, After-number_stopped-in_default-framed, In-At, In-Got, In-Got-framed}
+use Rattle.h263_layers.proofs.head.head_fields.Goals.{After-stopped, After-stopped-in_default-framed, In-Got-named, In-Got, In-Got-framed}
 
-abbrev To : (s : After-number_stopped) → ReaderIn counted ℕ → Place → Type 0
+abbrev To : (s : After-stopped) → ReaderIn counted ℕ → Place → Type 0
 To s rest p = Row (head_fields s.args.number (bits_left s.args.bytes.now s.args.count s.args.at.bit) s.args.at) s.args.bytes.now s.args.count rest p
 
-begun : (s : After-number_stopped) → To s (field 17 >>= λ gbsc. after_start s.args.number) s.args.at
+begun : (s : After-stopped) → To s (field 17 >>= λ gbsc. after_start s.args.number) s.args.at
 begun s = fields_begun s.args.number s.args.bytes.now s.args.count s.args.at s.requires
 
-start_read : (c : After-number_stopped) → as_number c.args.bytes.now c.args.count c.once-started.result ≡ field {P = counted} 17 (bits_left c.args.bytes.now c.args.count c.args.at.bit) c.args.at
+start_read : (c : After-stopped) → as_number c.args.bytes.now c.args.count c.once-started.result ≡ field {P = counted} 17 (bits_left c.args.bytes.now c.args.count c.args.at.bit) c.args.at
 start_read c = number_once (once_field 17) _ _ _ c.field.result c.once-started.ensures c.field.ensures
 
 abbrev To-at2 : (s : In-Got) → ReaderIn counted ℕ → Place → Type 0
@@ -43,26 +43,26 @@ started : (c : In-Got) → To-at2 c (after_start c.args.number) c.in-Got.after_s
 started c =
     row_number (λ P. field 17) (λ gbsc. after_start c.args.number) (begun-at2 c) (reads_field 17 tt) (start_read-at2 c) c.in-Got.is
 
-abbrev To-at3 : (s : In-At) → ReaderIn counted ℕ → Place → Type 0
+abbrev To-at3 : (s : In-Got-named) → ReaderIn counted ℕ → Place → Type 0
 To-at3 s rest p = Row (head_fields s.args.number (bits_left s.args.bytes.now s.args.count s.args.at.bit) s.args.at) s.args.bytes.now s.args.count rest p
 
-begun-at3 : (s : In-At) → To-at3 s (field 17 >>= λ gbsc. after_start s.args.number) s.args.at
+begun-at3 : (s : In-Got-named) → To-at3 s (field 17 >>= λ gbsc. after_start s.args.number) s.args.at
 begun-at3 s = fields_begun s.args.number s.args.bytes.now s.args.count s.args.at s.requires
 
-start_read-at3 : (c : In-At) → as_number c.args.bytes.now c.args.count c.once-started.result ≡ field {P = counted} 17 (bits_left c.args.bytes.now c.args.count c.args.at.bit) c.args.at
+start_read-at3 : (c : In-Got-named) → as_number c.args.bytes.now c.args.count c.once-started.result ≡ field {P = counted} 17 (bits_left c.args.bytes.now c.args.count c.args.at.bit) c.args.at
 start_read-at3 c = number_once (once_field 17) _ _ _ c.field.result c.once-started.ensures c.field.ensures
 
-started-at2 : (c : In-At) → To-at3 c (after_start c.args.number) c.in-Got.after_start
+started-at2 : (c : In-Got-named) → To-at3 c (after_start c.args.number) c.in-Got.after_start
 started-at2 c =
     row_number (λ P. field 17) (λ gbsc. after_start c.args.number) (begun-at3 c) (reads_field 17 tt) (start_read-at3 c) c.in-Got.is
 
-named : (c : In-At) → To-at3 c after_number c.in-At.after_number
+named : (c : In-Got-named) → To-at3 c after_number c.in-Got-named.after_number
 unfolding number
 named c =
     row_place (λ P. expect 5 c.args.number OtherGroup) (λ gn. after_number) (started-at2 c) c.args.number (expect_reads 5 c.args.number OtherGroup tt tt)
-    c.expect-named.ensures c.in-At.is
+    c.expect-named.ensures c.in-Got-named.is
 
-frame_read : (c : After-number_stopped-in_default-framed) → as_number c.args.bytes.now c.args.count c.once-framed.result ≡ field {P = counted} 2 (bits_left c.args.bytes.now c.args.count c.in-At.after_number.bit) c.in-At.after_number
+frame_read : (c : After-stopped-in_default-framed) → as_number c.args.bytes.now c.args.count c.once-framed.result ≡ field {P = counted} 2 (bits_left c.args.bytes.now c.args.count c.in-Got-named.after_number.bit) c.in-Got-named.after_number
 frame_read c = number_once (once_field 2) _ _ _ c.field-2.result c.once-framed.ensures c.field-2.ensures
 
 abbrev To-at4 : (s : In-Got-framed) → ReaderIn counted ℕ → Place → Type 0
@@ -78,13 +78,13 @@ started-at3 : (c : In-Got-framed) → To-at4 c (after_start c.args.number) c.in-
 started-at3 c =
     row_number (λ P. field 17) (λ gbsc. after_start c.args.number) (begun-at4 c) (reads_field 17 tt) (start_read-at4 c) c.in-Got.is
 
-named-at2 : (c : In-Got-framed) → To-at4 c after_number c.in-At.after_number
+named-at2 : (c : In-Got-framed) → To-at4 c after_number c.in-Got-named.after_number
 unfolding number
 named-at2 c =
     row_place (λ P. expect 5 c.args.number OtherGroup) (λ gn. after_number) (started-at3 c) c.args.number (expect_reads 5 c.args.number OtherGroup tt tt)
-    c.expect-named.ensures c.in-At.is
+    c.expect-named.ensures c.in-Got-named.is
 
-frame_read-at2 : (c : In-Got-framed) → as_number c.args.bytes.now c.args.count c.once-framed.result ≡ field {P = counted} 2 (bits_left c.args.bytes.now c.args.count c.in-At.after_number.bit) c.in-At.after_number
+frame_read-at2 : (c : In-Got-framed) → as_number c.args.bytes.now c.args.count c.once-framed.result ≡ field {P = counted} 2 (bits_left c.args.bytes.now c.args.count c.in-Got-named.after_number.bit) c.in-Got-named.after_number
 frame_read-at2 c = number_once (once_field 2) _ _ _ c.field-2.result c.once-framed.ensures c.field-2.ensures
 
 framed : (c : In-Got-framed) → To-at4 c quantiser c.in-Got-framed.after_frame
@@ -99,25 +99,25 @@ once-started-requires c = let l = c.requires.countable in omega arith
 
 pub returns-in_default : goal.returns-in_default
 returns-in_default c =
-    row_no_number (λ P. field 17) (λ gbsc. after_start c.args.number) (begun c) c.once-started.result c.in_default.in_default-own.keys2 (start_read c) c.number_stopped.ensures
+    row_no_number (λ P. field 17) (λ gbsc. after_start c.args.number) (begun c) c.once-started.result c.in_default.is (start_read c) c.stopped.ensures
 
 pub expect-named-requires : goal.expect-named-requires
 expect-named-requires c = ((started c).placed, search rules)
 
 pub returns-in_default-named : goal.returns-in_default-named
 returns-in_default-named c =
-    row_no_place (λ P. expect 5 c.args.number OtherGroup) (λ gn. after_number) (started (goal.at.returns-in_default-named c).In-Got) c.args.number c.expect-named.result c.in_default-named.in_default-named-own.keys2
-    c.expect-named.ensures c.place_stopped.ensures
+    row_no_place (λ P. expect 5 c.args.number OtherGroup) (λ gn. after_number) (started (goal.at.returns-in_default-named c).In-Got) c.args.number c.expect-named.result c.in_default-named.is
+    c.expect-named.ensures c.stopped-in_default-named.ensures
 
 pub field-requires-2 : goal.field-requires-2
 field-requires-2 c = ((named c).placed.within, search rules)
 
 pub once-framed-requires : goal.once-framed-requires
-once-framed-requires c = let l = (named (goal.at.once-framed-requires c).In-At).placed.countable in omega arith
+once-framed-requires c = let l = (named (goal.at.once-framed-requires c).In-Got-named).placed.countable in omega arith
 
 pub returns-in_default-framed : goal.returns-in_default-framed
 returns-in_default-framed c =
-    row_no_number (λ P. field 2) (λ gfid. quantiser) (named (goal.at.returns-in_default-framed c).In-At) c.once-framed.result c.in_default-framed.in_default-framed-own.keys2 (frame_read c) c.number_stopped-in_default-framed.ensures
+    row_no_number (λ P. field 2) (λ gfid. quantiser) (named (goal.at.returns-in_default-framed c).In-Got-named) c.once-framed.result c.in_default-framed.is (frame_read c) c.stopped-in_default-framed.ensures
 
 pub quantiser-requires : goal.quantiser-requires
 quantiser-requires c = (framed c).placed

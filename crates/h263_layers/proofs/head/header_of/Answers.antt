@@ -9,18 +9,18 @@ use Rattle.h263_layers.proofs.HeaderOf.{no_psc, bad_psc, no_tr, no_ptype, other_
 use Rattle.h263_layers.proofs.head.header_of.Goals as goal
 
 pub returns-in_default : goal.returns-in_default
-returns-in_default c = no_psc _ _ _ _ _ _ _ _ _ c.in_default.in_default-own.keys2 c.field_stopped.ensures
+returns-in_default c = no_psc _ _ _ _ _ _ _ _ _ c.in_default.is c.field_stopped.ensures
 
 pub returns-then-start-ne32 : goal.returns-then-start-ne32
 returns-then-start-ne32 c = c.against.ensures ∙ bad_psc _ _ _ _ _ _ _ _ c.in-Got.is c.if-start-ne32.true
 
 pub returns-in_default-tr : goal.returns-in_default-tr
 returns-in_default-tr c =
-    no_tr _ _ _ _ _ _ _ _ c.in-Got.is c.if-start-ne32.false _ c.in_default-tr.in_default-tr-own.keys2 c.field_stopped-in_default-tr.ensures
+    no_tr _ _ _ _ _ _ _ _ c.in-Got.is c.if-start-ne32.false _ c.in_default-tr.is c.field_stopped-in_default-tr.ensures
 
 pub returns-in_default-ptype : goal.returns-in_default-ptype
 returns-in_default-ptype c =
-    no_ptype _ _ _ _ _ _ _ _ c.in-Got.is c.if-start-ne32.false c.in-Got-tr.is _ c.in_default-ptype.in_default-ptype-own.keys2 c.field_stopped-in_default-ptype.ensures
+    no_ptype _ _ _ _ _ _ _ _ c.in-Got.is c.if-start-ne32.false c.in-Got-tr.is _ c.in_default-ptype.is c.field_stopped-in_default-ptype.ensures
 
 pub returns-then-information-ne2 : goal.returns-then-information-ne2
 returns-then-information-ne2 c =
@@ -47,7 +47,7 @@ returns-then-information-ne0 c =
 pub returns-in_default-pquant : goal.returns-in_default-pquant
 returns-in_default-pquant c =
     no_pquant _ _ _ _ _ _ _ _ c.in-Got.is c.if-start-ne32.false c.in-Got-tr.is c.in-Got-ptype.is
-    c.if-information-ne2.false (c.if-information-format_code.false ∙ c.format_code.ensures) c.if-information-ne0.false _ c.in_default-pquant.in_default-pquant-own.keys2 c.field_stopped-in_default-pquant.ensures
+    c.if-information-ne2.false (c.if-information-format_code.false ∙ c.format_code.ensures) c.if-information-ne0.false _ c.in_default-pquant.is c.field_stopped-in_default-pquant.ensures
 
 pub returns-then-quantised-eq0 : goal.returns-then-quantised-eq0
 returns-then-quantised-eq0 c =
@@ -59,7 +59,7 @@ pub returns-in_default-cpm : goal.returns-in_default-cpm
 returns-in_default-cpm c =
     no_cpm _ _ _ _ _ _ _ _ c.in-Got.is c.if-start-ne32.false c.in-Got-tr.is c.in-Got-ptype.is
     c.if-information-ne2.false (c.if-information-format_code.false ∙ c.format_code.ensures) c.if-information-ne0.false c.in-Got-pquant.is c.if-quantised-eq0.false
-    _ c.in_default-cpm.in_default-cpm-own.keys2 c.field_stopped-in_default-cpm.ensures
+    _ c.in_default-cpm.is c.field_stopped-in_default-cpm.ensures
 
 pub returns-then-multipoint-ne0 : goal.returns-then-multipoint-ne0
 returns-then-multipoint-ne0 c =
@@ -72,7 +72,7 @@ pub returns-in_default-spare : goal.returns-in_default-spare
 returns-in_default-spare c =
     no_spare _ _ _ _ _ _ _ _ c.in-Got.is c.if-start-ne32.false c.in-Got-tr.is c.in-Got-ptype.is
     c.if-information-ne2.false (c.if-information-format_code.false ∙ c.format_code.ensures) c.if-information-ne0.false c.in-Got-pquant.is c.if-quantised-eq0.false
-    c.in-Got-cpm.is c.if-multipoint-ne0.false _ c.in_default-spare.in_default-spare-own.keys2 c.place_stopped.ensures
+    c.in-Got-cpm.is c.if-multipoint-ne0.false _ c.in_default-spare.is c.stopped.ensures
 
 pub overflow_cast-said : goal.overflow_cast-said
 overflow_cast-said c =
@@ -86,4 +86,4 @@ pub returns : goal.returns
 returns c =
     header-got _ _ _ _ _ _ _ _ c.in-Got.is c.if-start-ne32.false c.in-Got-tr.is c.in-Got-ptype.is
     c.if-information-ne2.false (c.if-information-format_code.false ∙ c.format_code.ensures) c.if-information-ne0.false c.in-Got-pquant.is c.if-quantised-eq0.false
-    c.in-Got-cpm.is c.if-multipoint-ne0.false c.in-At.is
+    c.in-Got-cpm.is c.if-multipoint-ne0.false c.in-Got-spare.is

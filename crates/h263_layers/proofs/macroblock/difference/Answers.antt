@@ -13,9 +13,9 @@ use Rattle.fields.proofs.Told.{no_number, is_number, number_once}
 use Rattle.h263_layers.proofs.MacroblockSteps.{dquant_refused, dquant_got, dquant_down, dquant_up}
 use borrow.Author.Rules.{rules}
 use Rattle.h263_layers.proofs.macroblock.difference.Goals as goal
-use Rattle.h263_layers.proofs.macroblock.difference.Goals.{After-number_stopped, In-Got}
+use Rattle.h263_layers.proofs.macroblock.difference.Goals.{After-stopped, In-Got}
 
-code_read : (c : After-number_stopped) → as_number c.args.bytes.now c.args.count c.once-read.result ≡ field {P = counted} 2 (bits_left c.args.bytes.now c.args.count c.args.at.bit) c.args.at
+code_read : (c : After-stopped) → as_number c.args.bytes.now c.args.count c.once-read.result ≡ field {P = counted} 2 (bits_left c.args.bytes.now c.args.count c.args.at.bit) c.args.at
 code_read c = number_once (once_field 2) _ _ _ c.field.result c.once-read.ensures c.field.ensures
 
 code_read-at2 : (c : In-Got) → as_number c.args.bytes.now c.args.count c.once-read.result ≡ field {P = counted} 2 (bits_left c.args.bytes.now c.args.count c.args.at.bit) c.args.at
@@ -36,7 +36,7 @@ once-read-requires c = let l = c.requires.countable in omega arith
 
 pub returns-in_default : goal.returns-in_default
 returns-in_default c =
-    ap refused c.number_stopped.ensures ∙ dquant_refused _ _ _ (no_number _ _ c.once-read.result c.in_default.in_default-own.keys2 (code_read c))
+    ap refused c.stopped.ensures ∙ dquant_refused _ _ _ (no_number _ _ c.once-read.result c.in_default.is (code_read c))
 
 pub returns-then-code-lt2 : goal.returns-then-code-lt2
 returns-then-code-lt2 c = dquant_got _ _ _ _ _ _ (code (goal.at.returns-then-code-lt2 c).In-Got) (dquant_down _ c.if-code-lt2.true)

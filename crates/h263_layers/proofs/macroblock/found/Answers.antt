@@ -13,9 +13,9 @@ use Rattle.fields.proofs.Told.{no_number, is_number, number_once, within_next}
 use Rattle.h263_layers.proofs.MacroblockSteps.{found_intra, found_refused, found_unsent, found_sent}
 use borrow.Author.Rules.{rules}
 use Rattle.h263_layers.proofs.macroblock.found.Goals as goal
-use Rattle.h263_layers.proofs.macroblock.found.Goals.{After-kind_found-2, After-number_stopped, Else-cod-eq1, Then-cod-eq1}
+use Rattle.h263_layers.proofs.macroblock.found.Goals.{After-kind_found-2, After-stopped, Else-cod-eq1, Then-cod-eq1}
 
-cod_read : (c : After-number_stopped) → as_number c.args.bytes.now c.args.count c.once-read.result ≡ field {P = counted} 1 (bits_left c.args.bytes.now c.args.count c.args.at.bit) c.args.at
+cod_read : (c : After-stopped) → as_number c.args.bytes.now c.args.count c.once-read.result ≡ field {P = counted} 1 (bits_left c.args.bytes.now c.args.count c.args.at.bit) c.args.at
 cod_read c = number_once (once_field 1) _ _ _ c.field.result c.once-read.ensures c.field.ensures
 
 cod_read-at2 : (c : Then-cod-eq1) → as_number c.args.bytes.now c.args.count c.once-read.result ≡ field {P = counted} 1 (bits_left c.args.bytes.now c.args.count c.args.at.bit) c.args.at
@@ -53,8 +53,8 @@ once-read-requires c = let l = c.requires.placed.countable in omega arith
 
 pub returns-in_default : goal.returns-in_default
 returns-in_default c =
-    ap refused c.number_stopped.ensures
-    ∙ found_refused _ _ _ c.if-intra.false _ (no_number _ _ c.once-read.result c.in_default.in_default-own.keys2 (cod_read c))
+    ap refused c.stopped.ensures
+    ∙ found_refused _ _ _ c.if-intra.false _ (no_number _ _ c.once-read.result c.in_default.is (cod_read c))
 
 pub returns-then-cod-eq1 : goal.returns-then-cod-eq1
 returns-then-cod-eq1 c =

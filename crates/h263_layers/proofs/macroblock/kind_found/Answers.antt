@@ -11,9 +11,9 @@ use Rattle.fields.proofs.Told.{no_number, is_number, number_once}
 use Rattle.h263_words.specs.Tables.{mcbpc_of}
 use Rattle.h263_layers.proofs.MacroblockSteps.{kind_refused, kind_stuffed, kind_four, kind_coded}
 use Rattle.h263_layers.proofs.macroblock.kind_found.Goals as goal
-use Rattle.h263_layers.proofs.macroblock.kind_found.Goals.{After-number_stopped, Else-kind-eq5, Then-kind-eq24, Then-kind-eq5}
+use Rattle.h263_layers.proofs.macroblock.kind_found.Goals.{After-stopped, Else-kind-eq5, Then-kind-eq24, Then-kind-eq5}
 
-kind_read : (c : After-number_stopped) → as_number c.args.bytes.now c.args.count c.once-read.result ≡ word {P = counted} (mcbpc_of c.args.intra) (bits_left c.args.bytes.now c.args.count c.args.at.bit) c.args.at
+kind_read : (c : After-stopped) → as_number c.args.bytes.now c.args.count c.once-read.result ≡ word {P = counted} (mcbpc_of c.args.intra) (bits_left c.args.bytes.now c.args.count c.args.at.bit) c.args.at
 kind_read c = number_once (once_word (mcbpc_of c.args.intra)) _ _ _ c.mcbpc.result c.once-read.ensures c.mcbpc.ensures
 
 kind_read-at2 : (c : Then-kind-eq24) → as_number c.args.bytes.now c.args.count c.once-read.result ≡ word {P = counted} (mcbpc_of c.args.intra) (bits_left c.args.bytes.now c.args.count c.args.at.bit) c.args.at
@@ -45,8 +45,8 @@ once-read-requires c = let l = c.requires.placed.countable in omega arith
 
 pub returns-in_default : goal.returns-in_default
 returns-in_default c =
-    ap refused c.number_stopped.ensures
-    ∙ kind_refused c.args.intra _ _ _ (no_number _ _ c.once-read.result c.in_default.in_default-own.keys2 (kind_read c))
+    ap refused c.stopped.ensures
+    ∙ kind_refused c.args.intra _ _ _ (no_number _ _ c.once-read.result c.in_default.is (kind_read c))
 
 pub returns-then-kind-eq24 : goal.returns-then-kind-eq24
 returns-then-kind-eq24 c = kind_stuffed c.args.intra _ _ _ _ _ (kind c) c.if-kind-eq24.true

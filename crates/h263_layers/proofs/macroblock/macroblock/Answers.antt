@@ -23,26 +23,26 @@ use Rattle.h263_layers.specs.Grammar.{macroblock}
 use Rattle.h263_layers.proofs.MacroblockWhole as row
 use Rattle.h263_layers.proofs.MacroblockWhole.{Roomy, quantiser_after_lem, vector_after_lem, macroblock_begun, no_blocks, whole_macroblock, vector_low, quantiser_low, index_roomy}
 use Rattle.h263_layers.proofs.macroblock.macroblock.Goals as goal
-use Rattle.h263_layers.proofs.macroblock.macroblock.Goals.{After-across, After-number_stopped, After-number_stopped-in_default-quantised, After-pair_stopped, After-place_stopped, After-slice_known-4-1, In-Got, In-Got-pointed, In-Got-quantised}
+use Rattle.h263_layers.proofs.macroblock.macroblock.Goals.{After-across, After-stopped, After-stopped-in_default-quantised, After-stopped-in_default-pointed, After-stopped-in_default-sent, After-slice_known-4-1, In-Got, In-Got-pointed, In-Got-quantised}
 
-abbrev put : (s : After-number_stopped) → Macroblock → Sent
+abbrev put : (s : After-stopped) → Macroblock → Sent
 put s = put_sent (macroblocks_across s.args.size) s.args.number s.args.macroblocks.now s.args.levels.now
 
-abbrev predicted : (s : After-number_stopped) → Vector
+abbrev predicted : (s : After-stopped) → Vector
 predicted s = vector_kept s.args.predicted
 
-abbrev after_pattern : (s : After-number_stopped) → ℕ → ReaderIn counted Macroblock
+abbrev after_pattern : (s : After-stopped) → ℕ → ReaderIn counted Macroblock
 after_pattern s = row.after_pattern s.args.size s.args.number s.args.address (predicted s) s.args.mcbpc
 
-abbrev To : (s : After-number_stopped) → ReaderIn counted Macroblock → Place → Type 0
+abbrev To : (s : After-stopped) → ReaderIn counted Macroblock → Place → Type 0
 To s rest p =
     Row (macroblock s.args.size s.args.number s.args.address (predicted s) s.args.mcbpc (bits_left s.args.bytes.now s.args.count s.args.at.bit) s.args.at) s.args.bytes.now s.args.count
     rest p
 
-begun : (s : After-number_stopped) → (To s) (word cbpy >>= (after_pattern s)) s.args.at
+begun : (s : After-stopped) → (To s) (word cbpy >>= (after_pattern s)) s.args.at
 begun s = macroblock_begun s.args.size s.args.number s.args.address (predicted s) s.args.mcbpc s.args.bytes.now s.args.count s.args.at s.requires.0.placed
 
-pattern_read : (c : After-number_stopped) → as_number c.args.bytes.now c.args.count c.once-coded.result ≡ word {P = counted} cbpy (bits_left c.args.bytes.now c.args.count c.args.at.bit) c.args.at
+pattern_read : (c : After-stopped) → as_number c.args.bytes.now c.args.count c.once-coded.result ≡ word {P = counted} cbpy (bits_left c.args.bytes.now c.args.count c.args.at.bit) c.args.at
 pattern_read c = number_once (once_word cbpy) _ _ _ c.cbpy.result c.once-coded.ensures c.cbpy.ensures
 
 abbrev predicted-at2 : (s : In-Got) → Vector
@@ -65,16 +65,16 @@ pattern_read-at2 c = number_once (once_word cbpy) _ _ _ c.cbpy.result c.once-cod
 coded : (c : In-Got) → To-at2 c (after_pattern-at2 c c.in-Got.luminance) c.in-Got.after_pattern
 coded c = row_number (λ P. word cbpy) (after_pattern-at2 c) (begun-at2 c) cbpy_reads (pattern_read-at2 c) c.in-Got.is
 
-abbrev put-at2 : (s : After-number_stopped-in_default-quantised) → Macroblock → Sent
+abbrev put-at2 : (s : After-stopped-in_default-quantised) → Macroblock → Sent
 put-at2 s = put_sent (macroblocks_across s.args.size) s.args.number s.args.macroblocks.now s.args.levels.now
 
-abbrev predicted-at3 : (s : After-number_stopped-in_default-quantised) → Vector
+abbrev predicted-at3 : (s : After-stopped-in_default-quantised) → Vector
 predicted-at3 s = vector_kept s.args.predicted
 
-abbrev quantiser_after : (s : After-number_stopped-in_default-quantised) → {P : Places} → ReaderIn P ℕ
+abbrev quantiser_after : (s : After-stopped-in_default-quantised) → {P : Places} → ReaderIn P ℕ
 quantiser_after s = row.quantiser_after s.args.size s.args.number s.args.address (predicted-at3 s) s.args.mcbpc
 
-abbrev after_quantiser : (s : After-number_stopped-in_default-quantised) → ℕ → ℕ → ReaderIn counted Macroblock
+abbrev after_quantiser : (s : After-stopped-in_default-quantised) → ℕ → ℕ → ReaderIn counted Macroblock
 after_quantiser s = row.after_quantiser s.args.size s.args.number s.args.address (predicted-at3 s) s.args.mcbpc
 
 abbrev predicted-at4 : (s : In-Got-quantised) → Vector
@@ -109,16 +109,16 @@ quantised c =
     (quantiser_after_lem c.args.size c.args.number c.args.address (predicted-at4 c) c.args.mcbpc)
     c.dquant-quantised.ensures c.in-Got-quantised.is
 
-abbrev put-at3 : (s : After-pair_stopped) → Macroblock → Sent
+abbrev put-at3 : (s : After-stopped-in_default-pointed) → Macroblock → Sent
 put-at3 s = put_sent (macroblocks_across s.args.size) s.args.number s.args.macroblocks.now s.args.levels.now
 
-abbrev predicted-at5 : (s : After-pair_stopped) → Vector
+abbrev predicted-at5 : (s : After-stopped-in_default-pointed) → Vector
 predicted-at5 s = vector_kept s.args.predicted
 
-abbrev vector_after : (s : After-pair_stopped) → {P : Places} → ReaderIn P Vector
+abbrev vector_after : (s : After-stopped-in_default-pointed) → {P : Places} → ReaderIn P Vector
 vector_after s = row.vector_after s.args.size s.args.number s.args.address (predicted-at5 s) s.args.mcbpc
 
-abbrev after_vector : (s : After-pair_stopped) → ℕ → ℕ → Vector → ReaderIn counted Macroblock
+abbrev after_vector : (s : After-stopped-in_default-pointed) → ℕ → ℕ → Vector → ReaderIn counted Macroblock
 after_vector s = row.after_vector s.args.size s.args.number s.args.address (predicted-at5 s) s.args.mcbpc
 
 abbrev placed : (c : After-across) → ℕ
@@ -177,7 +177,7 @@ pointed c =
     (vector_after_lem c.args.size c.args.number c.args.address (predicted-at6 c) c.args.mcbpc)
     c.moved-pointed.ensures c.in-Got-pointed.is
 
-abbrev predicted-at7 : (s : After-place_stopped) → Vector
+abbrev predicted-at7 : (s : After-stopped-in_default-sent) → Vector
 predicted-at7 s = vector_kept s.args.predicted
 
 quantiser_byte : (c : In-Got-quantised) → c.in-Got-quantised.changed ≤ 255
@@ -206,7 +206,7 @@ once-coded-requires c = let l = c.requires.0.placed.countable in omega arith
 
 pub returns-in_default : goal.returns-in_default
 returns-in_default c =
-    ap (map_read (put c)) (row_no_number (λ P. word cbpy) (after_pattern c) (begun c) c.once-coded.result c.in_default.in_default-own.keys2 (pattern_read c) c.number_stopped.ensures)
+    ap (map_read (put c)) (row_no_number (λ P. word cbpy) (after_pattern c) (begun c) c.once-coded.result c.in_default.is (pattern_read c) c.stopped.ensures)
 
 pub overflow_cast-kind : goal.overflow_cast-kind
 overflow_cast-kind c = omega (arith, c.requires.1.typed)
@@ -217,8 +217,8 @@ dquant-quantised-requires c = (coded c).placed
 pub returns-in_default-quantised : goal.returns-in_default-quantised
 returns-in_default-quantised c =
     ap (map_read (put-at2 c))
-    (row_no_number (λ P. quantiser_after c) (after_quantiser c c.in-Got.luminance) (coded (goal.at.returns-in_default-quantised c).In-Got) c.dquant-quantised.result c.in_default-quantised.in_default-quantised-own.keys2
-    c.dquant-quantised.ensures c.number_stopped-in_default-quantised.ensures)
+    (row_no_number (λ P. quantiser_after c) (after_quantiser c c.in-Got.luminance) (coded (goal.at.returns-in_default-quantised c).In-Got) c.dquant-quantised.result c.in_default-quantised.is
+    c.dquant-quantised.ensures c.stopped-in_default-quantised.ensures)
 
 pub moved-pointed-requires : goal.moved-pointed-requires
 moved-pointed-requires c = (record { tabled = c.requires.0.tabled; placed = (quantised c).placed }, c.requires.1.vectored)
@@ -227,7 +227,7 @@ pub returns-in_default-pointed : goal.returns-in_default-pointed
 returns-in_default-pointed c =
     ap (map_read (put-at3 c))
     (row_no_pair vector_of (λ P. vector_after c) (after_vector c c.in-Got.luminance c.in-Got-quantised.changed) (quantised (goal.at.returns-in_default-pointed c).In-Got-quantised) c.moved-pointed.result
-    c.in_default-pointed.in_default-pointed-own.keys2 c.moved-pointed.ensures c.pair_stopped.ensures)
+    c.in_default-pointed.is c.moved-pointed.ensures c.stopped-in_default-pointed.ensures)
 
 pub overflow_mul-index : goal.overflow_mul-index
 overflow_mul-index c = omega (arith, index_is c, (roomy c).few)
@@ -255,10 +255,10 @@ blocks-sent-requires c =
 
 pub returns-in_default-sent : goal.returns-in_default-sent
 returns-in_default-sent c =
-    ap refused c.place_stopped.ensures
+    ap refused c.stopped-in_default-sent.ensures
     ∙ no_blocks c.args.size c.args.number c.args.address (predicted-at7 c) c.args.mcbpc c.in-Got.luminance c.in-Got-quantised.changed (vector_of c.in-Got-pointed.horizontal c.in-Got-pointed.vertical) (pointed (goal.at.returns-in_default-sent c).In-Got-pointed) c.args.macroblocks.now
     c.args.levels.now c.is_intra-intra.result c.is_intra-intra.ensures c.pattern.result c.pattern.ensures _ (index_is (goal.at.returns-in_default-sent c).After-across) _
-    (no_place _ _ _ c.blocks-sent.result c.in_default-sent.in_default-sent-own.keys2 c.blocks-sent.ensures)
+    (no_place _ _ _ c.blocks-sent.result c.in_default-sent.is c.blocks-sent.ensures)
 
 pub overflow_mul-index-3 : goal.overflow_mul-index-3
 overflow_mul-index-3 c =
@@ -282,4 +282,4 @@ pub returns : goal.returns
 returns c =
     whole_macroblock c.args.size c.args.number c.args.address (predicted-at8 c) c.args.mcbpc c.in-Got.luminance c.in-Got-quantised.changed (vector_of c.in-Got-pointed.horizontal c.in-Got-pointed.vertical) (pointed (goal.at.returns c).In-Got-pointed) c.args.macroblocks.now
     c.args.levels.now c.is_intra-intra.result c.is_intra-intra.ensures c.pattern.result c.pattern.ensures _ (index_is (goal.at.returns c).After-across) _ _ _ _
-    (is_place _ _ _ _ _ c.blocks-sent.ensures c.in-At.is) c.put_fields.ensures
+    (is_place _ _ _ _ _ c.blocks-sent.ensures c.in-Got-sent.is) c.put_fields.ensures

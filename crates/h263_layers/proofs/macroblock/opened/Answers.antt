@@ -44,8 +44,8 @@ headed-head-requires c = (c.loop-quantiser.invariant.placed, c.requires.1)
 
 pub returns-in_default : goal.returns-in_default
 returns-in_default c =
-    ap refused c.number_stopped.ensures
-    ∙ opened_no_head c.loop-quantiser.invariant _ (no_number _ _ c.headed-head.result c.in_default.in_default-own.keys2 c.headed-head.ensures)
+    ap refused c.stopped.ensures
+    ∙ opened_no_head c.loop-quantiser.invariant _ (no_number _ _ c.headed-head.result c.in_default.is c.headed-head.ensures)
 
 pub found-requires : goal.found-requires
 found-requires c =

@@ -12,9 +12,9 @@ use Rattle.fields.proofs.Told.{no_number, is_number, number_once}
 use Rattle.h263_words.specs.Tables.{mvd}
 use Rattle.h263_layers.proofs.VectorSteps.{component-refused, component_in, word_below}
 use Rattle.h263_layers.proofs.vector.component.Goals as goal
-use Rattle.h263_layers.proofs.vector.component.Goals.{After-number_stopped, In-Got}
+use Rattle.h263_layers.proofs.vector.component.Goals.{After-stopped, In-Got}
 
-word_read : (c : After-number_stopped) → as_number c.args.bytes.now c.args.count c.once-read.result ≡ word {P = counted} mvd (bits_left c.args.bytes.now c.args.count c.args.at.bit) c.args.at
+word_read : (c : After-stopped) → as_number c.args.bytes.now c.args.count c.once-read.result ≡ word {P = counted} mvd (bits_left c.args.bytes.now c.args.count c.args.at.bit) c.args.at
 word_read c = number_once (once_word mvd) _ _ _ c.mvd.result c.once-read.ensures c.mvd.ensures
 
 word_read-at2 : (c : In-Got) → as_number c.args.bytes.now c.args.count c.once-read.result ≡ word {P = counted} mvd (bits_left c.args.bytes.now c.args.count c.args.at.bit) c.args.at
@@ -35,7 +35,7 @@ once-read-requires c = let l = c.requires.0.placed.countable in omega arith
 
 pub returns-in_default : goal.returns-in_default
 returns-in_default c =
-    ap refused c.number_stopped.ensures ∙ component-refused c.args.predicted _ _ _ (no_number _ _ c.once-read.result c.in_default.in_default-own.keys2 (word_read c))
+    ap refused c.stopped.ensures ∙ component-refused c.args.predicted _ _ _ (no_number _ _ c.once-read.result c.in_default.is (word_read c))
 
 pub overflow_add-result : goal.overflow_add-result
 overflow_add-result c = omega (arith, below c, c.requires.1)

@@ -16,15 +16,15 @@ use Rattle.h263_layers.specs.Vector.{component_read, components_read}
 use Rattle.h263_layers.proofs.Layers.{component_reads}
 use Rattle.h263_layers.proofs.VectorSteps.{components_begun, after_first, vector_refused, BothRead, vector_left, vector_right, vector_above, vector_below, vector_inside, component_kept}
 use Rattle.h263_layers.proofs.vector.vector.Goals as goal
-use Rattle.h263_layers.proofs.vector.vector.Goals.{After-number_stopped, After-number_stopped-in_default-second, In-Got, In-Got-second}
+use Rattle.h263_layers.proofs.vector.vector.Goals.{After-stopped, After-stopped-in_default-second, In-Got, In-Got-second}
 
-abbrev predicted : (s : After-number_stopped) → Vector
+abbrev predicted : (s : After-stopped) → Vector
 predicted s = vector_kept s.args.predicted
 
-abbrev To : (s : After-number_stopped) → ReaderIn counted Vector → Place → Type 0
+abbrev To : (s : After-stopped) → ReaderIn counted Vector → Place → Type 0
 To s rest p = Row (components_read (predicted s) (bits_left s.args.bytes.now s.args.count s.args.at.bit) s.args.at) s.args.bytes.now s.args.count rest p
 
-begun : (s : After-number_stopped) → To s (component_read (component_of s.args.predicted.horizontal) >>= after_first (predicted s)) s.args.at
+begun : (s : After-stopped) → To s (component_read (component_of s.args.predicted.horizontal) >>= after_first (predicted s)) s.args.at
 begun s = components_begun (predicted s) s.args.bytes.now s.args.count s.args.at s.requires.0.placed
 
 abbrev predicted-at2 : (s : In-Got) → Vector
@@ -41,7 +41,7 @@ first c =
     row_meant component_of (λ P. component_read (component_of c.args.predicted.horizontal)) (after_first (predicted-at2 c)) (begun-at2 c) (component_reads _)
     c.component-first.ensures c.in-Got.is
 
-abbrev predicted-at3 : (s : After-number_stopped-in_default-second) → Vector
+abbrev predicted-at3 : (s : After-stopped-in_default-second) → Vector
 predicted-at3 s = vector_kept s.args.predicted
 
 far : (c : In-Got-second) → c.args.address ≤ 22
@@ -78,8 +78,8 @@ component-first-requires c = (c.requires.0, c.requires.1.horizontally)
 pub returns-in_default : goal.returns-in_default
 returns-in_default c =
     vector_refused c.args.size c.args.number c.args.address (predicted c) _ _ _
-    (row_no_meant component_of (λ P. component_read (component_of c.args.predicted.horizontal)) (after_first (predicted c)) (begun c) c.component-first.result c.in_default.in_default-own.keys2
-    c.component-first.ensures c.number_stopped.ensures)
+    (row_no_meant component_of (λ P. component_read (component_of c.args.predicted.horizontal)) (after_first (predicted c)) (begun c) c.component-first.result c.in_default.is
+    c.component-first.ensures c.stopped.ensures)
 
 pub component-second-requires : goal.component-second-requires
 component-second-requires c = (record { tabled = c.requires.0.tabled; placed = (first c).placed }, c.requires.1.vertically)
@@ -88,7 +88,7 @@ pub returns-in_default-second : goal.returns-in_default-second
 returns-in_default-second c =
     vector_refused c.args.size c.args.number c.args.address (predicted-at3 c) _ _ _
     (row_no_meant component_of (λ P. component_read (component_of c.args.predicted.vertical)) (λ v. done (record { horizontal = component_of c.in-Got.across; vertical = v })) (first (goal.at.returns-in_default-second c).In-Got)
-    c.component-second.result c.in_default-second.in_default-second-own.keys2 c.component-second.ensures c.number_stopped-in_default-second.ensures)
+    c.component-second.result c.in_default-second.is c.component-second.ensures c.stopped-in_default-second.ensures)
 
 pub overflow_sub-x : goal.overflow_sub-x
 overflow_sub-x c = c.requires.1.first_address
