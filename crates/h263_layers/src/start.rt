@@ -20,8 +20,7 @@ fn zeros(bytes: &[u8], count: usize, at: usize) -> usize
 {
     let bits = bits::window(bytes, at);
     let left = count - at;
-    let mut seen: usize = 0;
-    while seen < 24 {
+    for seen in 0..24 {
         if left <= seen {
             return seen;
         }
@@ -29,7 +28,6 @@ fn zeros(bytes: &[u8], count: usize, at: usize) -> usize
         if (bits >> after) % 2 == 1 {
             return seen;
         }
-        seen += 1;
     }
     24
 }

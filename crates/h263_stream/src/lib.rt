@@ -197,8 +197,7 @@ pub fn pass(stream: Stream, bytes: &[u8], from: usize, picture: &mut [u8]) -> Pa
     ensures picture_after { picture.new ≡ kept_from stream (before_code stream (drop from bytes.now)) picture.old }
 {
     let mut next = stream;
-    let mut i = from;
-    while i < bytes.len() {
+    for i in from..bytes.len() {
         let byte = bytes[i];
         if completes(next, byte) {
             return Passed {
@@ -207,11 +206,10 @@ pub fn pass(stream: Stream, bytes: &[u8], from: usize, picture: &mut [u8]) -> Pa
             };
         }
         next = push(next, byte, picture);
-        i += 1;
     }
     Passed {
         stream: next,
-        at: i,
+        at: from.max(bytes.len()),
     }
 }
 
@@ -255,14 +253,7 @@ fn ends_after(bytes: &[u8], all: usize, at: usize, zeros: usize) -> bool
 fn ends_within(bytes: &[u8], all: usize, at: usize) -> bool
     ensures { result ≡ ends_within bytes.now all at 8 }
 {
-    let mut zeros: usize = 8;
-    while 0 < zeros {
-        zeros -= 1;
-        if ends_after(bytes, all, at, zeros) {
-            return true;
-        }
-    }
-    false
+    (0..8).rev().any(|zeros| ends_after(bytes, all, at, zeros))
 }
 
 fn is_dropped(bytes: &[u8], all: usize, at: usize) -> bool

@@ -45,14 +45,7 @@ fn low_gquants(head: &[u8]) -> bool
     requires { 5 ≤ length head.now }
     ensures { result ≡ all (within 0 31) (drop 5 head.now) }
 {
-    let mut i: usize = 5;
-    while i < head.len() {
-        if 31 < head[i] {
-            return false;
-        }
-        i += 1;
-    }
-    true
+    head[5..].iter().all(|gquant| *gquant <= 31)
 }
 
 // The first group has no header, and none has a GQUANT above 31.
@@ -92,8 +85,7 @@ fn valid_group(size: Size, intra: bool, number: usize, fields: &[u8], levels: &[
     ensures { result ≡ valid_macroblocks (macroblocks_across size) size intra number 1 fields.now levels.now }
 {
     let count = h263_description::across(size);
-    let mut k: usize = 0;
-    while k < count {
+    for k in 0..count {
         let a = k * 4;
         let b = k * 384;
         if !macroblock::valid_macroblock(
@@ -106,7 +98,6 @@ fn valid_group(size: Size, intra: bool, number: usize, fields: &[u8], levels: &[
         ) {
             return false;
         }
-        k += 1;
     }
     true
 }
@@ -117,14 +108,12 @@ fn valid_groups(size: Size, intra: bool, fields: &[u8], levels: &[u8]) -> bool
 {
     let each = h263_description::across(size);
     let count = h263_description::down(size);
-    let mut g: usize = 0;
-    while g < count {
+    for g in 0..count {
         let a = g * (each * 4);
         let b = g * (each * 384);
         if !valid_group(size, intra, g, &fields[a..], &levels[b..]) {
             return false;
         }
-        g += 1;
     }
     true
 }

@@ -34,11 +34,9 @@ fn events(tables: &WordTables, levels: &[u8], from: usize, out: &mut [u8], at: u
     let mut waiting: u8 = 0;
     let mut before: usize = 0;
     let mut run: usize = 0;
-    let mut k = from;
     let mut place = at;
-    while k < end {
+    for k in from..end {
         let code = levels[k];
-        k += 1;
         if code == 0 {
             run += 1;
             continue;
@@ -76,11 +74,9 @@ pub fn blocks(tables: &WordTables, levels: &[u8], intra: bool, out: &mut [u8], a
     ensures { WroteBits (blocks_of intra (gathers 6 levels.now)) out.old at out.new result }
 {
     let mut place = at;
-    let mut b: usize = 0;
-    while b < 6 {
+    for b in 0..6 {
         let a = b * 64;
         place = block(tables, &levels[a..a + 64], intra, out, place);
-        b += 1;
     }
     place
 }

@@ -37,14 +37,12 @@ fn row(
     let first = number * across;
     let under = headed(gquant);
     let mut place = at;
-    let mut k: usize = 0;
-    while k < across {
+    for k in 0..across {
         let n = first + k;
         let a = n * 4;
         let b = n * 384;
         if macroblocks[a] == 0 {
             place = bits::append(out, place, 1, 1);
-            k += 1;
             continue;
         }
         place = macroblock::macroblock(
@@ -59,7 +57,6 @@ fn row(
             out,
             place,
         );
-        k += 1;
     }
     place
 }

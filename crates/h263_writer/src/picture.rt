@@ -28,8 +28,7 @@ fn groups(
     ensures { WroteBits (groups_bits across down intra head.now macroblocks.now levels.now) out.old at out.new result }
 {
     let mut place = at;
-    let mut g: usize = 0;
-    while g < down {
+    for g in 0..down {
         let gquant = head[g + 5];
         place = group::group(
             tables,
@@ -42,7 +41,6 @@ fn groups(
             out,
             place,
         );
-        g += 1;
     }
     place
 }

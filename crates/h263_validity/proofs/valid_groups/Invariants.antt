@@ -1,5 +1,4 @@
 -- `h263_validity::valid_groups` meets its contract: the groups so far are valid, and what is left is tested of the rest. Assumes nothing.
-use Prim.Native.Nat.{◌-◌}
 use Rattle.size.specs.Place.{macroblocks_across}
 use Rattle.layout.proofs.Turns.{GroupsSoFar}
 use Rattle.h263_description.specs.Value.{group_numbers}
@@ -8,6 +7,3 @@ use Rattle.h263_validity.proofs.valid_groups.Given as goal
 
 abbrev pub invariant-loop-g : goal.invariant-loop-g
 invariant-loop-g l = GroupsSoFar (macroblocks_across l.size) (valid_macroblock l.size l.intra) (group_numbers l.size) (valid_groups l.size l.intra (group_numbers l.size) l.fields l.levels) l.fields l.levels l.g
-
-abbrev pub decreases-loop-g : goal.decreases-loop-g
-decreases-loop-g l = l.count - l.g

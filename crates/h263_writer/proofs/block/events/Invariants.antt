@@ -1,5 +1,4 @@
 -- `block::events` meets its contract. The loop's invariant: what is written is the coefficients before the one that waits.
-use Prim.Native.Nat.{◌-◌}
 use lib.ListN.{drop}
 use Rattle.layout.specs.Flat.{gather}
 use Rattle.h263_writer.specs.Write.{events_of}
@@ -8,6 +7,3 @@ use Rattle.h263_writer.proofs.block.events.Given as goal
 
 abbrev pub invariant-loop-k : goal.invariant-loop-k
 invariant-loop-k l = EventsSoFar (events_of (gather 0 (drop l.from l.levels))) l.levels l.initial.out l.at l.out l.waiting l.before l.run l.k l.place
-
-abbrev pub decreases-loop-k : goal.decreases-loop-k
-decreases-loop-k l = l.end - l.k
