@@ -47,11 +47,8 @@ use Rattle.bits.specs.declared.FieldRead.TheVariants as F
 use Rattle.h261_words.specs.declared.CoefficientRead.TheVariants as C
 use Rattle.h263_words.specs.declared.EventRead.TheVariants as E
 use Rattle.h261_layers.specs.declared.MbaRead.TheVariants as M
-use Rattle.fields.specs.declared.CountedRead.TheVariants as BR
-use Rattle.fields.specs.declared.CountedRead.TheVariants as P
+use Rattle.fields.specs.declared.CountedRead.TheVariants as K
 use Rattle.determined.specs.Determined.{EquationOnce, ReadSaysOnce, ReadLeavesOnce, DecodeSaysOnce, DecodeLeavesOnce, WriteSaysOnce, WriteLeavesOnce, ReceiveOnce, SendOnce, HandsBackOnce, FieldOnce, NumberReadOnce, CoefficientOnce, HeaderOnce, MbaOnce, VectorOnce, MacroblockReadOnce, MacroblockLeftOnce, PlaceOnce, LeftOnce, BlockOnce, CodewordOnce, BitsWroteOnce, BlockWroteOnce, MacroblockOnce, RowsOnce, TextOnce, EventOnce}
-use Rattle.fields.specs.declared.CountedRead.TheVariants as N
-use Rattle.fields.specs.declared.CountedRead.TheVariants as PR
 use Rattle.standing.specs.Receive as R
 use Rattle.sender.specs.Send as S
 
@@ -117,14 +114,14 @@ module _ (s : List ℕ) (n : ℕ) where
   field_of_lem (F.Refused why) = refl
 
   number_of : ReadIn counted ℕ → CountedRead ℕ
-  number_of (got v left p) = N.Got v p
-  number_of (refused why) = N.Refused why
-  number_of endless = N.Refused none
+  number_of (got v left p) = K.Got v p
+  number_of (refused why) = K.Refused why
+  number_of endless = K.Refused none
 
   number_of_lem : (x : CountedRead ℕ) → number_of (as_number s n x) ≡ x
   unfolding number_of
-  number_of_lem (N.Got v p) = refl
-  number_of_lem (N.Refused why) = refl
+  number_of_lem (K.Got v p) = refl
+  number_of_lem (K.Refused why) = refl
 
   coefficient_of : Read Event → CoefficientRead
   coefficient_of (got (sent c) left p) = C.Coefficient c.run c.code p
@@ -149,14 +146,14 @@ module _ (s : List ℕ) (n : ℕ) where
   event_of (E.Refused why) = refl
 
   header_of : ReadIn counted Header → CountedRead (ℕ × ℕ)
-  header_of (got h left p) = PR.Got h.tr h.ptype p
-  header_of (refused why) = PR.Refused why
-  header_of endless = PR.Refused none
+  header_of (got h left p) = K.Got (h.tr, h.ptype) p
+  header_of (refused why) = K.Refused why
+  header_of endless = K.Refused none
 
   header_of_lem : (x : CountedRead (ℕ × ℕ)) → header_of (as_header s n x) ≡ x
   unfolding header_of
-  header_of_lem (PR.Got tr ptype p) = refl
-  header_of_lem (PR.Refused why) = refl
+  header_of_lem (K.Got (tr, ptype) p) = refl
+  header_of_lem (K.Refused why) = refl
 
   mba_of : ReadIn counted Mba → MbaRead
   mba_of (got (step k) left p) = M.Step k p
@@ -181,14 +178,14 @@ module _ (s : List ℕ) (n : ℕ) where
   kept_back x = ap nat_abs (-ℤ-+ℤ_cancel (pos x) (pos 16))
 
   vector_read : ReadIn counted Vector → CountedRead (ℕ × ℕ)
-  vector_read (got v left p) = PR.Got (kept v.horizontal) (kept v.vertical) p
-  vector_read (refused why) = PR.Refused why
-  vector_read endless = PR.Refused none
+  vector_read (got v left p) = K.Got (kept v.horizontal, kept v.vertical) p
+  vector_read (refused why) = K.Refused why
+  vector_read endless = K.Refused none
 
   vector_of : (x : CountedRead (ℕ × ℕ)) → vector_read (as_vector s n x) ≡ x
   unfolding vector_read
-  vector_of (PR.Got h v p) = λ i. PR.Got (kept_back h i) (kept_back v i) p
-  vector_of (PR.Refused why) = refl
+  vector_of (K.Got (h, v) p) = λ i. K.Got (kept_back h i, kept_back v i) p
+  vector_of (K.Refused why) = refl
 
   behind_of : Before → Behind
   behind_of b = record { address = b.address; horizontal = kept b.vector.horizontal; vertical = kept b.vector.vertical }
@@ -198,26 +195,26 @@ module _ (s : List ℕ) (n : ℕ) where
   behind_back b = λ i. record { address = b.address; horizontal = kept_back b.horizontal i; vertical = kept_back b.vertical i }
 
   macroblock_read : ReadIn counted Sent → CountedRead Behind
-  macroblock_read (got x left p) = BR.Got (behind_of x.before) p
-  macroblock_read (refused why) = BR.Refused why
-  macroblock_read endless = BR.Refused none
+  macroblock_read (got x left p) = K.Got (behind_of x.before) p
+  macroblock_read (refused why) = K.Refused why
+  macroblock_read endless = K.Refused none
 
   macroblock_of : (x : CountedRead Behind) (macroblocks levels : List ℕ) → macroblock_read (as_macroblock s n x macroblocks levels) ≡ x
   unfolding macroblock_read
-  macroblock_of (BR.Got b p) macroblocks levels = λ i. BR.Got (behind_back b i) p
-  macroblock_of (BR.Refused why) macroblocks levels = refl
+  macroblock_of (K.Got b p) macroblocks levels = λ i. K.Got (behind_back b i) p
+  macroblock_of (K.Refused why) macroblocks levels = refl
 
   -- a layer's answer, and where it is a place, what it left in the buffers
   module _ {A : Type 0} where
     place_of : ReadIn counted A → CountedRead (Unit {0})
-    place_of (got a left p) = P.Got tt p
-    place_of (refused why) = P.Refused why
-    place_of endless = P.Refused none
+    place_of (got a left p) = K.Got tt p
+    place_of (refused why) = K.Refused why
+    place_of endless = K.Refused none
 
     place_of_lem : (x : CountedRead (Unit {0})) (a : A) → place_of (leaving s n x a) ≡ x
     unfolding place_of
-    place_of_lem (P.Got u p) a = refl
-    place_of_lem (P.Refused why) a = refl
+    place_of_lem (K.Got u p) a = refl
+    place_of_lem (K.Refused why) a = refl
 
 pub field-once : FieldOnce
 field-once s n b x y = through (as_field s n) (field_of s n) (field_of_lem s n)

@@ -9,12 +9,11 @@ use Rattle.bits.specs.Places.{counted}
 use Rattle.bits.specs.Read.{ReadIn, got, refused, endless}
 use Rattle.bits.specs.declared.Stopped.{Stopped}
 use Rattle.fields.specs.declared.CountedRead.{CountedRead}
-use Rattle.fields.specs.declared.CountedRead.TheVariants as P
 use Rattle.layout.specs.Value.{Vector}
 use Rattle.h263_description.specs.Landing.{component_of, residue_of}
 use Rattle.h263_layers.specs.Grammar.{Header, Opened, unsent, coded}
 use Rattle.h263_layers.specs.Answer.{as_header, as_opened, as_vector}
-use Rattle.fields.specs.declared.CountedRead.TheVariants as H
+use Rattle.fields.specs.declared.CountedRead.TheVariants as K
 use Rattle.h263_layers.specs.declared.OpenedRead.{OpenedRead}
 use Rattle.h263_layers.specs.declared.OpenedRead.TheVariants as O
 use Rattle.determined.specs.H263.{HeaderOnce, OpenedOnce, VectorOnce}
@@ -26,14 +25,14 @@ module _ (s : List ℕ) (n : ℕ) where
   none = record { refusal = refusal Length 0; reads = 0 }
 
   header_of : ReadIn counted Header → CountedRead Header
-  header_of (got h left p) = H.Got (record { tr = h.tr; ptype = h.ptype; kind = h.type; pquant = h.pquant }) p
-  header_of (refused why) = H.Refused why
-  header_of endless = H.Refused none
+  header_of (got h left p) = K.Got (record { tr = h.tr; ptype = h.ptype; kind = h.type; pquant = h.pquant }) p
+  header_of (refused why) = K.Refused why
+  header_of endless = K.Refused none
 
   header_of_lem : (x : CountedRead Header) → header_of (as_header s n x) ≡ x
   unfolding header_of
-  header_of_lem (H.Got h p) = refl
-  header_of_lem (H.Refused why) = refl
+  header_of_lem (K.Got h p) = refl
+  header_of_lem (K.Refused why) = refl
 
   opened_of : ReadIn counted Opened → OpenedRead
   opened_of (got o left p) =
@@ -54,14 +53,14 @@ module _ (s : List ℕ) (n : ℕ) where
   kept_back x = ap nat_abs (-ℤ-+ℤ_cancel (pos x) (pos 32))
 
   vector_read : ReadIn counted Vector → CountedRead (ℕ × ℕ)
-  vector_read (got v left p) = P.Got (residue_of v.horizontal) (residue_of v.vertical) p
-  vector_read (refused why) = P.Refused why
-  vector_read endless = P.Refused none
+  vector_read (got v left p) = K.Got (residue_of v.horizontal, residue_of v.vertical) p
+  vector_read (refused why) = K.Refused why
+  vector_read endless = K.Refused none
 
   vector_of : (x : CountedRead (ℕ × ℕ)) → vector_read (as_vector s n x) ≡ x
   unfolding vector_read
-  vector_of (P.Got h v p) = λ i. P.Got (kept_back h i) (kept_back v i) p
-  vector_of (P.Refused why) = refl
+  vector_of (K.Got (h, v) p) = λ i. K.Got (kept_back h i, kept_back v i) p
+  vector_of (K.Refused why) = refl
 
 pub h263_header_once : HeaderOnce
 h263_header_once s n b x y = through (as_header s n) (header_of s n) (header_of_lem s n)
