@@ -22,7 +22,7 @@ overflow_add-reads c = let l = c.loop-run.invariant.1.placed.countable in omega 
 pub returns-in_default : goal.returns-in_default
 returns-in_default c =
     ap (λ (r : CountedRead (Unit {0})). leaving c.args.bytes.now c.args.count r c.loop-run.levels) c.block_end.ensures
-    ∙ coefficients_end c.loop-run.invariant.1 c.coefficient-read.result (opened c.in_default.is) c.coefficient-read.ensures
+    ∙ coefficients_end c.loop-run.invariant.1 c.coefficient-read.result (opened c.in_default.in_default-own.keys2) c.coefficient-read.ensures
 
 pub returns-then-end-to : goal.returns-then-end-to
 returns-then-end-to c =
