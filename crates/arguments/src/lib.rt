@@ -9,63 +9,42 @@ use size::Size;
 use text::same;
 use vault::Standard;
 
+// A vault's blocks: their size, and the clip where one is named.
 #[derive(Clone, Copy)]
-pub enum SizeWord {
-    Names(Size),
-    Other,
-}
-
-#[derive(Clone, Copy)]
-pub enum KindWord {
-    Names(Kind),
-    Other,
-}
-
-#[derive(Clone, Copy)]
-pub enum ClipWord {
-    Names(u16),
-    Other,
-}
-
-// The words after the name of a program that takes a vault's blocks.
-#[derive(Clone, Copy)]
-pub enum VaultWords {
-    Size(Size),
-    Clip(Size, u16),
-    Other,
+pub struct VaultWords {
+    pub size: Size,
+    pub clip: Option<u16>,
 }
 
 // "sqcif", "qcif" or "cif".
-pub fn size_named(word: &[u8]) -> SizeWord
+pub fn size_named(word: &[u8]) -> Option<Size>
     ensures { result ≡ size_named word.now }
 {
     if same(word, b"sqcif") {
-        return SizeWord::Names(Size::SubQcif);
+        return Some(Size::SubQcif);
     }
     if same(word, b"qcif") {
-        return SizeWord::Names(Size::Qcif);
+        return Some(Size::Qcif);
     }
     if same(word, b"cif") {
-        return SizeWord::Names(Size::Cif);
+        return Some(Size::Cif);
     }
-    SizeWord::Other
+    None
 }
 
 // A standard's kind of the size that a word names.
-fn kind_sized(standard: Standard, word: &[u8]) -> KindWord
+fn kind_sized(standard: Standard, word: &[u8]) -> Option<Kind>
     ensures { result ≡ kind_sized standard (size_named word.now) }
 {
-    let SizeWord::Names(size) = size_named(word) else {
-        return KindWord::Other;
-    };
+    let size = size_named(word)?;
     match coding::kind_in(standard, size) {
-        KindFound::Kind(kind) => KindWord::Names(kind),
-        KindFound::Absent => KindWord::Other,
+        KindFound::Kind(kind) => Some(kind),
+        KindFound::Absent => None,
     }
 }
 
 // A size's word is H.261's; after "h263-" it is H.263's.
-pub fn kind_named(word: &[u8]) -> KindWord
+pub fn kind_named(word: &[u8]) -> Option<Kind>
     ensures { result ≡ kind_named word.now }
 {
     if word.len() < 5 {
@@ -93,70 +72,60 @@ fn lengthen(n: u32, c: u8) -> u32
     10 * n + ((c - 48) as u32)
 }
 
-pub fn clip_named(word: &[u8]) -> ClipWord
+// A number of 16 bits in decimal digits, as many as there are, with no sign: `parse` takes a sign too.
+pub fn clip_named(word: &[u8]) -> Option<u16>
     ensures { result ≡ clip_named word.now }
 {
     if word.len() == 0 {
-        return ClipWord::Other;
+        return None;
     }
     let mut n: u32 = 0;
-    let mut i: usize = 0;
-    while i < word.len() {
-        let c = word[i];
+    for &c in word {
         if !is_digit(c) {
-            return ClipWord::Other;
+            return None;
         }
         n = lengthen(n, c);
         if 65535 < n {
-            return ClipWord::Other;
+            return None;
         }
-        i += 1;
     }
-    ClipWord::Names(n as u16)
+    Some(n as u16)
 }
 
-fn size_alone(word: &[u8]) -> VaultWords
+fn size_alone(word: &[u8]) -> Option<VaultWords>
     ensures { result ≡ size_alone (size_named word.now) }
 {
-    match size_named(word) {
-        SizeWord::Names(size) => VaultWords::Size(size),
-        SizeWord::Other => VaultWords::Other,
-    }
+    let size = size_named(word)?;
+    Some(VaultWords { size, clip: None })
 }
 
 // No clip has number 0.
-fn clip_in(size: Size, word: &[u8]) -> VaultWords
+fn clip_in(size: Size, word: &[u8]) -> Option<VaultWords>
     ensures { result ≡ clip_in size (clip_named word.now) }
 {
-    match clip_named(word) {
-        ClipWord::Names(clip) => {
-            if clip == 0 {
-                return VaultWords::Other;
-            }
-            VaultWords::Clip(size, clip)
-        }
-        ClipWord::Other => VaultWords::Other,
+    match clip_named(word)? {
+        0 => None,
+        clip => Some(VaultWords {
+            size,
+            clip: Some(clip),
+        }),
     }
 }
 
-fn size_with_clip(size: &[u8], clip: &[u8]) -> VaultWords
+fn size_with_clip(size: &[u8], clip: &[u8]) -> Option<VaultWords>
     ensures { result ≡ size_with_clip (size_named size.now) (clip_named clip.now) }
 {
-    match size_named(size) {
-        SizeWord::Names(named) => clip_in(named, clip),
-        SizeWord::Other => VaultWords::Other,
-    }
+    let named = size_named(size)?;
+    clip_in(named, clip)
 }
 
 // How many words there are, the program's own name among them, and the two after it: a size alone, or a size and a clip from 1 to 65535.
-pub fn vault_named(count: usize, size: &[u8], clip: &[u8]) -> VaultWords
+pub fn vault_named(count: usize, size: &[u8], clip: &[u8]) -> Option<VaultWords>
     ensures { result ≡ vault_named count size.now clip.now }
 {
-    if count == 2 {
-        return size_alone(size);
+    match count {
+        2 => size_alone(size),
+        3 => size_with_clip(size, clip),
+        _ => None,
     }
-    if count == 3 {
-        return size_with_clip(size, clip);
-    }
-    VaultWords::Other
 }

@@ -20,7 +20,6 @@ use account::going::Going;
 use account::idle::Idle;
 use account::input::Next;
 use account::streams::Streams;
-use arguments::VaultWords;
 use listing::Clip;
 use pace::Between;
 use size::Size;
@@ -513,6 +512,13 @@ fn usage<I, O, E: Write>(streams: &mut Streams<I, O, E>) -> End {
     End::Misnamed
 }
 
+fn clip_of(number: Option<u16>) -> Clip {
+    match number {
+        Some(number) => Clip::Asked(number),
+        None => Clip::Unknown,
+    }
+}
+
 // How many words there are, the program's own name among them and `timed` not, and the two after it.
 fn of_words<I: Read, O: Write, E: Write>(
     streams: &mut Streams<I, O, E>,
@@ -522,9 +528,8 @@ fn of_words<I: Read, O: Write, E: Write>(
     timed: bool,
 ) -> End {
     match arguments::vault_named(count, size, clip) {
-        VaultWords::Size(named) => run(streams, named, Clip::Unknown, timed),
-        VaultWords::Clip(named, number) => run(streams, named, Clip::Asked(number), timed),
-        VaultWords::Other => usage(streams),
+        Some(vault) => run(streams, vault.size, clip_of(vault.clip), timed),
+        None => usage(streams),
     }
 }
 

@@ -14,7 +14,6 @@ use crate::h263::H263Pack;
 use crate::recording::Recording;
 use account::End;
 use account::streams::Streams;
-use arguments::{ClipWord, KindWord};
 use coding::Kind;
 use sender::{Opened, Sender};
 use std::io::{IsTerminal, Read, Write};
@@ -199,12 +198,9 @@ fn of_words<I: Read, O: Write, E: Write>(
     if count != 3 {
         return usage(streams);
     }
-    match arguments::kind_named(kind) {
-        KindWord::Names(named) => match arguments::clip_named(clip) {
-            ClipWord::Names(number) => begin(streams, named, number, terminal),
-            ClipWord::Other => usage(streams),
-        },
-        KindWord::Other => usage(streams),
+    match (arguments::kind_named(kind), arguments::clip_named(clip)) {
+        (Some(named), Some(number)) => begin(streams, named, number, terminal),
+        _ => usage(streams),
     }
 }
 

@@ -13,7 +13,6 @@ use account::blocks::Met;
 use account::going::Going;
 use account::input::Next;
 use account::streams::Streams;
-use arguments::VaultWords;
 use coding::Kind;
 use counting::Ending;
 use listing::Clip;
@@ -227,6 +226,13 @@ fn usage<I, O, E: Write>(streams: &mut Streams<I, O, E>) -> End {
     End::Misnamed
 }
 
+fn clip_of(number: Option<u16>) -> Clip {
+    match number {
+        Some(number) => Clip::Asked(number),
+        None => Clip::Unknown,
+    }
+}
+
 // How many words there are, the program's own name among them, and the two after it.
 fn of_words<I: Read, O: Write, E: Write>(
     streams: &mut Streams<I, O, E>,
@@ -235,9 +241,8 @@ fn of_words<I: Read, O: Write, E: Write>(
     clip: &[u8],
 ) -> End {
     match arguments::vault_named(count, size, clip) {
-        VaultWords::Size(named) => run(streams, named, Clip::Unknown),
-        VaultWords::Clip(named, number) => run(streams, named, Clip::Asked(number)),
-        VaultWords::Other => usage(streams),
+        Some(vault) => run(streams, vault.size, clip_of(vault.clip)),
+        None => usage(streams),
     }
 }
 

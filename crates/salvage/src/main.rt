@@ -12,7 +12,6 @@ use account::End;
 use account::going::Going;
 use account::input::Next;
 use account::streams::{Source, Streams};
-use arguments::{ClipWord, KindWord};
 use coding::Kind;
 use refusals::Reason;
 use salvaging::{Entries, Entry, Fate, Sight, Tally};
@@ -761,34 +760,6 @@ fn of_file<R: Files, I, O: Write, E: Write>(
     }
 }
 
-fn of_new<R: Files, I, O: Write, E: Write>(
-    rt: &R,
-    streams: &mut Streams<I, O, E>,
-    kind: Kind,
-    old: u16,
-    new: &[u8],
-    path: &[u8],
-) -> End {
-    match arguments::clip_named(new) {
-        ClipWord::Names(clip) => of_file(rt, streams, kind, old, clip, path),
-        ClipWord::Other => usage(streams),
-    }
-}
-
-fn of_old<R: Files, I, O: Write, E: Write>(
-    rt: &R,
-    streams: &mut Streams<I, O, E>,
-    kind: Kind,
-    old: &[u8],
-    new: &[u8],
-    path: &[u8],
-) -> End {
-    match arguments::clip_named(old) {
-        ClipWord::Names(clip) => of_new(rt, streams, kind, clip, new, path),
-        ClipWord::Other => usage(streams),
-    }
-}
-
 // How many words there are, the program's own name among them, and the four after it.
 fn of_words<R: Files, I, O: Write, E: Write>(
     rt: &R,
@@ -802,9 +773,13 @@ fn of_words<R: Files, I, O: Write, E: Write>(
     if count != 5 || path.len() == 0 {
         return usage(streams);
     }
-    match arguments::kind_named(kind) {
-        KindWord::Names(named) => of_old(rt, streams, named, old, new, path),
-        KindWord::Other => usage(streams),
+    match (
+        arguments::kind_named(kind),
+        arguments::clip_named(old),
+        arguments::clip_named(new),
+    ) {
+        (Some(named), Some(from), Some(to)) => of_file(rt, streams, named, from, to, path),
+        _ => usage(streams),
     }
 }
 
