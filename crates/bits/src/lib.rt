@@ -119,8 +119,7 @@ pub fn walk(
     let bits = window(bytes, at);
     let left = count - at;
     let mut node = root;
-    let mut taken: usize = 0;
-    while taken < 16 {
+    for taken in 0..16 {
         if left <= taken {
             return FieldRead::Refused(Refusal {
                 reason: Reason::BitsEnd,
@@ -143,9 +142,8 @@ pub fn walk(
                 place: at,
             });
         }
-        taken += 1;
         if 256 <= v {
-            return FieldRead::Got((v - 256) as u32, at + taken);
+            return FieldRead::Got((v - 256) as u32, at + taken + 1);
         }
         node = v as usize;
     }
@@ -200,11 +198,9 @@ pub fn put(out: &mut [u8], at: usize, width: usize, value: u32)
     let many = (before + width + 7) / 8;
     let kept = (out[from] as u32) >> (8 - before);
     let number = ((kept << width) + value) << (many * 8 - (before + width));
-    let mut i: usize = 0;
-    while i < many {
+    for i in 0..many {
         let after = (many - 1 - i) * 8;
         out[from + i] = ((number >> after) % 256) as u8;
-        i += 1;
     }
 }
 

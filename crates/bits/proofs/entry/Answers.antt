@@ -20,15 +20,6 @@ below c = let a = c.args in rw (number c) (value-lt a.bytes.now a.at a.width)
 pub returns-then-count-at : goal.returns-then-count-at
 returns-then-count-at c = rw (lt-ltb _ _ c.if-count-at.true)
 
-pub overflow_cast-result : goal.overflow_cast-result
-overflow_cast-result c = let b = below c in search rules
-
-pub overflow_add-result : goal.overflow_add-result
-overflow_add-result c = let b = below c in search rules
-
-pub offset_bounds-table-from : goal.offset_bounds-table-from
-offset_bounds-table-from c = let b = below c in search rules
-
 pub bounds-table-from : goal.bounds-table-from
 bounds-table-from c = let b = below (goal.at.bounds-table-from c).After-window in search rules
 

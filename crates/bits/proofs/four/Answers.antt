@@ -1,6 +1,5 @@
 -- `bits::four` meets its contract: four bytes as a number, whether by one load or each by itself.
 use mathlib.Core.Path.{refl, ◌∙◌}
-use Prim.Native.Nat.{◌+◌}
 use Rattle.bits.proofs.Value.{four_bytes}
 use borrow.Author.Rules.{rules}
 use Rattle.bits.proofs.four.Goals as goal
@@ -9,8 +8,7 @@ pub returns-then-j-bytes : goal.returns-then-j-bytes
 returns-then-j-bytes c =
     let s = c.args.bytes.now in
     let j = c.args.j in
-    let b = c.shared_slice_known-1.given in
-    c.joined.ensures ∙ four_bytes s j _ _ _ _ refl refl refl refl (b j).fits (b (j + 1)).fits (b (j + 2)).fits (b (j + 3)).fits
+    c.joined.ensures ∙ four_bytes s j _ _ _ _ refl refl refl refl (search rules) (search rules) (search rules) (search rules)
 
 pub returns-else-j-bytes : goal.returns-else-j-bytes
 returns-else-j-bytes c =
