@@ -31,6 +31,7 @@ use Rattle.fields.specs.declared.CountedRead.TheVariants.{Got, Refused}
 use Rattle.fields.proofs.HeaderRow.{refused_then, got_then, rule_kept, rule_broken, refused_spare, field_row, ruled_row, spare_row}
 use Rattle.size.specs.declared.Size.{Size}
 use Rattle.h263_description.specs.Value.{format_code}
+use Rattle.h263_layers.specs.declared.Header as D
 use Rattle.h263_layers.specs.Grammar.{Ptype, ptype_in, format_of, mode_bit, modes_of, ptype_read, cpm_of, cpm_read, Header, header}
 use Rattle.h263_layers.specs.Answer.{as_header, Spans, against_at, no_header, moded, code_is, quantiser_of, header_of}
 
@@ -93,27 +94,27 @@ pub spans_got : (k : ℕ) {v p w q : ℕ} (x y : FieldRead ℕ) → Spans k x y 
 spans_got k {v} {p} x y s e f = subst (λ (z : FieldRead ℕ). Spans k (GotField v p) z) f (subst (λ (z : FieldRead ℕ). Spans k z y) e s)
 
 -- ---- what is left of the header
-abbrev from_spare : ℕ → Ptype → ℕ → CountedRead (Unit {0}) → CountedRead Header
+abbrev from_spare : ℕ → Ptype → ℕ → CountedRead (Unit {0}) → CountedRead D.Header
 from_spare reference said quantised spare = after_spare no_header spare (λ next. Got (record { tr = reference; ptype = said.ptype; kind = said.type; pquant = quantised }) next)
 
-abbrev from_cpm : ℕ → Ptype → ℕ → Place → FieldRead ℕ → CountedRead (Unit {0}) → CountedRead Header
+abbrev from_cpm : ℕ → Ptype → ℕ → Place → FieldRead ℕ → CountedRead (Unit {0}) → CountedRead D.Header
 from_cpm reference said quantised at_cpm cpm spare = and_then no_header 4 cpm (λ w q. ruled no_header (cpm_of w) at_cpm.bit q (λ single. from_spare reference said quantised spare))
 
-abbrev from_pquant : ℕ → Ptype → Place → FieldRead ℕ → FieldRead ℕ → CountedRead (Unit {0}) → CountedRead Header
+abbrev from_pquant : ℕ → Ptype → Place → FieldRead ℕ → FieldRead ℕ → CountedRead (Unit {0}) → CountedRead D.Header
 from_pquant reference said at_pquant pquant cpm spare =
     and_then no_header 3 pquant (λ z q. ruled no_header (quantiser_of z) at_pquant.bit q (λ quantised. from_cpm reference said quantised q cpm spare))
 
-abbrev from_ptype : Size → ℕ → Place → FieldRead ℕ → FieldRead ℕ → FieldRead ℕ → CountedRead (Unit {0}) → CountedRead Header
+abbrev from_ptype : Size → ℕ → Place → FieldRead ℕ → FieldRead ℕ → FieldRead ℕ → CountedRead (Unit {0}) → CountedRead D.Header
 from_ptype size reference at_ptype ptype pquant cpm spare =
     and_then no_header 2 ptype (λ y q. ruled no_header (format_of size y) at_ptype.bit q (λ information.
     moded information at_ptype.bit q (λ said. from_pquant reference said q pquant cpm spare)))
 
-abbrev from_tr : Size → FieldRead ℕ → FieldRead ℕ → FieldRead ℕ → FieldRead ℕ → CountedRead (Unit {0}) → CountedRead Header
+abbrev from_tr : Size → FieldRead ℕ → FieldRead ℕ → FieldRead ℕ → FieldRead ℕ → CountedRead (Unit {0}) → CountedRead D.Header
 from_tr size tr ptype pquant cpm spare = and_then no_header 1 tr (λ reference at_ptype. from_ptype size reference at_ptype ptype pquant cpm spare)
 
 -- ---- each read in turn
 module _ (size : Size) (at : ℕ) (psc tr ptype pquant cpm : FieldRead ℕ) (spare : CountedRead (Unit {0})) where
-  abbrev whole : CountedRead Header
+  abbrev whole : CountedRead D.Header
   whole = header_of size at psc tr ptype pquant cpm spare
 
   pub no_psc : {why : Refusal} (y : Stopped) → psc ≡ NoField why → y ≡ field_stopped 1 psc → Refused y ≡ whole
@@ -141,10 +142,10 @@ module _ (size : Size) (at : ℕ) (psc tr ptype pquant cpm : FieldRead ℕ) (spa
         no_ptype y t e = refused_then no_header 2 ptype _ y t e ∙ sym from_ptype_lem
 
         module _ {y q : ℕ} (got_ptype : ptype ≡ GotField y q) where
-          abbrev Said : Ptype → CountedRead Header
+          abbrev Said : Ptype → CountedRead D.Header
           Said said = from_pquant reference said (place_of q 3) pquant cpm spare
 
-          abbrev Rest : ℕ → CountedRead Header
+          abbrev Rest : ℕ → CountedRead D.Header
           Rest information = moded information at_ptype (place_of q 3) Said
 
           other : format_of size y ≡ against OtherFormat → against_at OtherFormat at_ptype 3 ≡ whole
@@ -171,7 +172,7 @@ module _ (size : Size) (at : ℕ) (psc tr ptype pquant cpm : FieldRead ℕ) (spa
               no_pquant r t e = refused_then no_header 3 pquant _ r t e ∙ sym from_pquant_lem
 
               module _ {z at_cpm : ℕ} (got_pquant : pquant ≡ GotField z at_cpm) where
-                abbrev Quantised : ℕ → CountedRead Header
+                abbrev Quantised : ℕ → CountedRead D.Header
                 Quantised quantised = from_cpm reference (ptype_in y) quantised (place_of at_cpm 4) cpm spare
 
                 pub zero_pquant : z ≡ 0 → against_at QuantiserZero q 4 ≡ whole
@@ -185,7 +186,7 @@ module _ (size : Size) (at : ℕ) (psc tr ptype pquant cpm : FieldRead ℕ) (spa
                   no_cpm r t e = refused_then no_header 4 cpm _ r t e ∙ sym from_cpm_lem
 
                   module _ {w at_spares : ℕ} (got_cpm : cpm ≡ GotField w at_spares) where
-                    abbrev Single : ℕ → CountedRead Header
+                    abbrev Single : ℕ → CountedRead D.Header
                     Single single = from_spare reference (ptype_in y) z spare
 
                     pub set_cpm : (w ≡ 0 → ⊥) → against_at OptionalMode at_cpm 5 ≡ whole
@@ -236,7 +237,7 @@ spare_placed s n p place (NoField y) w e l k = record { within = k; countable = 
 -- what comes of PTYPE, where what follows it is the header
 module _ {whole : ReadIn counted Header} (s : List ℕ) (n : ℕ) where
   ptype_row : (size : Size) (p : Place) (rest : Ptype → ReaderIn counted Header) → whole ≡ (ptype_read size >>= rest) (bits_left s n p.bit) p
-      → (x : FieldRead ℕ) → as_field s n x ≡ field 13 (bits_left s n p.bit) p.bit → (then : Ptype → Place → CountedRead Header)
+      → (x : FieldRead ℕ) → as_field s n x ≡ field 13 (bits_left s n p.bit) p.bit → (then : Ptype → Place → CountedRead D.Header)
       → ((said : Ptype) (q : ℕ) → place_after n x ≡ q → whole ≡ rest said (bits_left s n q) (place_of q (p.reads + 1)) → as_header s n (then said (place_of q (p.reads + 1))) ≡ whole)
       → as_header s n (and_then no_header p.reads x (λ y q. ruled no_header (format_of size y) p.bit q (λ information. moded information p.bit q (λ said. then said q)))) ≡ whole
   unfolding ptype_read

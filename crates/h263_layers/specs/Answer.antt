@@ -87,7 +87,7 @@ put_sent each g macroblocks levels m =
 abbrev pub header_in : D.Header → Header
 header_in h = record { tr = h.tr; ptype = h.ptype; type = h.kind; pquant = h.pquant }
 
-abbrev pub as_header : List ℕ → ℕ → CountedRead Header → ReadIn counted Header
+abbrev pub as_header : List ℕ → ℕ → CountedRead D.Header → ReadIn counted Header
 as_header s n (Got h p) = got (header_in h) (bits_left s n p.bit) p
 as_header s n (Refused r) = refused r
 
@@ -104,11 +104,11 @@ pub record HeaderAsked (tr ptype pquant : FieldRead ℕ) : Type 0 where
   pub quantised : Below 32 pquant
 
 -- a refusal at a place, with so many reads
-abbrev pub against_at : Reason → ℕ → ℕ → CountedRead Header
+abbrev pub against_at : Reason → ℕ → ℕ → CountedRead D.Header
 against_at reason place reads = Refused (record { refusal = refusal reason place; reads = reads })
 
 -- the refusal of an optional mode, placed at its bit of PTYPE, else what comes of what PTYPE says
-abbrev pub moded : ℕ → ℕ → Place → (Ptype → CountedRead Header) → CountedRead Header
+abbrev pub moded : ℕ → ℕ → Place → (Ptype → CountedRead D.Header) → CountedRead D.Header
 moded x at next rest = pick (eqb (x % 16) 0) (rest (ptype_in x)) (against_at OptionalMode (at + mode_bit x) next.reads)
 
 -- the rules of PSC and PQUANT
@@ -118,11 +118,11 @@ code_is x = pick (eqb x 0b0000000000000000100000) (fine x) (against NoStartCode)
 abbrev pub quantiser_of : ℕ → Judged ℕ
 quantiser_of q = pick (eqb q 0) (against QuantiserZero) (fine q)
 
-abbrev pub no_header : Stopped → CountedRead Header
+abbrev pub no_header : Stopped → CountedRead D.Header
 no_header r = Refused r
 
 -- what the six reads of a header come to
-unfoldable pub header_of : Size → ℕ → FieldRead ℕ → FieldRead ℕ → FieldRead ℕ → FieldRead ℕ → FieldRead ℕ → CountedRead (Unit {0}) → CountedRead Header
+unfoldable pub header_of : Size → ℕ → FieldRead ℕ → FieldRead ℕ → FieldRead ℕ → FieldRead ℕ → FieldRead ℕ → CountedRead (Unit {0}) → CountedRead D.Header
 header_of size at psc tr ptype pquant cpm spare =
     and_then no_header 0 psc (λ x p. ruled no_header (code_is x) at p (λ start.
     and_then no_header 1 tr (λ reference at_ptype.
