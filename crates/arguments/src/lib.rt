@@ -120,6 +120,7 @@ fn size_with_clip(size: &[u8], clip: &[u8]) -> Option<VaultWords>
 }
 
 // How many words there are, the program's own name among them, and the two after it: a size alone, or a size and a clip from 1 to 65535.
+#[tactic(auto, unfolding(crate::specs::Words::vault_named))]
 pub fn vault_named(count: usize, size: &[u8], clip: &[u8]) -> Option<VaultWords>
     ensures { result ≡ vault_named count size.now clip.now }
 {

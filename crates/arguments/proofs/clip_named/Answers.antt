@@ -9,34 +9,28 @@ use Rattle.arguments.proofs.clip_named.Goals as goal
 pub returns-then-word-eq0 : goal.returns-then-word-eq0
 returns-then-word-eq0 c = sym (clip_none c.args.word.now c.if-word-eq0.true)
 
-pub loop-i-init : goal.loop-i-init
-loop-i-init c = (omega arith, (omega arith, clip_start c.args.word.now c.if-word-eq0.false))
+pub loop-c-init : goal.loop-c-init
+loop-c-init c = (omega arith, clip_start c.args.word.now c.if-word-eq0.false)
 
 pub returns-then-not-is_digit : goal.returns-then-not-is_digit
 returns-then-not-is_digit c =
-    let word = c.args.word.now in
-    sym (c.loop-i.invariant.1.1 ∙ clip_other word c.loop-i.n c.loop-i.i (search rules) c.is_digit.ensures (not-true _ c.if-not-is_digit.true-raw))
+    sym (c.loop-c.invariant.1 ∙ clip_other c.args.word.now c.loop-c.n c.loop-c.c-index (search rules) c.is_digit.ensures (not-true _ c.if-not-is_digit.true-raw))
 
 pub lengthen-n-requires : goal.lengthen-n-requires
-lengthen-n-requires c = (search rules, digit_from _ c.is_digit.ensures (not-false _ c.if-not-is_digit.false-raw))
+lengthen-n-requires c = (c.loop-c.invariant.0, digit_from _ c.is_digit.ensures (not-false _ c.if-not-is_digit.false-raw))
 
 pub returns-then-n-gt65535 : goal.returns-then-n-gt65535
 returns-then-n-gt65535 c =
-    let word = c.args.word.now in
-    sym (c.loop-i.invariant.1.1 ∙ clip_above word c.loop-i.n c.loop-i.i (search rules) c.is_digit.ensures (not-false _ c.if-not-is_digit.false-raw)
+    sym (c.loop-c.invariant.1 ∙ clip_above c.args.word.now c.loop-c.n c.loop-c.c-index (search rules) c.is_digit.ensures (not-false _ c.if-not-is_digit.false-raw)
     c.lengthen-n.ensures c.if-n-gt65535.true)
 
-pub loop-i-preserved : goal.loop-i-preserved
-loop-i-preserved c =
-    let word = c.args.word.now in (
+pub loop-c-preserved : goal.loop-c-preserved
+loop-c-preserved c =
+    (
       search rules,
-      (
-        search rules,
-        c.loop-i.invariant.1.1 ∙ clip_more word c.loop-i.n c.loop-i.i (search rules) c.is_digit.ensures (not-false _ c.if-not-is_digit.false-raw)
-            c.lengthen-n.ensures c.if-n-gt65535.false,
-      ),
+      c.loop-c.invariant.1 ∙ clip_more c.args.word.now c.loop-c.n c.loop-c.c-index (search rules) c.is_digit.ensures (not-false _ c.if-not-is_digit.false-raw)
+          c.lengthen-n.ensures c.if-n-gt65535.false,
     )
 
 pub returns : goal.returns
-returns c =
-    sym (c.loop-i.invariant.1.1 ∙ clip_end c.args.word.now c.loop-i.n c.loop-i.i (search rules))
+returns c = sym (c.loop-c.invariant.1 ∙ clip_end c.args.word.now c.loop-c.n c.loop-c.c-index (search rules))
