@@ -8,6 +8,7 @@ use mathlib.Core.List.{List, [], ◌∷◌}
 use lib.Dec.{leb}
 use lib.ListN.{length, take, drop, get_or, length-take, length-drop, drop_of_length-le}
 use lib.Seq.{take_all}
+use Rattle.std.specs.Prelude.{Option, Some, None}
 use Rattle.laws.specs.Choice.{pick, both}
 use Rattle.laws.specs.Lists.{alike}
 use Rattle.laws.proofs.Lists.{drop_on, alike_lengths}
@@ -15,11 +16,8 @@ use Rattle.size.specs.declared.Size.{Size}
 use Rattle.size.specs.declared.Size.TheVariants.{SubQcif, Qcif, Cif}
 use Rattle.vault.specs.declared.Standard.{Standard}
 use Rattle.vault.specs.declared.Standard.TheVariants.{H261, H263}
-use Rattle.coding.specs.declared.KindFound.{KindFound}
-use Rattle.coding.specs.Kind.{kind_in}
 use Rattle.coding.specs.declared.Kind.{Kind}
-use Rattle.std.specs.Prelude.{Option, Some, None}
-use Rattle.arguments.specs.Words.{sub_qcif_word, qcif_word, cif_word, h263_word, size_named, kind_found, kind_sized, kind_named, digit, longer, clip_after, clip_named}
+use Rattle.arguments.specs.Words.{sub_qcif_word, qcif_word, cif_word, h263_word, size_named, kind_sized, kind_named, digit, longer, clip_after, clip_named}
 
 -- ---- a size
 abbrev by_tests : Bool → Bool → Bool → Option Size
@@ -45,13 +43,6 @@ module _ (word : List ℕ) {a : Bool} (e : a ≡ alike word sub_qcif_word) where
   names_none f g h k l = ap (λ (t : Bool). by_tests false false t) (sym l) ∙ names_last f g h k
 
 -- ---- a kind
-module _ (standard : Standard) (word : List ℕ) {a : Option Size} (e : a ≡ size_named word) where
-  pub unsized : a ≡ None → None ≡ kind_sized standard (size_named word)
-  unsized f = ap (λ (w : Option Size). kind_sized standard w) (sym f ∙ e)
-
-  pub sized_as : {size : Size} {b : KindFound} → a ≡ Some size → b ≡ kind_in standard size → kind_found b ≡ kind_sized standard (size_named word)
-  sized_as f g = ap kind_found g ∙ ap (λ (w : Option Size). kind_sized standard w) (sym f ∙ e)
-
 module _ (word : List ℕ) where
   abbrev by_start : Bool → Option Kind
   by_start t = pick t (kind_sized H263 (size_named (drop 5 word))) (kind_sized H261 (size_named word))

@@ -7,8 +7,6 @@ use Rattle.size.specs.declared.Size.TheVariants.{SubQcif, Qcif, Cif}
 use Rattle.vault.specs.declared.Standard.{Standard}
 use Rattle.vault.specs.declared.Standard.TheVariants.{H261, H263}
 use Rattle.coding.specs.declared.Kind.{Kind}
-use Rattle.coding.specs.declared.KindFound.{KindFound}
-use Rattle.coding.specs.declared.KindFound.TheVariants as Found
 use Rattle.coding.specs.Kind.{kind_in}
 use Rattle.arguments.specs.declared.VaultWords.{VaultWords}
 
@@ -27,13 +25,9 @@ unfoldable pub size_named : List ℕ → Option Size
 size_named word = pick (alike word sub_qcif_word) (Some SubQcif) (pick (alike word qcif_word) (Some Qcif) (pick (alike word cif_word) (Some Cif) None))
 
 -- ---- a kind
--- a standard's of a size, if it has one
-abbrev pub kind_found : KindFound → Option Kind
-kind_found (Found.Kind k) = Some k
-kind_found Found.Absent = None
-
+-- a standard's of the size that is named, if it has one
 abbrev pub kind_sized : Standard → Option Size → Option Kind
-kind_sized standard (Some size) = kind_found (kind_in standard size)
+kind_sized standard (Some size) = kind_in standard size
 kind_sized standard None = None
 
 -- "h263-"

@@ -4,7 +4,7 @@
 ghost use Rattle.std.specs.Prelude.{◌≡◌, ◌+◌, ◌-◌, ◌*◌, ◌≤◌};
 ghost use Rattle.arguments.specs.Words.{size_named, kind_sized, kind_named, digit, longer, clip_named, size_alone, clip_in, size_with_clip, vault_named};
 
-use coding::{Kind, KindFound};
+use coding::Kind;
 use size::Size;
 use text::same;
 use vault::Standard;
@@ -37,10 +37,7 @@ fn kind_sized(standard: Standard, word: &[u8]) -> Option<Kind>
     ensures { result ≡ kind_sized standard (size_named word.now) }
 {
     let size = size_named(word)?;
-    match coding::kind_in(standard, size) {
-        KindFound::Kind(kind) => Some(kind),
-        KindFound::Absent => None,
-    }
+    coding::kind_in(standard, size)
 }
 
 // A size's word is H.261's; after "h263-" it is H.263's.

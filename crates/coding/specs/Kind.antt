@@ -1,5 +1,5 @@
 -- What a clip is opened with: its standard and the size of its pictures. Assumes nothing.
-use Rattle.std.specs.Prelude.{ℕ, ◌+◌, ◌*◌, List, length}
+use Rattle.std.specs.Prelude.{ℕ, ◌+◌, ◌*◌, List, length, Option, Some, None}
 use Rattle.bits.specs.Read.{Read}
 use Rattle.size.specs.declared.Size.{Size}
 use Rattle.size.specs.declared.Size.TheVariants.{SubQcif, Qcif, Cif}
@@ -8,15 +8,12 @@ use Rattle.h261_groups.specs.Format.{size_of}
 use Rattle.layout.specs.Flat.{Shape, Flat}
 use Rattle.coding.specs.declared.Kind.{Kind}
 use Rattle.coding.specs.declared.Kind.TheVariants.{H261, H263}
-use Rattle.coding.specs.declared.KindFound.{KindFound}
-use Rattle.coding.specs.declared.KindFound.TheVariants.{Absent}
 use Rattle.coding.specs.Coding.{Coding}
 use Rattle.coding.specs.Lawful.{Lawful}
 use Rattle.coding.specs.H261.{h261}
 use Rattle.coding.specs.H263.{h263}
 use Rattle.vault.specs.declared.Standard.TheVariants as S
 use Rattle.h261_groups.specs.declared.Format.TheVariants as F
-use Rattle.coding.specs.declared.KindFound.TheVariants as Found
 use Rattle.h261_description.specs.Value as V261
 use Rattle.h261_layers.specs.Grammar as G261
 use Rattle.h261_reader.specs.Described as R261
@@ -34,11 +31,11 @@ kind_standard (H261 f) = S.H261
 kind_standard (H263 size) = S.H263
 
 -- a standard's kind of a size: H.261 has no sub-QCIF
-abbrev pub kind_in : Standard → Size → KindFound
-kind_in S.H261 SubQcif = Absent
-kind_in S.H261 Qcif = Found.Kind (H261 F.Qcif)
-kind_in S.H261 Cif = Found.Kind (H261 F.Cif)
-kind_in S.H263 size = Found.Kind (H263 size)
+abbrev pub kind_in : Standard → Size → Option Kind
+kind_in S.H261 SubQcif = None
+kind_in S.H261 Qcif = Some (H261 F.Qcif)
+kind_in S.H261 Cif = Some (H261 F.Cif)
+kind_in S.H263 size = Some (H263 size)
 
 -- ---- how its descriptions are laid out, and so the lengths of their three slices
 abbrev pub shape_of : Kind → Shape

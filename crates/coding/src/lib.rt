@@ -40,23 +40,16 @@ pub fn standard_of(kind: Kind) -> Standard
     }
 }
 
-// A standard's kind of this size, if it has one.
-#[derive(Clone, Copy)]
-pub enum KindFound {
-    Kind(Kind),
-    Absent,
-}
-
-// There is no sub-QCIF of H.261.
-pub fn kind_in(standard: Standard, size: Size) -> KindFound
+// A standard's kind of this size, if it has one: there is no sub-QCIF of H.261.
+pub fn kind_in(standard: Standard, size: Size) -> Option<Kind>
     ensures { result ≡ kind_in standard size }
 {
     match standard {
-        Standard::H263 => KindFound::Kind(Kind::H263(size)),
+        Standard::H263 => Some(Kind::H263(size)),
         Standard::H261 => match size {
-            Size::SubQcif => KindFound::Absent,
-            Size::Qcif => KindFound::Kind(Kind::H261(Format::Qcif)),
-            Size::Cif => KindFound::Kind(Kind::H261(Format::Cif)),
+            Size::SubQcif => None,
+            Size::Qcif => Some(Kind::H261(Format::Qcif)),
+            Size::Cif => Some(Kind::H261(Format::Cif)),
         },
     }
 }

@@ -4,6 +4,7 @@ use mathlib.Core.Path.{◌≡◌, refl, sym, ap, ◌∙◌}
 use mathlib.Core.Bool.{Bool, true, false}
 use mathlib.Core.List.{List}
 use lib.ListN.{length}
+use Rattle.std.specs.Prelude.{Option, Some, None}
 use Rattle.laws.specs.Choice.{pick, alike}
 use Rattle.refusals.specs.Told.{Numbers, untabled, Told, accepted, refused_by, refused}
 use Rattle.size.specs.declared.Size.{Size}
@@ -19,17 +20,15 @@ use Rattle.standing.specs.declared.Receiver.{Receiver}
 use Rattle.standing.specs.declared.Standing.{Standing}
 use Rattle.standing.specs.declared.Standing.TheVariants as S
 use Rattle.standing.specs.Receive.{taken, failed, finished, count_of, mark_of, Buffers, buffers, named_lengths, judged_block, ended_picture, took_of, line_of, by_line, by_judgement, decide}
-use Rattle.counting.specs.declared.Ending.{Ending}
-use Rattle.counting.specs.declared.Ending.TheVariants.{Nothing, Picture}
 use Rattle.counting.specs.Ending.{ended_after, ended_with, ended_by}
 
 -- a last part that is taken is read, whatever is found
-read_ended : (r : Receiver) (header : Header) (found : Told Flat) → ended_after (ended_picture coding_of r header found) ≡ Picture (count_of header)
+read_ended : (r : Receiver) (header : Header) (found : Told Flat) → ended_after (ended_picture coding_of r header found) ≡ Some (count_of header)
 unfolding ended_picture
 read_ended r header (refused_by numbers) = refl
 read_ended r header (accepted d) = either_way (alike ((coding_of r.kind).refresh d) (mark_of r.progress header))
   where
-    either_way : (b : Bool) → ended_after (pick b (finished header d) (failed header (untabled 24 0))) ≡ Picture (count_of header)
+    either_way : (b : Bool) → ended_after (pick b (finished header d) (failed header (untabled 24 0))) ≡ Some (count_of header)
     either_way true = refl
     either_way false = refl
 
@@ -37,7 +36,7 @@ took_ended : (r : Receiver) (header : Header) (standing : Standing) (collection 
 unfolding took_of
 took_ended r header standing collection = by header.last
   where
-    by : (b : Bool) → ended_after (pick b (ended_picture coding_of r header ((coding_of r.kind).read collection (count_of header))) (taken header standing)) ≡ pick b (Picture (count_of header)) Nothing
+    by : (b : Bool) → ended_after (pick b (ended_picture coding_of r header ((coding_of r.kind).read collection (count_of header))) (taken header standing)) ≡ pick b (Some (count_of header)) None
     by true = read_ended r header ((coding_of r.kind).read collection (count_of header))
     by false = refl
 
@@ -68,15 +67,15 @@ module _ {right : Bool} {size : Size} (r : Receiver) (block collection first sec
     judged_so : (k : Told Header) → found ≡ k → k ≡ judged_block r block lent
     judged_so k e = sym e ∙ f ∙ ap (λ (s : Standard). judge_of size s r.clip block) st ∙ by_lengths true t
 
-    pub good_ends : {header : Header} {x : Ending} → found ≡ accepted header → x ≡ ended_by (line_of r.progress header) header → x ≡ ended_after (decide coding_of r block lent)
+    pub good_ends : {header : Header} {x : Option ℕ} → found ≡ accepted header → x ≡ ended_by (line_of r.progress header) header → x ≡ ended_after (decide coding_of r block lent)
     unfolding by_judgement
     good_ends {header} e h =
         h ∙ sym (line_ended (line_of r.progress header) r header block collection) ∙ judged (accepted header) (judged_so (accepted header) e)
 
-    pub refused_ends : {numbers : Numbers} → found ≡ refused_by numbers → Nothing ≡ ended_after (decide coding_of r block lent)
+    pub refused_ends : {numbers : Numbers} → found ≡ refused_by numbers → None ≡ ended_after (decide coding_of r block lent)
     unfolding by_judgement
     refused_ends {numbers} e = judged (refused_by numbers) (judged_so (refused_by numbers) e)
 
-  pub short_ends : right ≡ false → Nothing ≡ ended_after (decide coding_of r block lent)
+  pub short_ends : right ≡ false → None ≡ ended_after (decide coding_of r block lent)
   unfolding by_judgement
   short_ends e = judged (refused 1 0) (by_lengths false e)

@@ -1,5 +1,5 @@
 -- Document 02, T-13: which blocks of a vault end a picture, "a last part was taken and read", and of how many bits. Assumes nothing.
-use Rattle.std.specs.Prelude.{ℕ, List}
+use Rattle.std.specs.Prelude.{ℕ, List, Option, Some, None}
 use Rattle.laws.specs.Choice.{pick}
 use Rattle.refusals.specs.Told.{Told, accepted, refused_by}
 use Rattle.size.specs.declared.Size.{Size}
@@ -12,32 +12,30 @@ use Rattle.standing.specs.declared.Receiver.{Receiver}
 use Rattle.standing.specs.Receive.{Event, refusing, old, taken, lost, failed, finished, count_of, Buffers, decide}
 use Rattle.listing.specs.declared.Clip.{Clip}
 use Rattle.listing.specs.Listed.{found_by}
-use Rattle.counting.specs.declared.Ending.{Ending}
-use Rattle.counting.specs.declared.Ending.TheVariants.{Nothing, Picture}
 
 -- a picture was read exactly where it failed or was finished
-abbrev pub ended_after : Event Flat → Ending
-ended_after (refusing numbers) = Nothing
-ended_after (old header) = Nothing
-ended_after (taken header standing) = Nothing
-ended_after lost = Nothing
-ended_after (failed header numbers) = Picture (count_of header)
-ended_after (finished header d) = Picture (count_of header)
+abbrev pub ended_after : Event Flat → Option ℕ
+ended_after (refusing numbers) = None
+ended_after (old header) = None
+ended_after (taken header standing) = None
+ended_after lost = None
+ended_after (failed header numbers) = Some (count_of header)
+ended_after (finished header d) = Some (count_of header)
 
 -- of a block that comes to this receiver, or to none
-abbrev pub ended_opened : Told Receiver → List ℕ → Buffers → Ending
+abbrev pub ended_opened : Told Receiver → List ℕ → Buffers → Option ℕ
 ended_opened (accepted r) block b = ended_after (decide coding_of r block b)
-ended_opened (refused_by numbers) block b = Nothing
+ended_opened (refused_by numbers) block b = None
 
-abbrev pub ended_in : Size → Clip → List ℕ → Buffers → Ending
+abbrev pub ended_in : Size → Clip → List ℕ → Buffers → Option ℕ
 ended_in size clip block b = ended_opened (found_by size clip block) block b
 
 -- ---- the same without reading: by the header of a block that is taken, and by its line
-abbrev pub ended_with : Header → Ending
-ended_with header = pick header.last (Picture (count_of header)) Nothing
+abbrev pub ended_with : Header → Option ℕ
+ended_with header = pick header.last (Some (count_of header)) None
 
-abbrev pub ended_by : Line → Header → Ending
-ended_by Earlier header = Nothing
+abbrev pub ended_by : Line → Header → Option ℕ
+ended_by Earlier header = None
 ended_by Next header = ended_with header
 ended_by Anew header = ended_with header
-ended_by Otherwise header = Nothing
+ended_by Otherwise header = None

@@ -14,39 +14,33 @@ ghost use Rattle.counting.specs.Lines.{outcome_text, counts_text, reads_text};
 use coding::Kind;
 use listing::Clip;
 use size::Size;
-use standing::{Answer, Line, Opened, Progress, Receiver};
-use vault::{Checked, Header};
-
-// Whether a block ended a picture, which was then read, and of how many bits.
-#[derive(Clone, Copy)]
-pub enum Ending {
-    Nothing,
-    Picture(usize),
-}
+use standing::{Answer, Line, Progress, Receiver};
+use vault::Header;
 
 // ---- which blocks end a picture
 
+// Of how many bits the picture is that a block ended, and which was then read; none where it ended none.
 // A block that is taken ends one where it is a last part: all parts before it have 4000 bits.
-fn ended_with(header: Header) -> Ending
+fn ended_with(header: Header) -> Option<usize>
     requires { (header.part ≤ 65) × (header.used ≤ 4000) }
     ensures { result ≡ ended_with header }
 {
     if header.last {
-        return Ending::Picture(4000 * (header.part as usize) + (header.used as usize));
+        return Some(4000 * (header.part as usize) + (header.used as usize));
     }
-    Ending::Nothing
+    None
 }
 
 // A good block of the clip is taken by two of the four lines.
-fn ended_by(progress: Progress, header: Header) -> Ending
+fn ended_by(progress: Progress, header: Header) -> Option<usize>
     requires { (header.part ≤ 65) × (header.used ≤ 4000) }
     ensures { result ≡ ended_by (line_of progress header) header }
 {
     match standing::first_line(progress, header) {
-        Line::Earlier => Ending::Nothing,
+        Line::Earlier => None,
         Line::Next => ended_with(header),
         Line::Anew => ended_with(header),
-        Line::Otherwise => Ending::Nothing,
+        Line::Otherwise => None,
     }
 }
 
@@ -57,7 +51,7 @@ fn ended_after(
     collection: &[u8],
     first: &[u8],
     second: &[u8],
-) -> Ending
+) -> Option<usize>
     ensures { result ≡ ended_after (decide coding_of receiver block.now (buffers collection.now first.now second.now)) }
 {
     let kind = receiver.kind;
@@ -65,14 +59,14 @@ fn ended_after(
     if standing::named(size, collection.len(), first.len(), second.len()) {
         let standard = coding::standard_of(kind);
         match vault::judge(size, standard, receiver.clip, block) {
-            Checked::Good(header) => {
+            Ok(header) => {
                 let progress = receiver.progress;
                 ended_by(progress, header)
             }
-            Checked::Refused(_) => Ending::Nothing,
+            Err(_) => None,
         }
     } else {
-        Ending::Nothing
+        None
     }
 }
 
@@ -84,12 +78,12 @@ pub fn ended(
     collection: &[u8],
     first: &[u8],
     second: &[u8],
-) -> Ending
+) -> Option<usize>
     ensures { result ≡ ended_in size clip block.now (buffers collection.now first.now second.now) }
 {
     match listing::find(size, clip, block) {
-        Opened::Open(receiver) => ended_after(receiver, block, collection, first, second),
-        Opened::Refused(_) => Ending::Nothing,
+        Ok(receiver) => ended_after(receiver, block, collection, first, second),
+        Err(_) => None,
     }
 }
 

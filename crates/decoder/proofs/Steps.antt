@@ -1,5 +1,4 @@
 -- Reading, then judging the mark, then rendering, on plain values. Assumes nothing.
-use Rattle.std.specs.Prelude.{Result}
 use Rattle.refusals.specs.declared.Refusal.{Refusal}
 use mathlib.Core.Path.{◌≡◌, refl, sym, ap, ◌∙◌}
 use mathlib.Core.Bool.{Bool, true, false}
@@ -7,19 +6,17 @@ use mathlib.Core.List.{List}
 use Prim.Native.Nat.{ℕ}
 use borrow.Author.Tests.{eq-eqb, ne_eqb}
 use lib.ListN.{length}
+use Rattle.std.specs.Prelude.{Result, Option, None}
 use Rattle.laws.specs.Choice.{pick}
 use Rattle.refusals.specs.Told.{Numbers, Told, accepted, refused_by, refused, told_verdict, verdict_on, found_or}
 use Rattle.size.specs.Size.{store_length}
 use Rattle.coding.specs.declared.Kind.{Kind}
 use Rattle.layout.specs.Flat.{Flat}
 use Rattle.coding.specs.Kind.{kind_size, coding_of}
-use Rattle.decoder.specs.declared.Mark.{Mark}
-use Rattle.decoder.specs.declared.Mark.TheVariants.{Absent}
-use Rattle.decoder.specs.declared.Drawn.{Drawn}
 use Rattle.decoder.specs.Decoded.{told_drawn, true_mark, judged_mark, tr_by, drawn_by, drawn_store, marked_read, marked_tr, marked_store, decoded}
 
 -- ---- what is drawn, by what is found and by whether the mark is true
-module _ (k : Kind) (mark : Mark) (s : List ℕ) (n : ℕ) (reference : List ℕ) where
+module _ (k : Kind) (mark : Option Bool) (s : List ℕ) (n : ℕ) (reference : List ℕ) where
   -- of what is judged: the answer, and the store that is left
   module _ {x : Told Flat} (e : marked_read k mark s n ≡ x) where
     tr_as : marked_tr k mark s n ≡ tr_by (coding_of k) x
@@ -56,11 +53,11 @@ module _ (k : Kind) (mark : Mark) (s : List ℕ) (n : ℕ) (reference : List ℕ
 
 module _ (k : Kind) (s : List ℕ) (n : ℕ) (reference : List ℕ) where
   -- without a mark, nothing is judged
-  unmarked : marked_store k Absent s n reference ≡ drawn_store k s n reference
+  unmarked : marked_store k None s n reference ≡ drawn_store k s n reference
   unfolding marked_store drawn_store
   unmarked = same ((coding_of k).read s n)
     where
-      same : (x : Told Flat) → drawn_by (coding_of k) reference (judged_mark (coding_of k) Absent x) ≡ drawn_by (coding_of k) reference x
+      same : (x : Told Flat) → drawn_by (coding_of k) reference (judged_mark (coding_of k) None x) ≡ drawn_by (coding_of k) reference x
       same (accepted d) = refl
       same (refused_by numbers) = refl
 
@@ -78,12 +75,12 @@ module _ (k : Kind) (s : List ℕ) (n : ℕ) (reference : List ℕ) where
     unfolding decoded
     fitting e h = rw (eq-eqb (length reference) (store_length (kind_size k)) (e ∙ is), eq-eqb room (store_length (kind_size k)) (h ∙ is))
 
-    fit : length reference ≡ named → room ≡ named → decoded k s n reference room ≡ marked_store k Absent s n reference
+    fit : length reference ≡ named → room ≡ named → decoded k s n reference room ≡ marked_store k None s n reference
     fit e h = fitting e h ∙ sym unmarked
 
     -- what came of the drawing, as a verdict
-    pub by_drawn : length reference ≡ named → room ≡ named → (verdict : Result (Unit {0}) Refusal) (answer : Drawn) (old new : List ℕ) → told_verdict verdict ≡ verdict_on (told_drawn answer)
-        → told_drawn answer ≡ marked_tr k Absent s n → new ≡ found_or old (marked_store k Absent s n reference)
+    pub by_drawn : length reference ≡ named → room ≡ named → (verdict : Result (Unit {0}) Refusal) (answer : Result ℕ Refusal) (old new : List ℕ) → told_verdict verdict ≡ verdict_on (told_drawn answer)
+        → told_drawn answer ≡ marked_tr k None s n → new ≡ found_or old (marked_store k None s n reference)
         → (told_verdict verdict ≡ verdict_on (decoded k s n reference room)) × (new ≡ found_or old (decoded k s n reference room))
     by_drawn e h verdict answer old new t v b =
-        (t ∙ ap verdict_on v ∙ verdict_alike k Absent s n reference ∙ sym (ap verdict_on (fit e h)), b ∙ sym (ap (found_or old) (fit e h)))
+        (t ∙ ap verdict_on v ∙ verdict_alike k None s n reference ∙ sym (ap verdict_on (fit e h)), b ∙ sym (ap (found_or old) (fit e h)))

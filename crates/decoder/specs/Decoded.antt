@@ -1,33 +1,29 @@
 -- The store that bits give over a reference, and the TR of its picture. Assumes nothing.
-use Rattle.std.specs.Prelude.{ℕ, ◌≡◌, Bool, true, List, eqb, length, Result}
-use Rattle.refusals.specs.declared.Refusal.{Refusal}
+use Rattle.std.specs.Prelude.{ℕ, ◌≡◌, Bool, true, List, eqb, length, Option, Some, None, Result, Ok, Err}
 use Rattle.laws.specs.Choice.{pick, both, alike}
+use Rattle.refusals.specs.declared.Refusal.{Refusal}
 use Rattle.size.specs.Size.{store_length}
 use Rattle.refusals.specs.Told.{numbers_of, Told, accepted, refused_by, refused, told_verdict, verdict_on, found_or}
 use Rattle.layout.specs.Flat.{Flat, flat, zeros}
 use Rattle.coding.specs.declared.Kind.{Kind}
 use Rattle.coding.specs.Coding.{Coding}
 use Rattle.coding.specs.Kind.{kind_size, shape_of, coding_of}
-use Rattle.decoder.specs.declared.Mark.{Mark}
-use Rattle.decoder.specs.declared.Mark.TheVariants.{Absent, Refresh}
-use Rattle.decoder.specs.declared.Drawn.{Drawn}
-use Rattle.decoder.specs.declared.Drawn.TheVariants.{Picture, Refused}
 
 -- ---- a picture that is drawn, told by its TR; nothing of the answer is lost by that
-abbrev pub told_drawn : Drawn → Told ℕ
-told_drawn (Picture tr) = accepted tr
-told_drawn (Refused why) = refused_by (numbers_of why)
+abbrev pub told_drawn : Result ℕ Refusal → Told ℕ
+told_drawn (Ok tr) = accepted tr
+told_drawn (Err why) = refused_by (numbers_of why)
 
 abbrev pub DrawnToldOnce : Type 0
-DrawnToldOnce = (a b : Drawn) → told_drawn a ≡ told_drawn b → a ≡ b
+DrawnToldOnce = (a b : Result ℕ Refusal) → told_drawn a ≡ told_drawn b → a ≡ b
 
 -- "The mark stands exactly on those": a picture's mark is that of its description; without one nothing is judged
-abbrev pub true_mark : {D : Type 0} → Coding D → Mark → D → Bool
-true_mark c Absent d = true
-true_mark c (Refresh marked) d = alike (c.refresh d) marked
+abbrev pub true_mark : {D : Type 0} → Coding D → Option Bool → D → Bool
+true_mark c None d = true
+true_mark c (Some marked) d = alike (c.refresh d) marked
 
 -- refusal 24: "accepted picture, untrue refresh mark"
-abbrev pub judged_mark : {D : Type 0} → Coding D → Mark → Told D → Told D
+abbrev pub judged_mark : {D : Type 0} → Coding D → Option Bool → Told D → Told D
 judged_mark c mark (accepted d) = pick (true_mark c mark d) (accepted d) (refused 24 0)
 judged_mark c mark (refused_by numbers) = refused_by numbers
 
@@ -46,13 +42,13 @@ unfoldable pub drawn_store : Kind → List ℕ → ℕ → List ℕ → Told (Li
 drawn_store k bytes n reference = drawn_by (coding_of k) reference ((coding_of k).read bytes n)
 
 -- ---- a picture that came with a mark: read, then the mark judged, then drawn
-abbrev pub marked_read : Kind → Mark → List ℕ → ℕ → Told Flat
+abbrev pub marked_read : Kind → Option Bool → List ℕ → ℕ → Told Flat
 marked_read k mark bytes n = judged_mark (coding_of k) mark ((coding_of k).read bytes n)
 
-unfoldable pub marked_tr : Kind → Mark → List ℕ → ℕ → Told ℕ
+unfoldable pub marked_tr : Kind → Option Bool → List ℕ → ℕ → Told ℕ
 marked_tr k mark bytes n = tr_by (coding_of k) (marked_read k mark bytes n)
 
-unfoldable pub marked_store : Kind → Mark → List ℕ → ℕ → List ℕ → Told (List ℕ)
+unfoldable pub marked_store : Kind → Option Bool → List ℕ → ℕ → List ℕ → Told (List ℕ)
 marked_store k mark bytes n reference = drawn_by (coding_of k) reference (marked_read k mark bytes n)
 
 -- refusal 1: "a lent buffer hasn't its named length"

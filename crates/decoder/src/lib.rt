@@ -13,20 +13,6 @@ use coding::Kind;
 use refusals::{Reason, Refusal};
 use size::Size;
 
-// The refresh mark that a picture came with, if it came with one.
-#[derive(Clone, Copy)]
-pub enum Mark {
-    Absent,
-    Refresh(bool),
-}
-
-// What came of a picture that was to be drawn: it is, and this is its TR; or it is refused.
-#[derive(Clone, Copy)]
-pub enum Drawn {
-    Picture(u32),
-    Refused(Refusal),
-}
-
 fn agree(a: bool, b: bool) -> bool
     ensures { result ≡ alike a b }
 {
@@ -39,46 +25,46 @@ fn agree(a: bool, b: bool) -> bool
     true
 }
 
-// Whether the mark stands exactly on a refresh.
-fn is_true(kind: Kind, mark: Mark, head: &[u8], macroblocks: &[u8], levels: &[u8]) -> bool
+// Whether the refresh mark that the picture came with, if it came with one, stands exactly on a refresh.
+fn is_true(kind: Kind, mark: Option<bool>, head: &[u8], macroblocks: &[u8], levels: &[u8]) -> bool
     requires { (coding_of kind).valid (flat head.now macroblocks.now levels.now) ≡ true }
     ensures { result ≡ true_mark (coding_of kind) mark (flat head.now macroblocks.now levels.now) }
 {
     match mark {
-        Mark::Absent => true,
-        Mark::Refresh(marked) => {
+        None => true,
+        Some(marked) => {
             let refreshed = coding::is_refresh(kind, head, macroblocks, levels);
             agree(refreshed, marked)
         }
     }
 }
 
-// The description is read into lent scratch and its mark judged, then it is rendered.
+// The description is read into lent scratch and its mark judged, then it is rendered: the TR of the picture that was drawn, or the refusal.
 fn draw_in(
     bytes: &[u8],
     count: usize,
     kind: Kind,
-    mark: Mark,
+    mark: Option<bool>,
     head: &mut [u8],
     macroblocks: &mut [u8],
     levels: &mut [u8],
     reference: &[u8],
     store: &mut [u8],
-) -> Drawn
+) -> Result<u32, Refusal>
     requires { Decodable kind head.old macroblocks.old levels.old reference.now store.old }
     ensures answer { told_drawn result ≡ marked_tr kind mark bytes.now count }
     ensures samples { store.new ≡ found_or store.old (marked_store kind mark bytes.now count reference.now) }
 {
     let verdict = coding::parse(kind, bytes, count, head, macroblocks, levels);
     match verdict {
-        Err(why) => Drawn::Refused(why),
+        Err(why) => Err(why),
         Ok(()) => {
             if is_true(kind, mark, head, macroblocks, levels) {
                 coding::render(kind, head, macroblocks, levels, reference, store);
                 let tr = coding::tr_of(kind, head, macroblocks, levels);
-                return Drawn::Picture(tr);
+                return Ok(tr);
             }
-            Drawn::Refused(Refusal {
+            Err(Refusal {
                 reason: Reason::UntrueMark,
                 place: 0,
             })
@@ -93,10 +79,10 @@ fn draw_small(
     bytes: &[u8],
     count: usize,
     kind: Kind,
-    mark: Mark,
+    mark: Option<bool>,
     reference: &[u8],
     store: &mut [u8],
-) -> Drawn
+) -> Result<u32, Refusal>
     requires { (RoomIn 14 396 38016 kind) × (Drawing kind reference.now store.old) }
     ensures answer { told_drawn result ≡ marked_tr kind mark bytes.now count }
     ensures samples { store.new ≡ found_or store.old (marked_store kind mark bytes.now count reference.now) }
@@ -125,10 +111,10 @@ fn draw_large(
     bytes: &[u8],
     count: usize,
     kind: Kind,
-    mark: Mark,
+    mark: Option<bool>,
     reference: &[u8],
     store: &mut [u8],
-) -> Drawn
+) -> Result<u32, Refusal>
     requires { (RoomIn 23 1584 152064 kind) × (Drawing kind reference.now store.old) }
     ensures answer { told_drawn result ≡ marked_tr kind mark bytes.now count }
     ensures samples { store.new ≡ found_or store.old (marked_store kind mark bytes.now count reference.now) }
@@ -157,10 +143,10 @@ pub fn draw(
     bytes: &[u8],
     count: usize,
     kind: Kind,
-    mark: Mark,
+    mark: Option<bool>,
     reference: &[u8],
     store: &mut [u8],
-) -> Drawn
+) -> Result<u32, Refusal>
     requires { Drawing kind reference.now store.old }
     ensures answer { told_drawn result ≡ marked_tr kind mark bytes.now count }
     ensures samples { store.new ≡ found_or store.old (marked_store kind mark bytes.now count reference.now) }
@@ -196,9 +182,9 @@ pub fn decode(
     if store.len() != named {
         return Err(unfit);
     }
-    let drawn = draw(bytes, count, kind, Mark::Absent, reference, store);
+    let drawn = draw(bytes, count, kind, None, reference, store);
     match drawn {
-        Drawn::Picture(_) => Ok(()),
-        Drawn::Refused(why) => Err(why),
+        Ok(_) => Ok(()),
+        Err(why) => Err(why),
     }
 }

@@ -1,7 +1,7 @@
 -- Demand 1: "Any bytes, any bit count, any block gets an answer and the work ends. Nothing is asked of the caller. A refusal carries its number and bit place from document 01's
 -- table, and no sample store changes by it." A predicate over any programs of the entry points' kinds, as total functions on values, and the theorem that whatever keeps the
 -- promises meets it. Assumes nothing.
-use Rattle.std.specs.Prelude.{ℕ, ◌≡◌, List, ◌++◌, length, Result}
+use Rattle.std.specs.Prelude.{ℕ, ◌≡◌, List, ◌++◌, length, Option, Some, None, Result}
 use Rattle.refusals.specs.declared.Refusal.{Refusal}
 use Rattle.refusals.specs.Told.{Numbers, accepted, refused_by, told_verdict, verdict_on}
 use Rattle.size.specs.declared.Size.{Size}
@@ -9,11 +9,10 @@ use Rattle.layout.specs.Flat.{Flat}
 use Rattle.refusals.specs.Writing.{told_written}
 use Rattle.coding.specs.declared.Kind.{Kind}
 use Rattle.coding.specs.declared.Kind.TheVariants.{H263}
-use Rattle.coding.specs.declared.KindFound.{KindFound}
 use Rattle.coding.specs.Kind.{kind_in}
 use Rattle.coding.specs.Described.{ReadSays, ReadLeaves, WriteSays, WriteLeaves}
+use Rattle.vault.specs.declared.Header.{Header}
 use Rattle.vault.specs.declared.Standard.{Standard}
-use Rattle.vault.specs.declared.Checked.{Checked}
 use Rattle.vault.specs.Block.{clip_of, part_of, standard_of, header_of, told_checked, check_of, judge_of}
 use Rattle.vault.specs.Parts.{placed_payload}
 use Rattle.standing.specs.declared.Receiver.{Receiver}
@@ -28,13 +27,10 @@ use Rattle.decoder.specs.Decoded.{DecodeSays, DecodeLeaves}
 use Rattle.listing.specs.declared.Clip.{Clip}
 use Rattle.listing.specs.declared.Listed.{Listed}
 use Rattle.listing.specs.Listed.{came, listed}
-use Rattle.standing.specs.declared.Opened as RO
 use Rattle.standing.specs.Answered as A
 use Rattle.standing.specs.Receive as R
-use Rattle.sender.specs.declared.Opened as SO
 use Rattle.sender.specs.Send as S
 use Rattle.listing.specs.declared.Clip.TheVariants as K
-use Rattle.coding.specs.declared.KindFound.TheVariants as F
 use Rattle.demand1.specs.Order as O
 use Rattle.demand1.specs.Order.{first_verdict, Refuses}
 use Rattle.demand1.specs.Rules.{read_rules, decode_rules, write_rules, send_rules, open_rules, check_rules, judge_rules, block_rules, last_rules}
@@ -49,11 +45,11 @@ pub record Programs : Type 0 where
   -- the bytes, N, the reference and the store
   pub decode : Kind → List ℕ → ℕ → List ℕ → List ℕ → Left (Result (Unit {0}) Refusal) (List ℕ)
   pub write : Kind → Flat → List ℕ → Left (Result ℕ Refusal) (List ℕ)
-  pub check : Size → List ℕ → Checked
-  pub judge : Size → Standard → ℕ → List ℕ → Checked
-  pub open_receiver : ℕ → Kind → RO.Opened
+  pub check : Size → List ℕ → Result Header Refusal
+  pub judge : Size → Standard → ℕ → List ℕ → Result Header Refusal
+  pub open_receiver : ℕ → Kind → Result Receiver Refusal
   pub receive : Receiver → List ℕ → Buffers → Left Received Buffers
-  pub open_sender : ℕ → Kind → SO.Opened
+  pub open_sender : ℕ → Kind → Result Sender Refusal
   pub send : Sender → Flat → S.Buffers → Left Sent S.Buffers
   pub list : Size → Clip → List ℕ → Buffers → Left Listed Buffers
 
@@ -77,9 +73,9 @@ pub record BlockRefuses {X : Type 0} (r : Receiver) (block : List ℕ) (b : Buff
       → (next ≡ state (failed_receiver r (header_of block))) × (left ≡ record { collection = placed_payload block (part_of block) b.collection; both = b.both })
 
 -- the lister's, which is given a size: of the block's standard. H.261 has no sub-QCIF: such a block is one of the other standard
-abbrev pub kind_or : Size → KindFound → Kind
-kind_or size (F.Kind kind) = kind
-kind_or size F.Absent = H263 size
+abbrev pub kind_or : Size → Option Kind → Kind
+kind_or size (Some kind) = kind
+kind_or size None = H263 size
 
 abbrev pub kind_of_block : Size → List ℕ → Kind
 kind_of_block size block = kind_or size (kind_in (standard_of block) size)

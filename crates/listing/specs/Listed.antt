@@ -1,10 +1,10 @@
 -- Document 01, "The vault lister": the clip that is listed, and what each block comes to. Assumes nothing.
-use Rattle.std.specs.Prelude.{ℕ, List, ◌++◌}
+use Rattle.std.specs.Prelude.{ℕ, List, ◌++◌, Option, Some, None}
 use Rattle.laws.specs.Choice.{pick}
 use Rattle.refusals.specs.declared.Refusal.{Refusal}
 use Rattle.refusals.specs.Told.{Told, accepted, refused_by, refused}
 use Rattle.size.specs.declared.Size.{Size}
-use Rattle.coding.specs.declared.KindFound.{KindFound}
+use Rattle.coding.specs.declared.Kind.{Kind}
 use Rattle.coding.specs.Kind.{kind_in, coding_of}
 use Rattle.vault.specs.declared.Header.{Header}
 use Rattle.vault.specs.Block.{of_clip, check_of}
@@ -16,7 +16,6 @@ use Rattle.text.specs.Text.{decimal}
 use Rattle.listing.specs.declared.Clip.{Clip}
 use Rattle.listing.specs.declared.Listed.{Listed}
 use Rattle.listing.specs.Lines.{end_none, end_clip, standing_text, newline}
-use Rattle.coding.specs.declared.KindFound.TheVariants as F
 use Rattle.standing.specs.declared.Answer.TheVariants as R
 use Rattle.standing.specs.declared.Standing.TheVariants as S
 use Rattle.standing.specs.Answered as A
@@ -24,9 +23,9 @@ use Rattle.listing.specs.declared.Clip.TheVariants as K
 
 -- ---- the receiver that a block comes to
 -- for a good block's clip, by what its standard has in this size: where that is nothing, as of H.261 in sub-QCIF, the block is one of the other standard, 5
-abbrev pub opened_kind : ℕ → KindFound → Told Receiver
-opened_kind clip (F.Kind kind) = opened_receiver clip kind
-opened_kind clip F.Absent = refused 5 0
+abbrev pub opened_kind : ℕ → Option Kind → Told Receiver
+opened_kind clip (Some kind) = opened_receiver clip kind
+opened_kind clip None = refused 5 0
 
 abbrev pub opened_by : Size → Told Header → Told Receiver
 opened_by size (accepted header) = opened_kind header.clip (kind_in header.standard size)

@@ -12,12 +12,11 @@ ghost use Rattle.text.specs.Puts.{Puts};
 ghost use Rattle.listing.specs.Lines.{place_text, tick_text, picture_text, text_of, line_text, short_text, standing_text};
 ghost use Rattle.listing.specs.Listed.{opened_kind, opened_by, found_by, stays, came, stepped, begun, listed as listed_of, known_number, chosen_clip, end_of, end_text};
 
-use coding::KindFound;
 use refusals::{Reason, Refusal};
 use size::Size;
-use standing::{Answer, Opened, Receiver, Standing};
+use standing::{Answer, Receiver, Standing};
 use ticks::Tick;
-use vault::{Checked, Header};
+use vault::Header;
 
 // The clip that is listed: any, or one that was asked for by its number, until its first good block; then its receiver.
 #[derive(Clone, Copy)]
@@ -36,13 +35,13 @@ pub struct Listed {
 // ---- what a block comes to
 
 // A receiver for the clip of a good block, in the block's own standard; 5 where that hasn't the size.
-fn open_by(size: Size, header: Header) -> Opened
+fn open_by(size: Size, header: Header) -> Result<Receiver, Refusal>
     ensures { told_opened result ≡ opened_kind header.clip (kind_in header.standard size) }
 {
     let standard = header.standard;
     match coding::kind_in(standard, size) {
-        KindFound::Kind(kind) => standing::open(header.clip, kind),
-        KindFound::Absent => Opened::Refused(Refusal {
+        Some(kind) => standing::open(header.clip, kind),
+        None => Err(Refusal {
             reason: Reason::OtherFormat,
             place: 0,
         }),
@@ -50,21 +49,21 @@ fn open_by(size: Size, header: Header) -> Opened
 }
 
 // The same of a block that was checked.
-fn open_checked(size: Size, checked: Checked) -> Opened
+fn open_checked(size: Size, checked: Result<Header, Refusal>) -> Result<Receiver, Refusal>
     ensures { told_opened result ≡ opened_by size (told_checked checked) }
 {
     match checked {
-        Checked::Good(header) => open_by(size, header),
-        Checked::Refused(why) => Opened::Refused(why),
+        Ok(header) => open_by(size, header),
+        Err(why) => Err(why),
     }
 }
 
 // The receiver that a block comes to: the clip's, or one for the block's clip; or 1, 21, 22, then 23 where another clip was asked for, then 5.
-pub fn find(size: Size, clip: Clip, block: &[u8]) -> Opened
+pub fn find(size: Size, clip: Clip, block: &[u8]) -> Result<Receiver, Refusal>
     ensures { told_opened result ≡ found_by size clip block.now }
 {
     match clip {
-        Clip::Known(receiver) => Opened::Open(receiver),
+        Clip::Known(receiver) => Ok(receiver),
         Clip::Unknown => {
             let checked = vault::check(size, block);
             open_checked(size, checked)
@@ -117,8 +116,8 @@ fn begin(
 {
     if standing::named(size, collection.len(), first.len(), second.len()) {
         match find(size, clip, block) {
-            Opened::Open(receiver) => go_on(receiver, block, collection, first, second),
-            Opened::Refused(why) => refused(clip, why),
+            Ok(receiver) => go_on(receiver, block, collection, first, second),
+            Err(why) => refused(clip, why),
         }
     } else {
         refused(

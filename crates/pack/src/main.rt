@@ -15,7 +15,7 @@ use crate::recording::Recording;
 use account::End;
 use account::streams::Streams;
 use coding::Kind;
-use sender::{Opened, Sender};
+use sender::Sender;
 use std::io::{IsTerminal, Read, Write};
 use std::process::ExitCode;
 
@@ -183,8 +183,8 @@ fn begin<I: Read, O: Write, E: Write>(
     terminal: bool,
 ) -> End {
     match sender::open(clip, kind) {
-        Opened::Open(sender) => record(streams, sender, terminal),
-        Opened::Refused(_) => usage(streams),
+        Ok(sender) => record(streams, sender, terminal),
+        Err(_) => usage(streams),
     }
 }
 

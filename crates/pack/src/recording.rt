@@ -6,7 +6,7 @@ use account::streams::Streams;
 use coding::Kind;
 use h261_groups::Format;
 use refusals::Refusal;
-use sender::{Answer, Sender};
+use sender::Sender;
 use size::Size;
 use std::io::Write;
 
@@ -141,14 +141,14 @@ fn send<I, O: Write, E: Write>(
     let mut recording = before;
     recording.sender = next;
     match answer {
-        Answer::Blocks(blocks) => {
+        Ok(blocks) => {
             recording.writes = put_blocks(streams, blocks, out);
             if recording.writes {
                 say_progress(streams, recording.terminal, next.picture, offset);
             }
             recording
         }
-        Answer::Refused(why) => refused(streams, recording, offset, why),
+        Err(why) => refused(streams, recording, offset, why),
     }
 }
 

@@ -14,7 +14,6 @@ use account::going::Going;
 use account::input::Next;
 use account::streams::Streams;
 use coding::Kind;
-use counting::Ending;
 use listing::Clip;
 use size::Size;
 use standing::Answer;
@@ -51,12 +50,12 @@ fn say<I, O: Write, E>(
     n: u64,
     clip: Clip,
     answer: Answer,
-    ending: Ending,
+    ending: Option<usize>,
     collection: &[u8],
 ) -> bool {
     match ending {
-        Ending::Nothing => true,
-        Ending::Picture(bits) => match clip {
+        None => true,
+        Some(bits) => match clip {
             Clip::Known(receiver) => {
                 let kind = receiver.kind;
                 say_reads(streams, n, kind, answer, bits, collection)

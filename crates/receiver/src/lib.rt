@@ -8,10 +8,9 @@ ghost use Rattle.standing.specs.Stores.{stores};
 ghost use Rattle.standing.specs.Receive.{line_of, count_of, ended_picture, took_of, by_line, buffers, outcome, came_to};
 ghost use Rattle.receiver.specs.Receiving.{ReceiveDoes, Fitting, Ready, Settles};
 
-use decoder::{Drawn, Mark};
 use refusals::{Reason, Refusal};
 use standing::{Line, Received, Receiver, Standing};
-use vault::{Checked, Header};
+use vault::Header;
 
 // ---- a last part
 
@@ -40,11 +39,11 @@ fn finish(
     let holder = last.holder;
     let count = count_of(header);
     let marked = standing::mark_with(progress, header);
-    let mark = Mark::Refresh(marked);
+    let mark = Some(marked);
     let drawn = stores::keep_read(kind, holder, collection, count, mark, first, second);
     match drawn {
-        Drawn::Refused(why) => standing::fail(receiver, header, why),
-        Drawn::Picture(tr) => standing::succeed(receiver, header, tr),
+        Err(why) => standing::fail(receiver, header, why),
+        Ok(tr) => standing::succeed(receiver, header, tr),
     }
 }
 
@@ -121,8 +120,8 @@ pub fn receive(
         let standard = coding::standard_of(kind);
         let checked = vault::judge(size, standard, clip, block);
         match checked {
-            Checked::Good(header) => act(receiver, header, block, collection, first, second),
-            Checked::Refused(why) => standing::refuse(receiver, why),
+            Ok(header) => act(receiver, header, block, collection, first, second),
+            Err(why) => standing::refuse(receiver, why),
         }
     } else {
         standing::refuse(

@@ -15,7 +15,7 @@ use account::streams::{Source, Streams};
 use coding::Kind;
 use refusals::Reason;
 use salvaging::{Entries, Entry, Fate, Sight, Tally};
-use standing::{Answer, Opened, Received, Receiver};
+use standing::{Answer, Received, Receiver};
 use std::io::{Read, Seek, SeekFrom, Write};
 use std::process::ExitCode;
 use std::rt::Files;
@@ -691,11 +691,11 @@ fn opened_as<F: Read + Seek, I, O: Write, E: Write>(
     ahead: &mut Source<F>,
 ) -> End {
     match standing::open(old, kind) {
-        Opened::Refused(why) => {
+        Err(why) => {
             let reason = why.reason;
             refused(streams, reason)
         }
-        Opened::Open(receiver) => {
+        Ok(receiver) => {
             if new == 0 {
                 return refused(streams, Reason::BlockField);
             }

@@ -22,7 +22,7 @@ ghost use Rattle.salvaging.specs.Salvage.{lengths_named, SalvageDoes};
 use coding::Kind;
 use refusals::{Reason, Refusal};
 use size::Size;
-use standing::{Answer, Opened, Progress, Received, Receiver, Standing};
+use standing::{Answer, Progress, Received, Receiver, Standing};
 use ticks::Tick;
 
 // ---- a block
@@ -543,8 +543,8 @@ fn salvage_in(
     ensures { SalvageDoes kind old new blocks.now out.old log.old result out.new log.new }
 {
     match standing::open(old, kind) {
-        Opened::Refused(why) => Err(why),
-        Opened::Open(receiver) => {
+        Err(why) => Err(why),
+        Ok(receiver) => {
             if new == 0 {
                 return refused(Reason::BlockField);
             }

@@ -1,8 +1,9 @@
 -- Document 01: "The sender starts at picture 0, numbers on by one, writes a picture's blocks into 8,704 or 33,792 bytes (the rest untouched), and keeps its store by the
 -- rules above, in two lent ones used as the receiver's are. Picture 0 must be a refresh." Assumes nothing.
-use Rattle.std.specs.Prelude.{ℕ, ◌+◌, ◌*◌, ◌≡◌, Bool, List, ◌++◌, eqb, leb, ltb, length, drop}
+use Rattle.std.specs.Prelude.{ℕ, ◌+◌, ◌*◌, ◌≡◌, Bool, List, ◌++◌, eqb, leb, ltb, length, drop, Result, Ok, Err}
 use Rattle.std.specs.Borrow.{Bor}
 use Rattle.laws.specs.Choice.{pick, both, either, opposite}
+use Rattle.refusals.specs.declared.Refusal.{Refusal}
 use Rattle.refusals.specs.Told.{numbers_of, Told, accepted, refused_by, refused}
 use Rattle.size.specs.declared.Size.{Size}
 use Rattle.size.specs.Size.{limit, blocks_length}
@@ -15,11 +16,7 @@ use Rattle.vault.specs.Parts.{part_count, blocks_of}
 use Rattle.standing.specs.declared.Holder.TheVariants.{Neither}
 use Rattle.standing.specs.Stores.{Stores, stores, stores_sized, goes_into, reference, stores_with, shown_store, HandsBack}
 use Rattle.sender.specs.declared.Sender.{Sender}
-use Rattle.sender.specs.declared.Opened.{Opened}
-use Rattle.sender.specs.declared.Answer.{Answer}
 use Rattle.sender.specs.declared.Sent.{Sent}
-use Rattle.sender.specs.declared.Opened.TheVariants as O
-use Rattle.sender.specs.declared.Answer.TheVariants as A
 
 -- ---- opening. Refusal 22: "opening with clip 0"
 abbrev pub fresh_sender : ℕ → Kind → Sender
@@ -29,9 +26,9 @@ abbrev pub opened_sender : ℕ → Kind → Told Sender
 opened_sender clip kind = pick (eqb clip 0) (refused 22 0) (accepted (fresh_sender clip kind))
 
 -- a sender, or the refusal's number and place
-abbrev pub told_opened : Opened → Told Sender
-told_opened (O.Open sender) = accepted sender
-told_opened (O.Refused why) = refused_by (numbers_of why)
+abbrev pub told_opened : Result Sender Refusal → Told Sender
+told_opened (Ok sender) = accepted sender
+told_opened (Err why) = refused_by (numbers_of why)
 
 -- ---- the lent buffers but the description
 pub record Buffers : Type 0 where
@@ -51,9 +48,9 @@ pub data Judgement : Type 0 where
   refuses : ℕ → Judgement
 
 -- how many blocks were written, or the refusal's number and place
-abbrev pub told_answer : Answer → Told ℕ
-told_answer (A.Blocks n) = accepted n
-told_answer (A.Refused why) = refused_by (numbers_of why)
+abbrev pub told_answer : Result ℕ Refusal → Told ℕ
+told_answer (Ok n) = accepted n
+told_answer (Err why) = refused_by (numbers_of why)
 
 -- with the state that a call gives back
 pub record Reply : Type 0 where
@@ -120,10 +117,10 @@ module _ {D : Type 0} (coding : Kind → Coding D) where
 
 -- ---- nothing of an answer is lost by what it is told as
 abbrev pub OpenedToldOnce : Type 0
-OpenedToldOnce = (a b : Opened) → told_opened a ≡ told_opened b → a ≡ b
+OpenedToldOnce = (a b : Result Sender Refusal) → told_opened a ≡ told_opened b → a ≡ b
 
 abbrev pub AnswerToldOnce : Type 0
-AnswerToldOnce = (a b : Answer) → told_answer a ≡ told_answer b → a ≡ b
+AnswerToldOnce = (a b : Result ℕ Refusal) → told_answer a ≡ told_answer b → a ≡ b
 
 abbrev pub SentToldOnce : Type 0
 SentToldOnce = (a b : Sent) → told_sent a ≡ told_sent b → a ≡ b

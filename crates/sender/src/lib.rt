@@ -28,34 +28,22 @@ pub struct Sender {
 }
 
 #[derive(Clone, Copy)]
-pub enum Opened {
-    Open(Sender),
-    Refused(Refusal),
-}
-
-// How many blocks were written, or the refusal.
-#[derive(Clone, Copy)]
-pub enum Answer {
-    Blocks(usize),
-    Refused(Refusal),
-}
-
-#[derive(Clone, Copy)]
 pub struct Sent {
-    pub answer: Answer,
+    // How many blocks were written, or the refusal.
+    pub answer: Result<usize, Refusal>,
     pub next: Sender,
 }
 
-pub fn open(clip: u16, kind: Kind) -> Opened
+pub fn open(clip: u16, kind: Kind) -> Result<Sender, Refusal>
     ensures { told_opened result ≡ opened_sender clip kind }
 {
     if clip == 0 {
-        return Opened::Refused(Refusal {
+        return Err(Refusal {
             reason: Reason::BlockField,
             place: 0,
         });
     }
-    Opened::Open(Sender {
+    Ok(Sender {
         clip,
         kind,
         picture: 0,
@@ -101,7 +89,7 @@ fn refused(sender: Sender, reason: Reason) -> Sent
     ensures { told_sent result ≡ reply (refused_by (numbers_of (refusal reason 0))) sender }
 {
     Sent {
-        answer: Answer::Refused(Refusal { reason, place: 0 }),
+        answer: Err(Refusal { reason, place: 0 }),
         next: sender,
     }
 }
@@ -148,7 +136,7 @@ fn put(
     stores::keep(kind, holder, head, macroblocks, levels, first, second);
     let next = number_on(sender);
     Sent {
-        answer: Answer::Blocks(blocks),
+        answer: Ok(blocks),
         next,
     }
 }

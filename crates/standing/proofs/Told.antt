@@ -1,16 +1,16 @@
 -- An answer is one that is told as it is: nothing of it is lost. Assumes nothing.
 use mathlib.Core.Path.{◌≡◌, refl, sym, ap, ◌∙◌}
+use Rattle.std.specs.Prelude.{Ok, Err}
 use Rattle.refusals.proofs.Told.{accepted_once, refused_once, told_apart, refusal_of, refusal_back}
 use Rattle.standing.specs.declared.Answer.{Answer}
 use Rattle.standing.specs.Answered.{Said, old, taken, lost, picture, refused, said, Reply, OpenedToldOnce, AnswerToldOnce, ReceivedToldOnce}
-use Rattle.standing.specs.declared.Opened.TheVariants as O
 use Rattle.standing.specs.declared.Answer.TheVariants as A
 
 pub opened_told_once : OpenedToldOnce
-opened_told_once (O.Open r) (O.Open q) e = ap O.Open (accepted_once e)
-opened_told_once (O.Refused a) (O.Refused b) e = ap O.Refused (refused_once a b e)
-opened_told_once (O.Open r) (O.Refused b) e = absurd (told_apart e)
-opened_told_once (O.Refused a) (O.Open q) e = absurd (told_apart (sym e))
+opened_told_once (Ok r) (Ok q) e = ap Ok (accepted_once e)
+opened_told_once (Err a) (Err b) e = ap Err (refused_once a b e)
+opened_told_once (Ok r) (Err b) e = absurd (told_apart e)
+opened_told_once (Err a) (Ok q) e = absurd (told_apart (sym e))
 
 -- ---- a block's answer, back from what is said of it
 answer_of : Said → Answer

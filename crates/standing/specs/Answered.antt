@@ -1,18 +1,17 @@
 -- What document 01 calls each answer, with its values ("0 taken 0.0", "1 picture 0 tick 0", "4 picture 2 tick about 33", "n lost", "n refused 8 at 311 table 5"). Assumes nothing.
-use Rattle.std.specs.Prelude.{ℕ, ◌≡◌}
+use Rattle.std.specs.Prelude.{ℕ, ◌≡◌, Result, Ok, Err}
+use Rattle.refusals.specs.declared.Refusal.{Refusal}
 use Rattle.refusals.specs.Told.{Numbers, numbers_of, Told, accepted, refused_by}
 use Rattle.ticks.specs.declared.Tick.{Tick}
 use Rattle.standing.specs.declared.Receiver.{Receiver}
-use Rattle.standing.specs.declared.Opened.{Opened}
 use Rattle.standing.specs.declared.Answer.{Answer}
 use Rattle.standing.specs.declared.Received.{Received}
-use Rattle.standing.specs.declared.Opened.TheVariants as O
 use Rattle.standing.specs.declared.Answer.TheVariants as A
 
 -- ---- opening: a receiver, or the refusal's numbers
-abbrev pub told_opened : Opened → Told Receiver
-told_opened (O.Open receiver) = accepted receiver
-told_opened (O.Refused why) = refused_by (numbers_of why)
+abbrev pub told_opened : Result Receiver Refusal → Told Receiver
+told_opened (Ok receiver) = accepted receiver
+told_opened (Err why) = refused_by (numbers_of why)
 
 -- ---- a block
 pub data Said : Type 0 where
@@ -45,7 +44,7 @@ told_received x = reply (said x.answer) x.next
 
 -- ---- nothing of an answer is lost by that
 abbrev pub OpenedToldOnce : Type 0
-OpenedToldOnce = (a b : Opened) → told_opened a ≡ told_opened b → a ≡ b
+OpenedToldOnce = (a b : Result Receiver Refusal) → told_opened a ≡ told_opened b → a ≡ b
 
 abbrev pub AnswerToldOnce : Type 0
 AnswerToldOnce = (a b : Answer) → said a ≡ said b → a ≡ b

@@ -66,12 +66,6 @@ pub struct Receiver {
     pub last: Last,
 }
 
-#[derive(Clone, Copy)]
-pub enum Opened {
-    Open(Receiver),
-    Refused(Refusal),
-}
-
 // With the picture and the part; with the picture's number and its tick.
 #[derive(Clone, Copy)]
 pub enum Answer {
@@ -148,16 +142,16 @@ pub fn store_shown<'a>(size: Size, holder: Holder, first: &'a [u8], second: &'a 
 
 // ---- opening
 
-pub fn open(clip: u16, kind: Kind) -> Opened
+pub fn open(clip: u16, kind: Kind) -> Result<Receiver, Refusal>
     ensures { told_opened result ≡ opened_receiver clip kind }
 {
     if clip == 0 {
-        return Opened::Refused(Refusal {
+        return Err(Refusal {
             reason: Reason::BlockField,
             place: 0,
         });
     }
-    Opened::Open(Receiver {
+    Ok(Receiver {
         clip,
         kind,
         progress: Progress {

@@ -10,7 +10,7 @@ ghost use Rattle.decoder.specs.Decoded.{told_drawn, marked_tr, marked_store, Dra
 ghost use Rattle.stores.specs.Kept.{stores_or};
 
 use coding::Kind;
-use decoder::{Drawn, Mark};
+use refusals::Refusal;
 use standing::Holder;
 
 // The picture of a valid description goes into the store that doesn't hold the last finished one, over the other.
@@ -39,10 +39,10 @@ pub fn keep_read(
     holder: Holder,
     bytes: &[u8],
     count: usize,
-    mark: Mark,
+    mark: Option<bool>,
     first: &mut [u8],
     second: &mut [u8],
-) -> Drawn
+) -> Result<u32, Refusal>
     requires { Drawing kind first.old second.old }
     ensures answer { told_drawn result ≡ marked_tr kind mark bytes.now count }
     ensures samples { stores first.new second.new ≡ stores_or holder (stores first.old second.old) (marked_store kind mark bytes.now count (reference holder (stores first.old second.old))) }

@@ -225,13 +225,13 @@ fn open_sender<I: Read, O: Write>(
     }
     let next = checks::picture_of(number[0], number[1], number[2], number[3]);
     match sender::open(clip, kind) {
-        sender::Opened::Open(sender) => session(
+        Ok(sender) => session(
             stdin,
             stdout,
             Party::Sending(send::before(sender, next)),
             count,
         ),
-        sender::Opened::Refused(why) => refused(stdout, why),
+        Err(why) => refused(stdout, why),
     }
 }
 
@@ -246,13 +246,13 @@ fn open<I: Read, O: Write>(
     match case {
         Case::Send => open_sender(stdin, stdout, clip, kind, count),
         Case::Deliver => match standing::open(clip, kind) {
-            standing::Opened::Open(receiver) => session(
+            Ok(receiver) => session(
                 stdin,
                 stdout,
                 Party::Receiving(receiver),
                 count,
             ),
-            standing::Opened::Refused(why) => refused(stdout, why),
+            Err(why) => refused(stdout, why),
         },
         Case::Other => false,
     }

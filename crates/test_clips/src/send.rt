@@ -2,7 +2,8 @@
 // and the description. The line of its last time: "sent PICTURE BLOCKS" or "refused NUMBER", and the checks of output, first and second store.
 use crate::{Called, Party};
 use checks::{Description, part};
-use sender::{Answer, Sender};
+use refusals::Refusal;
+use sender::Sender;
 use std::io::{Read, Write};
 
 // The sender as it stands before a later picture: a state is a value, so the clip's end need not be reached by sending.
@@ -17,14 +18,14 @@ pub fn before(sender: Sender, picture: u32) -> Sender {
     }
 }
 
-fn say_answer<O: Write>(stdout: &mut O, picture: u32, answer: Answer) {
+fn say_answer<O: Write>(stdout: &mut O, picture: u32, answer: Result<usize, Refusal>) {
     match answer {
-        Answer::Blocks(blocks) => {
+        Ok(blocks) => {
             checks::say(stdout, b"sent");
             checks::say_number(stdout, picture as u64);
             checks::say_number(stdout, blocks as u64);
         }
-        Answer::Refused(why) => checks::say_refusal(stdout, why),
+        Err(why) => checks::say_refusal(stdout, why),
     }
 }
 

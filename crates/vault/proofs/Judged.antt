@@ -9,6 +9,7 @@ use lib.ListN.{length, get_or, take}
 use lib.Seq.{take_at}
 use lib.Dec.{eqb, leb}
 use borrow.Author.Tests.{leb-true, ltb-true, eqb-true, eq-eqb}
+use Rattle.std.specs.Prelude.{Ok, Err}
 use Rattle.laws.specs.Choice.{pick, both, either}
 use Rattle.laws.proofs.Choice.{two_of, if_so}
 use Rattle.laws.proofs.Splice.{get_d_past}
@@ -18,7 +19,6 @@ use Rattle.refusals.proofs.Told.{accepted_once, told_apart, refused_once}
 use Rattle.vault.specs.declared.Standard.{Standard}
 use Rattle.vault.specs.declared.Standard.TheVariants.{H261, H263}
 use Rattle.vault.specs.declared.Header.{Header}
-use Rattle.vault.specs.declared.Checked.TheVariants.{Good, Refused}
 use Rattle.vault.specs.Block.{two_bytes, pair_at, picture_of, header_of, payload_of, zero_of, check_sum_of, marks_of, standard_bit, standard_in, pictures, greatest_part, clip_rule, picture_rule, part_rule, refresh_rule, used_rule, header_ruled, unused_clear, fields_follow, sum_of, CheckedToldOnce, check_of, of_clip, same_standard, of_standard, judge_of, bit, standard_mark, marks_for, head_bytes, end_bytes, body_for, block_for}
 use Rattle.vault.proofs.Made.{before_end_lem, body-length, block_length, sum_body}
 
@@ -218,7 +218,7 @@ good_judged size block header e =
 
 -- ---- an answer is one that is told as it is
 pub checked_told_once : CheckedToldOnce
-checked_told_once (Good g) (Good h) e = ap Good (accepted_once e)
-checked_told_once (Refused a) (Refused b) e = ap Refused (refused_once a b e)
-checked_told_once (Good g) (Refused b) e = absurd (told_apart e)
-checked_told_once (Refused a) (Good h) e = absurd (told_apart (sym e))
+checked_told_once (Ok g) (Ok h) e = ap Ok (accepted_once e)
+checked_told_once (Err a) (Err b) e = ap Err (refused_once a b e)
+checked_told_once (Ok g) (Err b) e = absurd (told_apart e)
+checked_told_once (Err a) (Ok h) e = absurd (told_apart (sym e))

@@ -1,16 +1,15 @@
 -- Document 01, "A block of 512 bytes", with the picture numbers of document 02, T-08, and the standard's mark of T-04: its fields and their rules, the check sum, judging a
 -- block and making one. A block is its list of bytes.
 -- Assumes nothing.
-use Rattle.std.specs.Prelude.{ℕ, zero, suc, ◌+◌, ◌-◌, ◌*◌, ◌/◌, ◌%◌, ◌^◌, min, ◌≡◌, Bool, true, false, List, [], ◌∷◌, ◌++◌, length, get_or, take, drop, eqb, leb, ltb}
+use Rattle.std.specs.Prelude.{ℕ, zero, suc, ◌+◌, ◌-◌, ◌*◌, ◌/◌, ◌%◌, ◌^◌, min, ◌≡◌, Bool, true, false, List, [], ◌∷◌, ◌++◌, length, get_or, take, drop, eqb, leb, ltb, Result, Ok, Err}
 use Rattle.laws.specs.Choice.{pick, both, either, opposite}
 use Rattle.size.specs.declared.Size.{Size}
 use Rattle.size.specs.declared.Size.TheVariants.{SubQcif, Qcif, Cif}
+use Rattle.refusals.specs.declared.Refusal.{Refusal}
 use Rattle.refusals.specs.Told.{numbers_of, Told, accepted, refused_by, refused}
 use Rattle.vault.specs.declared.Standard.{Standard}
 use Rattle.vault.specs.declared.Standard.TheVariants.{H261, H263}
 use Rattle.vault.specs.declared.Header.{Header}
-use Rattle.vault.specs.declared.Checked.{Checked}
-use Rattle.vault.specs.declared.Checked.TheVariants.{Good, Refused}
 
 -- ---- the fields
 -- "High byte first": the number of two bytes, and the two bytes of a number
@@ -140,13 +139,13 @@ sum_of block = weighted block 510 % 65521
 
 -- ---- judging: "Blocks: 1, 21, 22, 23.", and then 5
 -- what is answered: the header, or the refusal's number and place
-abbrev pub told_checked : Checked → Told Header
-told_checked (Good header) = accepted header
-told_checked (Refused why) = refused_by (numbers_of why)
+abbrev pub told_checked : Result Header Refusal → Told Header
+told_checked (Ok header) = accepted header
+told_checked (Err why) = refused_by (numbers_of why)
 
 -- nothing of the answer is lost by that
 abbrev pub CheckedToldOnce : Type 0
-CheckedToldOnce = (a b : Checked) → told_checked a ≡ told_checked b → a ≡ b
+CheckedToldOnce = (a b : Result Header Refusal) → told_checked a ≡ told_checked b → a ≡ b
 
 -- 1: "a lent buffer hasn't its named length"; 21: "block check wrong"; 22: "block field against its rule"
 unfoldable pub check_of : Size → List ℕ → Told Header

@@ -1,7 +1,7 @@
 // The vault's block of 512 bytes: judging one, and cutting a picture into them.
 #![tactic(auto)]
 
-ghost use Rattle.std.specs.Prelude.{◌≡◌, ◌++◌, ◌+◌, ◌-◌, ◌*◌, ◌/◌, ◌^◌, ◌≤◌, ◌<◌, min, eqb, length, drop};
+ghost use Rattle.std.specs.Prelude.{◌≡◌, ◌++◌, ◌+◌, ◌-◌, ◌*◌, ◌/◌, ◌^◌, ◌≤◌, ◌<◌, min, eqb, length, drop, Err};
 ghost use Rattle.std.proofs.lemmas.List.Edits.{sets};
 ghost use Rattle.std.proofs.Math.Seq.{paste};
 ghost use Rattle.laws.specs.Choice.{both};
@@ -30,12 +30,6 @@ pub struct Header {
     pub last: bool,
     pub refresh: bool,
     pub used: u16,
-}
-
-#[derive(Clone, Copy)]
-pub enum Checked {
-    Good(Header),
-    Refused(Refusal),
 }
 
 // How many pictures a clip can have.
@@ -204,14 +198,14 @@ fn follows(size: Size, header: Header, block: &[u8]) -> bool
 
 // ---- judging a block
 
-fn refused(reason: Reason) -> Checked
-    ensures { result ≡ Checked.Refused (refusal reason 0) }
+fn refused(reason: Reason) -> Result<Header, Refusal>
+    ensures { result ≡ Err (refusal reason 0) }
 {
-    Checked::Refused(Refusal { reason, place: 0 })
+    Err(Refusal { reason, place: 0 })
 }
 
 // 1, 21, 22, or the block's header.
-pub fn check(size: Size, block: &[u8]) -> Checked
+pub fn check(size: Size, block: &[u8]) -> Result<Header, Refusal>
     ensures { told_checked result ≡ check_of size block.now }
 {
     if block.len() != 512 {
@@ -226,22 +220,22 @@ pub fn check(size: Size, block: &[u8]) -> Checked
     if !follows(size, header, block) {
         return refused(Reason::BlockField);
     }
-    Checked::Good(header)
+    Ok(header)
 }
 
 // 1, 21, 22, 23, or the header of a block of this clip.
-pub fn of_clip(size: Size, clip: u16, block: &[u8]) -> Checked
+pub fn of_clip(size: Size, clip: u16, block: &[u8]) -> Result<Header, Refusal>
     ensures { told_checked result ≡ of_clip clip (check_of size block.now) }
 {
     match check(size, block) {
-        Checked::Good(header) => {
+        Ok(header) => {
             if header.clip == clip {
-                Checked::Good(header)
+                Ok(header)
             } else {
                 refused(Reason::OtherClip)
             }
         }
-        Checked::Refused(refusal) => Checked::Refused(refusal),
+        Err(refusal) => Err(refusal),
     }
 }
 
@@ -261,19 +255,19 @@ pub fn same_standard(a: Standard, b: Standard) -> bool
 }
 
 // 1, 21, 22, 23, 5, or the header of a block of this clip, which has this standard.
-pub fn judge(size: Size, standard: Standard, clip: u16, block: &[u8]) -> Checked
+pub fn judge(size: Size, standard: Standard, clip: u16, block: &[u8]) -> Result<Header, Refusal>
     ensures { told_checked result ≡ judge_of size standard clip block.now }
 {
     match of_clip(size, clip, block) {
-        Checked::Good(header) => {
+        Ok(header) => {
             let said = header.standard;
             if same_standard(said, standard) {
-                Checked::Good(header)
+                Ok(header)
             } else {
                 refused(Reason::OtherFormat)
             }
         }
-        Checked::Refused(refusal) => Checked::Refused(refusal),
+        Err(refusal) => Err(refusal),
     }
 }
 

@@ -9,18 +9,18 @@ pub ended_by-requires : goal.ended_by-requires
 ended_by-requires c =
     let a = c.args in
     let fitting = (ready a.receiver.kind _ a.receiver.clip _ a.block.now a.collection.now a.first.now a.second.now c.size_of-size.ensures (sym c.named.ensures ∙ c.if-named.true)
-    (sym c.judge.ensures ∙ ap told_checked c.in-Good.is)).fitting in
+    (sym c.judge.ensures ∙ ap told_checked c.in-Ok.is)).fitting in
     (fitting.part_is, fitting.used_is)
 
-pub returns-in-Good : goal.returns-in-Good
-returns-in-Good c =
+pub returns-in-Ok : goal.returns-in-Ok
+returns-in-Ok c =
     let a = c.args in
-    good_ends a.receiver a.block.now a.collection.now a.first.now a.second.now c.size_of-size.ensures c.named.ensures c.standard_of-standard.ensures c.if-named.true c.judge.ensures (ap told_checked c.in-Good.is) c.ended_by.ensures
+    good_ends a.receiver a.block.now a.collection.now a.first.now a.second.now c.size_of-size.ensures c.named.ensures c.standard_of-standard.ensures c.if-named.true c.judge.ensures (ap told_checked c.in-Ok.is) c.ended_by.ensures
 
-pub returns-in-Refused : goal.returns-in-Refused
-returns-in-Refused c =
+pub returns-in-Err : goal.returns-in-Err
+returns-in-Err c =
     let a = c.args in
-    refused_ends a.receiver a.block.now a.collection.now a.first.now a.second.now c.size_of-size.ensures c.named.ensures c.standard_of-standard.ensures c.if-named.true c.judge.ensures (ap told_checked c.in-Refused.is)
+    refused_ends a.receiver a.block.now a.collection.now a.first.now a.second.now c.size_of-size.ensures c.named.ensures c.standard_of-standard.ensures c.if-named.true c.judge.ensures (ap told_checked c.in-Err.is)
 
 pub returns-else-named : goal.returns-else-named
 returns-else-named c =

@@ -1,12 +1,12 @@
 -- `counting::ended_by` meets its contract: by the line. Assumes nothing.
 use mathlib.Core.Path.{◌≡◌, refl, sym, ap, ◌∙◌}
+use Rattle.std.specs.Prelude.{Option}
 use Rattle.vault.specs.declared.Header.{Header}
 use Rattle.standing.specs.declared.Line.{Line}
-use Rattle.counting.specs.declared.Ending.{Ending}
 use Rattle.counting.specs.Ending.{ended_by}
 use Rattle.counting.proofs.ended_by.Goals as goal
 
-lined : {line found told : Line} {x : Ending} (header : Header) → found ≡ line → found ≡ told → x ≡ ended_by told header → x ≡ ended_by line header
+lined : {line found told : Line} {x : Option ℕ} (header : Header) → found ≡ line → found ≡ told → x ≡ ended_by told header → x ≡ ended_by line header
 lined header f e h = h ∙ ap (λ (l : Line). ended_by l header) (sym e ∙ f)
 
 pub returns-in-Earlier : goal.returns-in-Earlier

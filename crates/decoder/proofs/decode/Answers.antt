@@ -1,11 +1,10 @@
 -- `decoder::decode` meets its contract: the lengths are judged first, and there is no mark. Assumes nothing.
-use Rattle.std.specs.Prelude.{Ok, Err}
 use mathlib.Core.Path.{sym, ap, ◌∙◌}
 use lib.ListN.{length}
+use Rattle.std.specs.Prelude.{Ok, Err, Result}
 use Rattle.size.specs.Size.{store_length}
 use Rattle.refusals.specs.Number.{number, read_table}
 use Rattle.refusals.specs.Told.{verdict_on, found_or}
-use Rattle.decoder.specs.declared.Drawn.{Drawn}
 use Rattle.decoder.specs.Decoded.{told_drawn}
 use Rattle.decoder.proofs.Steps.{unfit_reference, unfit_store, by_drawn}
 use Rattle.decoder.proofs.decode.Goals as goal
@@ -27,12 +26,12 @@ draw-drawn-requires c =
     let named = c.store_length-named.ensures ∙ ap store_length c.size_of-size.ensures in
     record { reference_long = c.if-reference-named.false ∙ named; store_long = c.if-store-named.false ∙ named }
 
-pub returns-in-Picture : goal.returns-in-Picture
-returns-in-Picture c =
+pub returns-in-Ok : goal.returns-in-Ok
+returns-in-Ok c =
     let all = by_drawn c.args.kind c.args.bytes.now c.args.count c.args.reference.now (length c.args.store.now)
     (c.store_length-named.ensures ∙ ap store_length c.size_of-size.ensures)
     c.if-reference-named.false c.if-store-named.false (Ok tt) c.draw-drawn.result c.args.store.now _
-    (sym (ap (λ (x : Drawn). verdict_on (told_drawn x)) c.in-Picture.is)) c.draw-drawn.ensures.answer c.draw-drawn.ensures.samples in
+    (sym (ap (λ (x : Result ℕ Refusal). verdict_on (told_drawn x)) c.in-Ok.is)) c.draw-drawn.ensures.answer c.draw-drawn.ensures.samples in
     record { verdict = all.0; samples = all.1 }
 
 pub returns-in-Err : goal.returns-in-Err
@@ -40,5 +39,5 @@ returns-in-Err c =
     let all = by_drawn c.args.kind c.args.bytes.now c.args.count c.args.reference.now (length c.args.store.now)
     (c.store_length-named.ensures ∙ ap store_length c.size_of-size.ensures)
     c.if-reference-named.false c.if-store-named.false (Err _) c.draw-drawn.result c.args.store.now _
-    (sym (ap (λ (x : Drawn). verdict_on (told_drawn x)) c.in-Refused.is)) c.draw-drawn.ensures.answer c.draw-drawn.ensures.samples in
+    (sym (ap (λ (x : Result ℕ Refusal). verdict_on (told_drawn x)) c.in-Err.is)) c.draw-drawn.ensures.answer c.draw-drawn.ensures.samples in
     record { verdict = all.0; samples = all.1 }

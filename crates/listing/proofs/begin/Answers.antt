@@ -3,6 +3,7 @@ use Prim.Native.Nat.{ℕ}
 use mathlib.Core.Path.{◌≡◌, sym, ap, ◌∙◌}
 use mathlib.Core.Bool.{Bool, true, false}
 use mathlib.Core.List.{List}
+use Rattle.std.specs.Prelude.{Err}
 use Rattle.laws.specs.Choice.{pick}
 use Rattle.refusals.specs.declared.Reason.TheVariants.{Length}
 use Rattle.refusals.specs.declared.Refusal.{Refusal}
@@ -11,7 +12,6 @@ use Rattle.refusals.specs.Told.{Told, accepted, refused}
 use Rattle.size.specs.declared.Size.{Size}
 use Rattle.coding.specs.Kind.{coding_of}
 use Rattle.standing.specs.declared.Receiver.{Receiver}
-use Rattle.standing.specs.declared.Opened.TheVariants as O
 use Rattle.standing.specs.Answered.{told_opened}
 use Rattle.standing.specs.Receive.{Buffers, buffers, lent_lengths, step}
 use Rattle.listing.specs.declared.Clip.{Clip}
@@ -37,21 +37,21 @@ module _ (size : Size) (clip : Clip) (block : List ℕ) (b : Buffers) {right : B
     unfolding by_opened
     first_good g = on g
 
-    not_yet : {x : Listed} {why : Refusal} → found ≡ told_opened (O.Refused why) → x ≡ stays clip why → came x b ≡ begun size clip block b
+    not_yet : {x : Listed} {why : Refusal} → found ≡ told_opened (Err why) → x ≡ stays clip why → came x b ≡ begun size clip block b
     unfolding by_opened
     not_yet g o = ap (λ (y : Listed). came y b) o ∙ on g
 
-pub returns-in-Open : goal.returns-in-Open
-returns-in-Open c =
+pub returns-in-Ok : goal.returns-in-Ok
+returns-in-Ok c =
     let a = c.args in
     c.go_on.ensures ∙ first_good a.size a.clip a.block.now (buffers a.collection.now a.first.now a.second.now)
-    c.named.ensures c.if-named.true c.find.ensures (ap told_opened c.in-Open.is)
+    c.named.ensures c.if-named.true c.find.ensures (ap told_opened c.in-Ok.is)
 
-pub returns-in-Refused : goal.returns-in-Refused
-returns-in-Refused c =
+pub returns-in-Err : goal.returns-in-Err
+returns-in-Err c =
     let a = c.args in
     not_yet a.size a.clip a.block.now (buffers a.collection.now a.first.now a.second.now)
-    c.named.ensures c.if-named.true c.find.ensures (ap told_opened c.in-Refused.is) c.refused.ensures
+    c.named.ensures c.if-named.true c.find.ensures (ap told_opened c.in-Err.is) c.refused.ensures
 
 pub returns-else-named : goal.returns-else-named
 returns-else-named c =

@@ -3,15 +3,13 @@ use mathlib.Core.Path.{◌≡◌, sym, ap, ◌∙◌}
 use mathlib.Core.Bool.{Bool, true, false}
 use mathlib.Core.List.{List}
 use Prim.Native.Nat.{ℕ}
+use Rattle.std.specs.Prelude.{Some, Result, Ok, Err}
 use Rattle.laws.specs.Choice.{pick, alike}
 use Rattle.refusals.specs.declared.Refusal.{Refusal}
 use Rattle.refusals.specs.Told.{Numbers, numbers_of, untabled, Told, accepted, refused_by, refused}
 use Rattle.refusals.proofs.Told.{same_numbers, accepted_once, told_apart}
 use Rattle.layout.specs.Flat.{Flat}
 use Rattle.coding.specs.Kind.{coding_of}
-use Rattle.decoder.specs.declared.Mark.TheVariants.{Refresh}
-use Rattle.decoder.specs.declared.Drawn.{Drawn}
-use Rattle.decoder.specs.declared.Drawn.TheVariants.{Picture, Refused}
 use Rattle.decoder.specs.Decoded.{told_drawn, judged_mark, tr_by, drawn_by, marked_tr, marked_store}
 use Rattle.vault.specs.declared.Header.{Header}
 use Rattle.standing.specs.Stores.{Stores, stores, reference}
@@ -27,7 +25,7 @@ use Rattle.receiver.proofs.finish.Goals as goal
 module _ (r : Receiver) (header : Header) (s : Stores) where
   -- the mark that the picture came with, and what is judged of what was read
   abbrev judged : Told Flat → Told Flat
-  judged read = judged_mark (coding_of r.kind) (Refresh (mark_of r.progress header)) read
+  judged read = judged_mark (coding_of r.kind) (Some (mark_of r.progress header)) read
 
   -- what is drawn of it
   abbrev drawn : Told Flat → Told (List ℕ)
@@ -64,21 +62,21 @@ module _ (r : Receiver) (header : Header) (s : Stores) where
     abbrev read : Told Flat
     read = (coding_of r.kind).read collection (count_of header)
 
-    tr_is : marked_tr r.kind (Refresh marked) collection count ≡ tr_by (coding_of r.kind) (judged read)
+    tr_is : marked_tr r.kind (Some marked) collection count ≡ tr_by (coding_of r.kind) (judged read)
     unfolding marked_tr
-    tr_is = λ i. tr_by (coding_of r.kind) (judged_mark (coding_of r.kind) (Refresh (m i)) ((coding_of r.kind).read collection (n i)))
+    tr_is = λ i. tr_by (coding_of r.kind) (judged_mark (coding_of r.kind) (Some (m i)) ((coding_of r.kind).read collection (n i)))
 
-    store_is : marked_store r.kind (Refresh marked) collection count (reference r.last.holder s) ≡ drawn (judged read)
+    store_is : marked_store r.kind (Some marked) collection count (reference r.last.holder s) ≡ drawn (judged read)
     unfolding marked_store
-    store_is = λ i. drawn_by (coding_of r.kind) (reference r.last.holder s) (judged_mark (coding_of r.kind) (Refresh (m i)) ((coding_of r.kind).read collection (n i)))
+    store_is = λ i. drawn_by (coding_of r.kind) (reference r.last.holder s) (judged_mark (coding_of r.kind) (Some (m i)) ((coding_of r.kind).read collection (n i)))
 
-    module _ (answer : Drawn) {x : Received} {t : Stores} (v : told_drawn answer ≡ marked_tr r.kind (Refresh marked) collection count)
-        (k : t ≡ stores_or r.last.holder s (marked_store r.kind (Refresh marked) collection count (reference r.last.holder s))) where
-      picture_so : (tr : ℕ) → answer ≡ Picture tr → told_received x ≡ finished_reply r header (tick_in (coding_of r.kind).modulus r.last header.picture tr)
+    module _ (answer : Result ℕ Refusal) {x : Received} {t : Stores} (v : told_drawn answer ≡ marked_tr r.kind (Some marked) collection count)
+        (k : t ≡ stores_or r.last.holder s (marked_store r.kind (Some marked) collection count (reference r.last.holder s))) where
+      picture_so : (tr : ℕ) → answer ≡ Ok tr → told_received x ≡ finished_reply r header (tick_in (coding_of r.kind).modulus r.last header.picture tr)
           → Settles coding_of r s (ended_picture coding_of r header read) x t
       picture_so tr e h = ends read (sym (ap told_drawn e) ∙ v ∙ tr_is) (k ∙ ap (stores_or r.last.holder s) store_is) h
 
-      refused_so : {why : Refusal} → answer ≡ Refused why → told_received x ≡ reply (A.refused (numbers_of why)) (failed_receiver r header)
+      refused_so : {why : Refusal} → answer ≡ Err why → told_received x ≡ reply (A.refused (numbers_of why)) (failed_receiver r header)
           → Settles coding_of r s (ended_picture coding_of r header read) x t
       refused_so e h = fails read (sym (ap told_drawn e) ∙ v ∙ tr_is) (k ∙ ap (stores_or r.last.holder s) store_is) h
 
@@ -86,14 +84,14 @@ pub keep_read-drawn-requires : goal.keep_read-drawn-requires
 keep_read-drawn-requires c =
     record { reference_long = c.requires.first_long; store_long = c.requires.second_long }
 
-pub returns-in-Refused : goal.returns-in-Refused
-returns-in-Refused c =
+pub returns-in-Err : goal.returns-in-Err
+returns-in-Err c =
     refused_so c.args.receiver c.args.header (stores c.args.first.now c.args.second.now) c.args.collection.now
     c.count_of-count.ensures c.mark_with-marked.ensures
-    c.keep_read-drawn.result c.keep_read-drawn.ensures.answer c.keep_read-drawn.ensures.samples c.in-Refused.is c.fail.ensures
+    c.keep_read-drawn.result c.keep_read-drawn.ensures.answer c.keep_read-drawn.ensures.samples c.in-Err.is c.fail.ensures
 
-pub returns-in-Picture : goal.returns-in-Picture
-returns-in-Picture c =
+pub returns-in-Ok : goal.returns-in-Ok
+returns-in-Ok c =
     picture_so c.args.receiver c.args.header (stores c.args.first.now c.args.second.now) c.args.collection.now
     c.count_of-count.ensures c.mark_with-marked.ensures
-    c.keep_read-drawn.result c.keep_read-drawn.ensures.answer c.keep_read-drawn.ensures.samples _ c.in-Picture.is c.succeed.ensures
+    c.keep_read-drawn.result c.keep_read-drawn.ensures.answer c.keep_read-drawn.ensures.samples _ c.in-Ok.is c.succeed.ensures

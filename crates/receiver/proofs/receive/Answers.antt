@@ -54,15 +54,15 @@ module _ {right : Bool} {size : Size} (r : Receiver) (block collection first sec
 pub act-requires : goal.act-requires
 act-requires c =
     ready c.args.receiver.kind _ c.args.receiver.clip _ c.args.block.now c.args.collection.now c.args.first.now c.args.second.now c.size_of-size.ensures (sym c.named.ensures ∙ c.if-named.true)
-    (sym c.judge-checked.ensures ∙ ap told_checked c.in-Good.is)
+    (sym c.judge-checked.ensures ∙ ap told_checked c.in-Ok.is)
 
-pub returns-in-Good : goal.returns-in-Good
-returns-in-Good c =
-    good c.args.receiver c.args.block.now c.args.collection.now c.args.first.now c.args.second.now c.size_of-size.ensures c.named.ensures c.standard_of-standard.ensures c.if-named.true c.judge-checked.ensures (ap told_checked c.in-Good.is) c.act.ensures
+pub returns-in-Ok : goal.returns-in-Ok
+returns-in-Ok c =
+    good c.args.receiver c.args.block.now c.args.collection.now c.args.first.now c.args.second.now c.size_of-size.ensures c.named.ensures c.standard_of-standard.ensures c.if-named.true c.judge-checked.ensures (ap told_checked c.in-Ok.is) c.act.ensures
 
-pub returns-in-Refused : goal.returns-in-Refused
-returns-in-Refused c =
-    bad c.args.receiver c.args.block.now c.args.collection.now c.args.first.now c.args.second.now c.size_of-size.ensures c.named.ensures c.standard_of-standard.ensures c.if-named.true c.judge-checked.ensures (ap told_checked c.in-Refused.is) c.refuse.ensures
+pub returns-in-Err : goal.returns-in-Err
+returns-in-Err c =
+    bad c.args.receiver c.args.block.now c.args.collection.now c.args.first.now c.args.second.now c.size_of-size.ensures c.named.ensures c.standard_of-standard.ensures c.if-named.true c.judge-checked.ensures (ap told_checked c.in-Err.is) c.refuse.ensures
 
 pub returns-else-named : goal.returns-else-named
 unfolding number read_table

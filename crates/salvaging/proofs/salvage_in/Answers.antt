@@ -36,25 +36,25 @@ rewrite-requires c =
 pub returns-then-any_kept : goal.returns-then-any_kept
 returns-then-any_kept c =
     let a = c.args in
-    let opened = open_opened a.old a.kind c.in-Open.receiver (sym (ap told_opened c.in-Open.is) ∙ c.«open».ensures) in
+    let opened = open_opened a.old a.kind c.in-Ok.receiver (sym (ap told_opened c.in-Ok.is) ∙ c.«open».ensures) in
     let b = buffers a.collection.now a.first.now a.second.now in
-    let found : any_kept (answers_from c.in-Open.receiver b a.blocks.now 0) ≡ true =
-    ap (λ (b : Buffers). any_kept (answers_from c.in-Open.receiver b a.blocks.now 0)) (c.requires.blank ∙ sym c.requires.blank_ahead) ∙ sym c.any_kept.ensures ∙ c.if-any_kept.true in
-    some_kept_lem a.kind a.old a.new a.blocks.now a.out.now a.log.now c.requires.named opened.0 c.if-new-eq0.false c.in-Open.receiver b opened.1 c.requires.blank
+    let found : any_kept (answers_from c.in-Ok.receiver b a.blocks.now 0) ≡ true =
+    ap (λ (b : Buffers). any_kept (answers_from c.in-Ok.receiver b a.blocks.now 0)) (c.requires.blank ∙ sym c.requires.blank_ahead) ∙ sym c.any_kept.ensures ∙ c.if-any_kept.true in
+    some_kept_lem a.kind a.old a.new a.blocks.now a.out.now a.log.now c.requires.named opened.0 c.if-new-eq0.false c.in-Ok.receiver b opened.1 c.requires.blank
     c.rewrite.result found c.rewrite.ensures
 
-pub returns-in-Refused : goal.returns-in-Refused
-returns-in-Refused c =
+pub returns-in-Err : goal.returns-in-Err
+returns-in-Err c =
     let a = c.args in
-    let refused = open_refused a.old a.kind _ (sym (ap told_opened c.in-Refused.is) ∙ c.«open».ensures) in
-    old_zero a.kind a.old a.new a.blocks.now a.out.now a.log.now c.requires.named c.in-Refused.why refused.0 refused.1
+    let refused = open_refused a.old a.kind _ (sym (ap told_opened c.in-Err.is) ∙ c.«open».ensures) in
+    old_zero a.kind a.old a.new a.blocks.now a.out.now a.log.now c.requires.named c.in-Err.why refused.0 refused.1
 
 pub returns-else-any_kept : goal.returns-else-any_kept
 returns-else-any_kept c =
     let a = c.args in
-    let opened = open_opened a.old a.kind c.in-Open.receiver (sym (ap told_opened c.in-Open.is) ∙ c.«open».ensures) in
+    let opened = open_opened a.old a.kind c.in-Ok.receiver (sym (ap told_opened c.in-Ok.is) ∙ c.«open».ensures) in
     let b = buffers a.collection.now a.first.now a.second.now in
-    let none : any_kept (answers_from c.in-Open.receiver b a.blocks.now 0) ≡ false =
-    ap (λ (b : Buffers). any_kept (answers_from c.in-Open.receiver b a.blocks.now 0)) (c.requires.blank ∙ sym c.requires.blank_ahead) ∙ sym c.any_kept.ensures ∙ c.if-any_kept.false in
-    subst (λ (r : Result Salvaged Refusal). SalvageDoes a.kind a.old a.new a.blocks.now a.out.now a.log.now r a.out.now a.log.now) (sym c.refused-in-Open.ensures)
-    (none_kept a.kind a.old a.new a.blocks.now a.out.now a.log.now c.requires.named opened.0 c.if-new-eq0.false c.in-Open.receiver b opened.1 c.requires.blank none)
+    let none : any_kept (answers_from c.in-Ok.receiver b a.blocks.now 0) ≡ false =
+    ap (λ (b : Buffers). any_kept (answers_from c.in-Ok.receiver b a.blocks.now 0)) (c.requires.blank ∙ sym c.requires.blank_ahead) ∙ sym c.any_kept.ensures ∙ c.if-any_kept.false in
+    subst (λ (r : Result Salvaged Refusal). SalvageDoes a.kind a.old a.new a.blocks.now a.out.now a.log.now r a.out.now a.log.now) (sym c.refused-in-Ok.ensures)
+    (none_kept a.kind a.old a.new a.blocks.now a.out.now a.log.now c.requires.named opened.0 c.if-new-eq0.false c.in-Ok.receiver b opened.1 c.requires.blank none)

@@ -2,9 +2,9 @@
 use mathlib.Core.Path.{◌≡◌, refl, sym, ap, subst, ◌∙◌}
 use mathlib.Core.List.{List}
 use Prim.Native.Nat.{ℕ}
+use Rattle.std.specs.Prelude.{Option}
 use Rattle.refusals.specs.Told.{Told, accepted, refused_by, found_or}
 use Rattle.coding.specs.declared.Kind.{Kind}
-use Rattle.decoder.specs.declared.Mark.{Mark}
 use Rattle.decoder.specs.Decoded.{marked_store}
 use Rattle.standing.specs.declared.Holder.{Holder}
 use Rattle.standing.specs.declared.Holder.TheVariants.{Neither, First, Second}
@@ -28,7 +28,7 @@ module _ (first second : List ℕ) where
   second_or (accepted picture) = refl
   second_or (refused_by numbers) = refl
 
-module _ (k : Kind) (mark : Mark) (bytes : List ℕ) (n : ℕ) (first second : List ℕ) where
+module _ (k : Kind) (mark : Option Bool) (bytes : List ℕ) (n : ℕ) (first second : List ℕ) where
   -- what is promised
   abbrev Left : Holder → Stores → Type 0
   Left h t = t ≡ stores_or h (stores first second) (marked_store k mark bytes n (reference h (stores first second)))

@@ -24,17 +24,17 @@ module _ (standard : Standard) {found : Told Header} (header : Header) (e : acce
 pub returns-then-same_standard : goal.returns-then-same_standard
 unfolding judge_of
 returns-then-same_standard c =
-    own c.args.standard _ (sym (ap told_checked c.in-Good.is) ∙ c.of_clip.ensures)
+    own c.args.standard _ (sym (ap told_checked c.in-Ok.is) ∙ c.of_clip.ensures)
     (sym c.same_standard.ensures ∙ c.if-same_standard.true)
 
 pub returns-else-same_standard : goal.returns-else-same_standard
 unfolding judge_of number read_table
 returns-else-same_standard c =
     ap told_checked c.refused.ensures
-    ∙ other c.args.standard _ (sym (ap told_checked c.in-Good.is) ∙ c.of_clip.ensures)
+    ∙ other c.args.standard _ (sym (ap told_checked c.in-Ok.is) ∙ c.of_clip.ensures)
     (sym c.same_standard.ensures ∙ c.if-same_standard.false)
 
-pub returns-in-Refused : goal.returns-in-Refused
+pub returns-in-Err : goal.returns-in-Err
 unfolding judge_of
-returns-in-Refused c =
-    ap (of_standard c.args.standard) (sym (ap told_checked c.in-Refused.is) ∙ c.of_clip.ensures)
+returns-in-Err c =
+    ap (of_standard c.args.standard) (sym (ap told_checked c.in-Err.is) ∙ c.of_clip.ensures)

@@ -22,12 +22,12 @@ module _ {clip : ℕ} {found : Told Header} where
       is header differs = rw (ne_eqb header.clip clip differs)
 
 pub returns-then-header-clip : goal.returns-then-header-clip
-returns-then-header-clip c = own _ (sym (ap told_checked c.in-Good.is) ∙ c.check.ensures) c.if-header-clip.true
+returns-then-header-clip c = own _ (sym (ap told_checked c.in-Ok.is) ∙ c.check.ensures) c.if-header-clip.true
 
 pub returns-else-header-clip : goal.returns-else-header-clip
 unfolding number read_table
 returns-else-header-clip c =
-    ap told_checked c.refused.ensures ∙ other _ (sym (ap told_checked c.in-Good.is) ∙ c.check.ensures) c.if-header-clip.false
+    ap told_checked c.refused.ensures ∙ other _ (sym (ap told_checked c.in-Ok.is) ∙ c.check.ensures) c.if-header-clip.false
 
-pub returns-in-Refused : goal.returns-in-Refused
-returns-in-Refused c = ap (of_clip c.args.clip) (sym (ap told_checked c.in-Refused.is) ∙ c.check.ensures)
+pub returns-in-Err : goal.returns-in-Err
+returns-in-Err c = ap (of_clip c.args.clip) (sym (ap told_checked c.in-Err.is) ∙ c.check.ensures)
