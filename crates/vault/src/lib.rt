@@ -14,14 +14,14 @@ use refusals::{Reason, Refusal};
 use size::Size;
 
 // What a clip's pictures are coded by.
-#[derive(Clone, Copy)]
+#[derive(Clone, Copy, PartialEq, Eq)]
 pub enum Standard {
     H261,
     H263,
 }
 
 // What a block says before its payload.
-#[derive(Clone, Copy)]
+#[derive(Clone, Copy, PartialEq, Eq)]
 pub struct Header {
     pub standard: Standard,
     pub clip: u16,
@@ -86,10 +86,8 @@ fn sum(block: &[u8]) -> u32
     ensures { result ≡ sum_of block.now }
 {
     let mut total: u32 = 0;
-    let mut i: usize = 0;
-    while i < 510 {
+    for i in 0..510 {
         total += (i as u32 + 1) * (block[i] as u32);
-        i += 1;
     }
     total % 65521
 }
@@ -169,13 +167,11 @@ fn unused_zero(block: &[u8], used: usize) -> bool
     requires { length block.now ≡ 512 }
     ensures { result ≡ unused_clear used (payload_of block.now) 500 }
 {
-    let mut i = used / 8;
-    while i < 500 {
+    for i in used / 8..500 {
         let weight = unused_weight(used, i);
         if block[8 + i] as u32 % weight != 0 {
             return false;
         }
-        i += 1;
     }
     true
 }
@@ -227,48 +223,28 @@ pub fn check(size: Size, block: &[u8]) -> Result<Header, Refusal>
 pub fn of_clip(size: Size, clip: u16, block: &[u8]) -> Result<Header, Refusal>
     ensures { told_checked result ≡ of_clip clip (check_of size block.now) }
 {
-    match check(size, block) {
-        Ok(header) => {
-            if header.clip == clip {
-                Ok(header)
-            } else {
-                refused(Reason::OtherClip)
-            }
-        }
-        Err(refusal) => Err(refusal),
+    let header = check(size, block)?;
+    if header.clip != clip {
+        return refused(Reason::OtherClip);
     }
+    Ok(header)
 }
 
 pub fn same_standard(a: Standard, b: Standard) -> bool
     ensures { result ≡ same_standard a b }
 {
-    match a {
-        Standard::H261 => match b {
-            Standard::H261 => true,
-            Standard::H263 => false,
-        },
-        Standard::H263 => match b {
-            Standard::H261 => false,
-            Standard::H263 => true,
-        },
-    }
+    a == b
 }
 
 // 1, 21, 22, 23, 5, or the header of a block of this clip, which has this standard.
 pub fn judge(size: Size, standard: Standard, clip: u16, block: &[u8]) -> Result<Header, Refusal>
     ensures { told_checked result ≡ judge_of size standard clip block.now }
 {
-    match of_clip(size, clip, block) {
-        Ok(header) => {
-            let said = header.standard;
-            if same_standard(said, standard) {
-                Ok(header)
-            } else {
-                refused(Reason::OtherFormat)
-            }
-        }
-        Err(refusal) => Err(refusal),
+    let header = of_clip(size, clip, block)?;
+    if header.standard != standard {
+        return refused(Reason::OtherFormat);
     }
+    Ok(header)
 }
 
 // ---- making blocks
@@ -350,21 +326,31 @@ fn whole_bytes(count: usize, from: usize) -> usize
     500
 }
 
-// Whole bytes are copied as they are; of the rest only the picture's bits are kept.
+// Whole bytes are copied as they are: how many they are.
+fn copy_whole(bytes: &[u8], count: usize, part: usize, block: &mut [u8]) -> usize
+    requires { PayloadRoom bytes.now count part block.old }
+    ensures value { result ≡ min 500 (count / 8 - 500 * part) }
+    ensures block_after { block.new ≡ paste block.old 8 (payload_at bytes.now count part) (min 500 (count / 8 - 500 * part)) }
+{
+    let from = 500 * part;
+    let whole = whole_bytes(count, from);
+    // Where none is whole, `from` may lie past the bytes.
+    if whole == 0 {
+        return 0;
+    }
+    block[8..8 + whole].copy_from_slice(&bytes[from..from + whole]);
+    whole
+}
+
+// Of the rest only the picture's bits are kept.
 fn write_payload(bytes: &[u8], count: usize, part: usize, block: &mut [u8])
     requires { PayloadRoom bytes.now count part block.old }
     ensures { block.new ≡ paste block.old 8 (payload_at bytes.now count part) 500 }
 {
     let from = 500 * part;
-    let whole = whole_bytes(count, from);
-    let mut j: usize = 0;
-    while j < whole {
-        block[8 + j] = bytes[from + j];
-        j += 1;
-    }
-    while j < 500 {
+    let whole = copy_whole(bytes, count, part, block);
+    for j in whole..500 {
         block[8 + j] = kept(bytes, count, from + j);
-        j += 1;
     }
 }
 
@@ -454,13 +440,11 @@ pub fn blocks(
     ensures out_after { out.new ≡ blocks_of standard clip picture refresh bytes.now count ++ drop (512 * part_count count) out.old }
 {
     let parts = part_count(count);
-    let mut part: usize = 0;
-    while part < parts {
+    for part in 0..parts {
         let at = 512 * part;
         let end = at + 512;
         let header = header_at(standard, clip, picture, refresh, count, part);
         write_block(header, bytes, count, &mut out[at..end]);
-        part += 1;
     }
     parts
 }

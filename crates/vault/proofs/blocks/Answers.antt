@@ -37,12 +37,6 @@ write_block-requires c = (
   omega (arith, ap (λ (h : Header). h.picture) c.header_at-header.ensures),
 )
 
-pub overflow_add-part : goal.overflow_add-part
-overflow_add-part c = omega (arith, c.part_count-parts.ensures)
-
-pub loop-part-smaller : goal.loop-part-smaller
-loop-part-smaller c = omega (arith, c.part_count-parts.ensures)
-
 pub loop-part-preserved : goal.loop-part-preserved
 loop-part-preserved c =
     more _ _ _ _ _ _ _ _ _ _ c.loop-part.invariant (omega (arith, c.part_count-parts.ensures)) (omega arith)

@@ -2,6 +2,7 @@
 use borrow.Author.Tests.{eq-eqb, ne_eqb}
 use mathlib.Core.Path.{◌≡◌, sym, ap, ◌∙◌}
 use Prim.Native.Nat.{ℕ}
+use Rattle.std.proofs.lemmas.Result.{err_from_is_err_and}
 use Rattle.refusals.specs.Number.{number, read_table}
 use Rattle.refusals.specs.Told.{Told, accepted, refused}
 use Rattle.vault.specs.declared.Header.{Header}
@@ -22,12 +23,14 @@ module _ {clip : ℕ} {found : Told Header} where
       is header differs = rw (ne_eqb header.clip clip differs)
 
 pub returns-then-header-clip : goal.returns-then-header-clip
-returns-then-header-clip c = own _ (sym (ap told_checked c.in-Ok.is) ∙ c.check.ensures) c.if-header-clip.true
-
-pub returns-else-header-clip : goal.returns-else-header-clip
 unfolding number read_table
-returns-else-header-clip c =
-    ap told_checked c.refused.ensures ∙ other _ (sym (ap told_checked c.in-Ok.is) ∙ c.check.ensures) c.if-header-clip.false
+returns-then-header-clip c =
+    ap told_checked c.refused.ensures ∙ other _ (sym (ap told_checked c.in_ok-header.was) ∙ c.check.ensures) c.if-header-clip.true
 
-pub returns-in-Err : goal.returns-in-Err
-returns-in-Err c = ap (of_clip c.args.clip) (sym (ap told_checked c.in-Err.is) ∙ c.check.ensures)
+pub returns-in_err-header : goal.returns-in_err-header
+returns-in_err-header c =
+    let p = err_from_is_err_and c.from_residual.result c.from_residual.ensures.1 in
+    rw (p.1, p.2) (ap (of_clip c.args.clip) (sym (ap told_checked c.in_err-header.was) ∙ c.check.ensures))
+
+pub returns : goal.returns
+returns c = own _ (sym (ap told_checked c.in_ok-header.was) ∙ c.check.ensures) c.if-header-clip.false

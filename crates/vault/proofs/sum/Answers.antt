@@ -23,7 +23,7 @@ small c = term _ _ (omega arith) (omega (arith, c.type_inv.block c.loop-i.i))
 
 pub loop-i-init : goal.loop-i-init
 unfolding weighted
-loop-i-init c = (omega arith, refl, omega arith)
+loop-i-init c = (refl, omega arith)
 
 pub overflow_mul-total : goal.overflow_mul-total
 overflow_mul-total c = omega (arith, small c)
@@ -34,10 +34,10 @@ overflow_add-total-in-loop-i c = omega (arith, small c)
 pub loop-i-preserved : goal.loop-i-preserved
 loop-i-preserved c =
     let l = c.loop-i in
-    (omega arith, ap (λ (n : ℕ). n + (l.i + 1) * get_or c.args.block.now l.i 0) l.invariant.1 ∙ sym (more _ _), omega (arith, small c))
+    (ap (λ (n : ℕ). n + (l.i + 1) * get_or c.args.block.now l.i 0) l.invariant.0 ∙ sym (more _ _), omega (arith, small c))
 
 pub returns : goal.returns
 returns c =
     let l = c.loop-i in
     let e : l.i ≡ 510 = omega arith in
-    ap (λ (n : ℕ). n % 65521) (l.invariant.1 ∙ ap (weighted c.args.block.now) e)
+    ap (λ (n : ℕ). n % 65521) (l.invariant.0 ∙ ap (weighted c.args.block.now) e)
