@@ -15,14 +15,14 @@ mod logs;
 mod steps;
 
 // Where a word is wrong.
-#[derive(Clone, Copy)]
+#[derive(Clone, Copy, PartialEq, Eq)]
 pub enum Places {
     Nowhere,
     One(usize),
     Two(usize, usize),
 }
 
-#[derive(Clone, Copy)]
+#[derive(Clone, Copy, PartialEq, Eq)]
 pub enum Mending {
     Mended,
     Unmended,
@@ -41,17 +41,11 @@ fn log_tables() -> [u16; 2048]
     logs::LOGS
 }
 
-fn wide(x: u16) -> usize
-    ensures { result ≡ x }
-{
-    x as usize
-}
-
 fn entry(table: &[u16; 2048], i: usize) -> usize
     requires { i < 2048 }
     ensures { result ≡ get_or table.now i 0 }
 {
-    wide(table[i])
+    usize::from(table[i])
 }
 
 // One byte more into the register of 18 bits.
@@ -60,7 +54,7 @@ fn fed(steps: &[u32; 256], register: u32, byte: u8) -> u32
     ensures { (result ≡ fed_bits generator (bits_of 8 byte) register) × (result < 262144) }
 {
     let high = (register / 1024) as usize;
-    steps[high] ^ ((register % 1024) * 256) ^ (byte as u32)
+    steps[high] ^ ((register % 1024) * 256) ^ u32::from(byte)
 }
 
 // One bit more into a register of 9 bits, of the factor x^9 and rest.
@@ -71,22 +65,14 @@ fn fed_short(rest: u32, register: u32, bit: u32) -> u32
     ((register % 256) * 2) ^ ((register / 256 % 2) * rest) ^ bit
 }
 
-fn number(x: u8) -> u32
-    ensures { result ≡ x }
-{
-    x as u32
-}
-
 // What the frame's word leaves.
 fn remainder(steps: &[u32; 256], frame: &[u8; 64]) -> u32
     requires { steps.now ≡ byte_steps }
     ensures { (result ≡ remainder_of (word frame.now)) × (result < 262144) }
 {
-    let mut register = number(frame[0]) % 128;
-    let mut i: usize = 1;
-    while i < 64 {
-        register = fed(steps, register, frame[i]);
-        i += 1;
+    let mut register = u32::from(frame[0]) % 128;
+    for byte in &frame[1..] {
+        register = fed(steps, register, *byte);
     }
     register
 }
@@ -97,10 +83,8 @@ fn part(rest: u32, r: u32) -> u32
     ensures { (result ≡ part_of (factor rest) r) × (result < 512) }
 {
     let mut register = r / 512;
-    let mut left: u32 = 9;
-    while 0 < left {
-        left -= 1;
-        register = fed_short(rest, register, (r >> left) % 2);
+    for k in 0u32..9 {
+        register = fed_short(rest, register, (r >> (8 - k)) % 2);
     }
     register
 }

@@ -113,6 +113,11 @@ pub record Going (s : List ℕ) (n lock : ℕ) (out₀ places₀ : List ℕ) (at
   pub all_bits : bits ++ data_bits (frames_at s n at) ≡ data_bits (frames_at s n lock)
   pub all_told : told ++ report_places (frames_at s n at) ≡ report_places (frames_at s n lock)
 
+-- the same, of a place that is said otherwise
+pub going_at : {s : List ℕ} {n lock : ℕ} {out₀ places₀ : List ℕ} {at at' : ℕ} {tally : Tally} {out places : List ℕ} → at ≡ at' → Going s n lock out₀ places₀ at tally out places
+    → Going s n lock out₀ places₀ at' tally out places
+going_at {s} {n} {lock} {out₀} {places₀} {at} {at'} {tally} {out} {places} e g = subst (λ (p : ℕ). Going s n lock out₀ places₀ p tally out places) e g
+
 pub going_first : (s : List ℕ) (n lock : ℕ) (out places : List ℕ) → lock ≤ n → Going s n lock out places lock (record { bits = 0; places = 0 }) out places
 unfolding bytes_with bytes_of
 going_first s n lock out places l =

@@ -14,18 +14,12 @@ use refusals::{Reason, Refusal};
 
 // ---- lock
 
-fn number(x: u8) -> u32
-    ensures { result ≡ x }
-{
-    x as u32
-}
-
 fn bit(capture: &[u8], at: usize) -> u32
     requires { at < 8 * length capture.now }
     ensures { result ≡ bit_num capture.now at }
 {
     let after = 7 - at % 8;
-    (number(capture[at / 8]) >> after) % 2
+    (u32::from(capture[at / 8]) >> after) % 2
 }
 
 // Whether 24 framing bits from `at` on read the pattern three times.
@@ -33,13 +27,11 @@ fn framed(capture: &[u8], count: usize, at: usize) -> bool
     requires { (count ≤ 8 * length capture.now) × (at + 11776 < count) }
     ensures { result ≡ framed_by pattern (bits_left capture.now count at) }
 {
-    let mut k: usize = 0;
-    while k < 24 {
+    for k in 0..24 {
         let after = 23 - k;
         if bit(capture, at + 512 * k) != (1776411u32 >> after) % 2 {
             return false;
         }
-        k += 1;
     }
     true
 }
@@ -49,22 +41,20 @@ pub fn lock(capture: &[u8], count: usize, from: usize) -> Option<usize>
     requires { count ≤ 8 * length capture.now }
     ensures { as_lock result ≡ lock_from (bits_left capture.now count from) from }
 {
-    let mut at = from;
-    while at < count {
+    for at in from..count {
         if count - at <= 11776 {
             return None;
         }
         if framed(capture, count, at) {
             return Some(at);
         }
-        at += 1;
     }
     None
 }
 
 // ---- a frame
 
-#[derive(Clone, Copy)]
+#[derive(Clone, Copy, PartialEq, Eq)]
 pub enum Came {
     Data,
     Fill,
@@ -77,13 +67,11 @@ fn gathered(capture: &[u8], at: usize) -> [u8; 64]
     ensures { bits_from result 0 512 ≡ bits_from capture.now at 512 }
 {
     let mut frame = [0u8; 64];
-    let mut i: usize = 0;
-    while i < 21 {
+    for i in 0..21 {
         let three = bits::window(capture, at + 24 * i);
         frame[3 * i] = (three / 65536) as u8;
         frame[3 * i + 1] = (three / 256 % 256) as u8;
         frame[3 * i + 2] = (three % 256) as u8;
-        i += 1;
     }
     frame[63] = (bits::window(capture, at + 504) / 65536) as u8;
     frame
@@ -95,10 +83,8 @@ fn put_data(frame: &[u8; 64], out: &mut [u8], to: usize)
     ensures { out.new ≡ bytes_with out.old to (bits_from frame.now 2 492) }
 {
     bits::put(out, to, 12, bits::window(frame, 2) / 4096);
-    let mut i: usize = 0;
-    while i < 20 {
+    for i in 0..20 {
         bits::put(out, to + 12 + 24 * i, 24, bits::window(frame, 14 + 24 * i));
-        i += 1;
     }
 }
 
@@ -106,7 +92,7 @@ fn put_data(frame: &[u8; 64], out: &mut [u8], to: usize)
 fn is_fill(frame: &[u8; 64]) -> bool
     ensures { result ≡ eqb (bit_num frame.now 1) 0 }
 {
-    number(frame[0]) / 64 % 2 == 0
+    frame[0] / 64 % 2 == 0
 }
 
 // One frame: mended, and its data bits put to `to` if it has any. Its framing bit is not looked at.
@@ -133,7 +119,7 @@ pub fn step(steps: &[u32; 256], capture: &[u8], at: usize, out: &mut [u8], to: u
 // ---- a capture
 
 // How many data bits and how many places were written.
-#[derive(Clone, Copy)]
+#[derive(Clone, Copy, PartialEq, Eq)]
 pub struct Tally {
     pub bits: usize,
     pub places: usize,
@@ -190,14 +176,15 @@ fn from_lock(
 {
     let steps = bch::byte_steps();
     let mut tally = Tally { bits: 0, places: 0 };
-    let mut at = lock;
-    while 512 <= count - at {
+    let whole = (count - lock) / 512;
+    for n in 0..whole {
+        let at = lock + 512 * n;
         let came = step(&steps, capture, at, out, tally.bits);
         tally = counted(came, at, places, tally);
-        at += 512;
     }
-    if at < count {
-        tally = counted(Came::Unmended, at, places, tally);
+    let cut = lock + 512 * whole;
+    if cut < count {
+        tally = counted(Came::Unmended, cut, places, tally);
     }
     Ok(Replayed {
         lock,

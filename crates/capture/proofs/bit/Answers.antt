@@ -6,4 +6,4 @@ use Rattle.capture.proofs.bit.Goals as goal
 
 pub returns : goal.returns
 unfolding bit_num
-returns c = ap (λ (b : ℕ). b / 2 ^ (7 - c.args.at % 8) % 2) c.number.ensures
+returns c = ap (λ (b : ℕ). b / 2 ^ (7 - c.args.at % 8) % 2) c.from.ensures
