@@ -1,6 +1,5 @@
-// "A bit reader carries the lent bytes together with its place." The functions over it are few and thin: `field` takes it apart and calls the
-// covered function on the slice and the numbers, and promises the same by the same definition; `after` goes on with the same bytes. A read
-// answers no reader, since an enum can't hold a reference.
+// "A bit reader carries the lent bytes together with its place." Its methods are few and thin: `field` calls the function over the slice and the numbers, and
+// promises the same by the same definition; `after` goes on with the same bytes.
 #![tactic(auto)]
 
 ghost use Rattle.std.specs.Prelude.{◌≡◌, ◌≤◌};
@@ -18,22 +17,35 @@ pub struct BitReader<'a> {
     pub place: usize,
 }
 
-pub fn new<'a>(bytes: &'a [u8], count: usize, place: usize) -> BitReader<'a>
-    ensures { result ≡ reader_over bytes.entry count place }
-{
-    BitReader {
-        bytes,
-        count,
-        place,
+impl<'a> BitReader<'a> {
+    pub fn new(bytes: &'a [u8], count: usize, place: usize) -> Self
+        ensures { result ≡ reader_over bytes.entry count place }
+    {
+        BitReader {
+            bytes,
+            count,
+            place,
+        }
     }
-}
 
-// A field of `width` bits at the reader's place.
-pub fn field<'a>(reader: BitReader<'a>, width: usize) -> FieldRead<u32>
-    requires { (Inside reader) × (width ≤ 24) }
-    ensures { as_field reader.entry.bytes.now reader.entry.count result ≡ field_read width (reader_bits reader.entry) reader.entry.place }
-{
-    bits::field(reader.bytes, reader.count, reader.place, width)
+    // A field of `width` bits at the reader's place.
+    pub fn field(self, width: usize) -> FieldRead<u32>
+        requires { (Inside self) × (width ≤ 24) }
+        ensures { as_field self.entry.bytes.now self.entry.count result ≡ field_read width (reader_bits self.entry) self.entry.place }
+    {
+        bits::field(self.bytes, self.count, self.place, width)
+    }
+
+    // The reader after a field that it read. Where that was refused it stands at the end, where it reads nothing more.
+    pub fn after(self, read: FieldRead<u32>) -> Self
+        ensures { result ≡ reader_past self.entry read }
+    {
+        BitReader {
+            bytes: self.bytes,
+            count: self.count,
+            place: next_place(self.count, read),
+        }
+    }
 }
 
 // The place after a field; where it was refused, the end of the bits.
@@ -43,17 +55,5 @@ fn next_place(count: usize, read: FieldRead<u32>) -> usize
     match read {
         FieldRead::Got(_, next) => next,
         FieldRead::Refused(_) => count,
-    }
-}
-
-// The reader after a field that it read. Where that was refused it stands at the end, where it reads nothing more.
-pub fn after<'a>(reader: BitReader<'a>, read: FieldRead<u32>) -> BitReader<'a>
-    ensures { result ≡ reader_past reader.entry read }
-{
-    let place = next_place(reader.count, read);
-    BitReader {
-        bytes: reader.bytes,
-        count: reader.count,
-        place,
     }
 }

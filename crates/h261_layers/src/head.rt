@@ -7,6 +7,7 @@ ghost use Rattle.fields.specs.Header.{Below};
 ghost use Rattle.h261_layers.specs.Answer.{Counted, header_of, as_header};
 ghost use Rattle.h261_layers.specs.Grammar.{group_head, header as header_read};
 
+use bit_reader::BitReader;
 use bits::{FieldRead, Place, Stopped};
 use fields::{CountedRead, drop_spares, expect, field_stopped, plain_spares, quantiser, spares};
 use h261_groups::Format;
@@ -110,16 +111,16 @@ pub fn header(bytes: &[u8], count: usize, at: usize, format: Format) -> CountedR
     requires { Placed bytes.now count (place_of at 0) }
     ensures { as_header bytes.now count result ≡ header_read format (bits_left bytes.now count at) (place_of at 0) }
 {
-    let at_start = bit_reader::new(bytes, count, at);
-    let psc = bit_reader::field(at_start, 20);
-    let at_tr = bit_reader::after(at_start, psc);
-    let tr = bit_reader::field(at_tr, 5);
-    let at_ptype = bit_reader::after(at_tr, tr);
-    let ptype = bit_reader::field(at_ptype, 6);
-    let at_spares = bit_reader::after(at_ptype, ptype);
+    let at_start = BitReader::new(bytes, count, at);
+    let psc = at_start.field(20);
+    let at_tr = at_start.after(psc);
+    let tr = at_tr.field(5);
+    let at_ptype = at_tr.after(tr);
+    let ptype = at_ptype.field(6);
+    let at_spares = at_ptype.after(ptype);
     let spare = drop_spares(at_spares, 3);
     let dropped = plain_spares(spare);
-    let at_gbsc = bit_reader::after(at_spares, dropped);
-    let gbsc = bit_reader::field(at_gbsc, 16);
+    let at_gbsc = at_spares.after(dropped);
+    let gbsc = at_gbsc.field(16);
     header_of(format, at, psc, tr, ptype, spare, gbsc)
 }

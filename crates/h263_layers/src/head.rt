@@ -8,6 +8,7 @@ ghost use Rattle.h263_layers.specs.Grammar.{head_fields, group_head, mode_bit, h
 
 use crate::Header;
 use crate::start::{Ahead, ahead_at};
+use bit_reader::BitReader;
 use bits::{FieldRead, Place, Stopped, field};
 use fields::{CountedRead, drop_spares, expect, field_stopped, once, quantiser};
 use refusals::{Reason, Refusal};
@@ -151,17 +152,17 @@ pub fn header(bytes: &[u8], count: usize, at: usize, size: Size) -> CountedRead<
     requires { Placed bytes.now count (place_of at 0) }
     ensures { as_header bytes.now count result ≡ header_read size (bits_left bytes.now count at) (place_of at 0) }
 {
-    let at_start = bit_reader::new(bytes, count, at);
-    let psc = bit_reader::field(at_start, 22);
-    let at_tr = bit_reader::after(at_start, psc);
-    let tr = bit_reader::field(at_tr, 8);
-    let at_ptype = bit_reader::after(at_tr, tr);
-    let ptype = bit_reader::field(at_ptype, 13);
-    let at_pquant = bit_reader::after(at_ptype, ptype);
-    let pquant = bit_reader::field(at_pquant, 5);
-    let at_cpm = bit_reader::after(at_pquant, pquant);
-    let cpm = bit_reader::field(at_cpm, 1);
-    let at_spares = bit_reader::after(at_cpm, cpm);
+    let at_start = BitReader::new(bytes, count, at);
+    let psc = at_start.field(22);
+    let at_tr = at_start.after(psc);
+    let tr = at_tr.field(8);
+    let at_ptype = at_tr.after(tr);
+    let ptype = at_ptype.field(13);
+    let at_pquant = at_ptype.after(ptype);
+    let pquant = at_pquant.field(5);
+    let at_cpm = at_pquant.after(pquant);
+    let cpm = at_cpm.field(1);
+    let at_spares = at_cpm.after(cpm);
     let spare = drop_spares(at_spares, 5);
     header_of(size, at, psc, tr, ptype, pquant, cpm, spare)
 }
