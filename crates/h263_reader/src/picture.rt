@@ -8,13 +8,12 @@ ghost use Rattle.h263_description.specs.Fields.{stands};
 ghost use Rattle.h263_layers.specs.Grammar.{groups_read};
 ghost use Rattle.h263_reader.specs.Described.{GroupsReady};
 
-use bits::{Place, Stopped};
+use bits::Place;
 use fields::CountedRead;
 use h263_description::predicted::predictor;
 use h263_layers::OpenedRead;
 use h263_layers::macroblock::{macroblock, opened};
 use h263_words::WordTables;
-use refusals::{Reason, Refusal};
 use size::Size;
 
 // Whether a header with this GQUANT stands.
@@ -44,19 +43,11 @@ pub fn groups(
 {
     let across = h263_description::across(size);
     let down = h263_description::down(size);
-    let mut number: usize = 0;
     let mut place = at;
-    let mut stopped = Stopped {
-        refusal: Refusal {
-            reason: Reason::BitsEnd,
-            place: at.bit,
-        },
-        reads: at.reads,
-    };
-    'picture: while number < down {
+    let mut stopped = None;
+    'picture: for number in 0..down {
         let mut gquant: u32 = 0;
-        let mut column: usize = 0;
-        while column < across {
+        for column in 0..across {
             let found = opened(
                 tables,
                 bytes,
@@ -71,7 +62,6 @@ pub fn groups(
                 OpenedRead::Unsent(standing, next) => {
                     gquant = standing;
                     place = next;
-                    column += 1;
                 }
                 OpenedRead::Coded(standing, kind, next) => {
                     let n = number * across + column;
@@ -90,24 +80,22 @@ pub fn groups(
                         levels,
                     );
                     let CountedRead::Got((), end) = read else {
-                        stopped = read.stopped();
+                        stopped = Some(read.stopped());
                         break 'picture;
                     };
                     gquant = standing;
                     place = end;
-                    column += 1;
                 }
                 OpenedRead::Refused(first) => {
-                    stopped = first;
+                    stopped = Some(first);
                     break 'picture;
                 }
             }
         }
         head[5 + number] = gquant as u8;
-        number += 1;
     }
-    if number < down {
-        return CountedRead::Refused(stopped);
+    match stopped {
+        Some(stopped) => CountedRead::Refused(stopped),
+        None => CountedRead::Got((), place),
     }
-    CountedRead::Got((), place)
 }
