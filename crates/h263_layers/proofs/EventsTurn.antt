@@ -4,7 +4,7 @@ use mathlib.Core.List.{List, [], ◌∷◌}
 use Prim.Native.Nat.{ℕ, suc, ◌+◌, ◌-◌, ◌≤◌, ◌<◌}
 use native.Mathlib.Omega.{arith}
 use borrow.Author.Tests.{le-leb, lt-leb, eq-eqb, ne_eqb}
-use denote.Enum.Declared.{tag_of}
+use Rattle.refusals.specs.declared.Refusal.{Refusal}
 use lib.ListN.{length, set}
 use Rattle.refusals.specs.declared.Reason.TheVariants.{CoefficientPast}
 use Rattle.refusals.specs.Number.{refusal}
@@ -24,7 +24,6 @@ use Rattle.h263_words.specs.Words.{Event as Event·, event_of, event_read}
 use Rattle.h263_words.specs.Answer.{as_event}
 use Rattle.h263_words.specs.declared.EventRead.{EventRead}
 use Rattle.h263_words.specs.declared.EventRead.TheVariants.{Event, Refused as NoEvent}
-use Rattle.h263_words.specs.contracts.EventRead.{the_type as event_type}
 use Rattle.h263_words.proofs.WordReads.{once_event, event_reads}
 use Rattle.h263_layers.specs.Answer.{event_stopped}
 use Rattle.h263_layers.specs.Grammar.{events}
@@ -72,11 +71,12 @@ module _ {start : ReadIn counted (List ℕ)} {s : List ℕ} {n end : ℕ} {level
   turn rest e = h.same ∙ ap (λ (m : ℕ). map_read (put_block levels k) (events m (end - k) (bits_left s n p.bit) p)) e
 
   -- a read that was refused
-  pub events-refused : (r : EventRead) → tag_of event_type r ≡ 1 → as_event s n r ≡ event_read (bits_left s n p.bit) p.bit → refused (event_stopped (p.reads + 1) r) ≡ start
-  events-refused (Event last run code q) t e = absurd (omega arith)
-  events-refused (NoEvent r) t e =
+  pub events-refused : {why : Refusal} (r : EventRead) → r ≡ NoEvent why → as_event s n r ≡ event_read (bits_left s n p.bit) p.bit → refused (event_stopped (p.reads + 1) r) ≡ start
+  events-refused {why} r t e =
       let o = some (n - p.bit) h.fuel h.enough in
-      sym (turn o.0 o.1 ∙ ap (map_read (put_block levels k)) (step_refused o.0 (end - k) (bits_left s n p.bit) p _ (sym (event_once s n p (NoEvent r) e))))
+      let read = sym (ap (as_event s n) t) ∙ e in
+      ap (λ (x : EventRead). refused (event_stopped (p.reads + 1) x)) t
+      ∙ sym (turn o.0 o.1 ∙ ap (map_read (put_block levels k)) (step_refused o.0 (end - k) (bits_left s n p.bit) p _ (sym (event_once s n p (NoEvent why) read))))
 
   module _ {last run code q : ℕ} (w : as_event s n (Event last run code q) ≡ event_read (bits_left s n p.bit) p.bit) where
     abbrev after : Place
