@@ -1,4 +1,5 @@
 -- Any two outcomes that a promise of H.263's layers allows are equal. Assumes nothing.
+use Rattle.std.specs.Prelude.{Option, None, Some}
 use Prim.Native.Nat.{ℕ}
 use mathlib.Core.Path.{◌≡◌, refl, ap}
 use mathlib.Core.List.{List}
@@ -11,11 +12,11 @@ use Rattle.bits.specs.declared.Stopped.{Stopped}
 use Rattle.fields.specs.declared.CountedRead.{CountedRead}
 use Rattle.layout.specs.Value.{Vector}
 use Rattle.h263_description.specs.Landing.{component_of, residue_of}
-use Rattle.h263_layers.specs.Grammar.{Header, Opened, unsent, coded}
-use Rattle.h263_layers.specs.Answer.{as_header, as_opened, as_vector}
+use Rattle.h263_layers.specs.Grammar.{Header, Slot, Opened, unsent, coded}
+use Rattle.h263_layers.specs.Answer.{as_header, slot_in, as_opened, as_vector}
 use Rattle.fields.specs.declared.CountedRead.TheVariants as K
-use Rattle.h263_layers.specs.declared.OpenedRead.{OpenedRead}
-use Rattle.h263_layers.specs.declared.OpenedRead.TheVariants as O
+use Rattle.h263_layers.specs.declared.Header as H
+use Rattle.h263_layers.specs.declared.Opened as O
 use Rattle.determined.specs.H263.{HeaderOnce, OpenedOnce, VectorOnce}
 use Rattle.determined.proofs.Determined.{through}
 
@@ -24,30 +25,34 @@ module _ (s : List ℕ) (n : ℕ) where
   none : Stopped
   none = record { refusal = refusal Length 0; reads = 0 }
 
-  header_of : ReadIn counted Header → CountedRead Header
+  header_of : ReadIn counted Header → CountedRead H.Header
   header_of (got h left p) = K.Got (record { tr = h.tr; ptype = h.ptype; kind = h.type; pquant = h.pquant }) p
   header_of (refused why) = K.Refused why
   header_of endless = K.Refused none
 
-  header_of_lem : (x : CountedRead Header) → header_of (as_header s n x) ≡ x
+  header_of_lem : (x : CountedRead H.Header) → header_of (as_header s n x) ≡ x
   unfolding header_of
   header_of_lem (K.Got h p) = refl
   header_of_lem (K.Refused why) = refl
 
-  opened_of : ReadIn counted Opened → OpenedRead
-  opened_of (got o left p) =
-      elim o.slot [
-        | unsent ↦ O.Unsent o.gquant p
-        | coded kind ↦ O.Coded o.gquant kind p
-      ]
-  opened_of (refused why) = O.Refused why
-  opened_of endless = O.Refused none
+  -- the code's slot of a grammar's
+  mcbpc_of : Slot → Option ℕ
+  mcbpc_of unsent = None
+  mcbpc_of (coded kind) = Some kind
 
-  opened_of_lem : (x : OpenedRead) → opened_of (as_opened s n x) ≡ x
+  mcbpc_back : (m : Option ℕ) → mcbpc_of (slot_in m) ≡ m
+  mcbpc_back None = refl
+  mcbpc_back (Some kind) = refl
+
+  opened_of : ReadIn counted Opened → CountedRead O.Opened
+  opened_of (got o left p) = K.Got (record { gquant = o.gquant; mcbpc = mcbpc_of o.slot }) p
+  opened_of (refused why) = K.Refused why
+  opened_of endless = K.Refused none
+
+  opened_of_lem : (x : CountedRead O.Opened) → opened_of (as_opened s n x) ≡ x
   unfolding opened_of
-  opened_of_lem (O.Unsent gquant p) = refl
-  opened_of_lem (O.Coded gquant kind p) = refl
-  opened_of_lem (O.Refused why) = refl
+  opened_of_lem (K.Got o p) = ap (λ (m : Option ℕ). K.Got (record { gquant = o.gquant; mcbpc = m }) p) (mcbpc_back o.mcbpc)
+  opened_of_lem (K.Refused why) = refl
 
   kept_back : (x : ℕ) → residue_of (component_of x) ≡ x
   kept_back x = ap nat_abs (-ℤ-+ℤ_cancel (pos x) (pos 32))

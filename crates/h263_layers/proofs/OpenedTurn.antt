@@ -16,8 +16,12 @@ use Rattle.layout.specs.Proper.{If}
 use Rattle.fields.specs.Rules.{optional}
 use Rattle.fields.proofs.Meaning.{length_left, some, onward}
 use Rattle.fields.proofs.Told.{within_next}
-use Rattle.h263_layers.specs.Answer.{opened_of}
-use Rattle.h263_layers.specs.Grammar.{Slot, stuffed, slot, found_read, group_head, may_stand, Opened, opened_from, opened}
+use Rattle.fields.specs.Answer.{stopped_of}
+use Rattle.fields.specs.declared.CountedRead.{CountedRead}
+use Rattle.fields.specs.declared.CountedRead.TheVariants.{Got, Refused}
+use Rattle.h263_layers.specs.declared.Found as F
+use Rattle.h263_layers.specs.Answer.{found_in, as_found, opened_of}
+use Rattle.h263_layers.specs.Grammar.{Slot, Found, stuffed, slot, found_read, group_head, may_stand, Opened, opened_from, opened}
 use Rattle.h263_layers.proofs.Layers.{optional_reads, found_reads, group_head_reads}
 
 -- the group's header, where one may stand
@@ -46,6 +50,14 @@ module _ (fuel : ℕ) (intra : Bool) (number address gquant : ℕ) (bs : List Bi
       step-stuffed : found_read {P = counted} intra cs p ≡ got stuffed ds z → opened_from {P = counted} (suc fuel) intra number address gquant bs at ≡ opened_from fuel intra number address q ds z
       unfolding opened_from
       step-stuffed h = rw (e, h)
+
+-- ---- what stands there, by the code's answer
+module _ (s : List ℕ) (n : ℕ) {x : ReadIn counted Found} (r : CountedRead F.Found) (w : as_found s n r ≡ x) where
+  pub no_found : {why : Stopped} → r ≡ Refused why → x ≡ refused (stopped_of r)
+  no_found {why} e = sym w ∙ ap (as_found s n) e ∙ ap (λ (y : CountedRead F.Found). refused (stopped_of y)) (sym e)
+
+  pub is_found : {what : F.Found} {q : Place} → r ≡ Got what q → (f : F.Found) → what ≡ f → x ≡ got (found_in f) (bits_left s n q.bit) q
+  is_found {what} {q} e f h = sym w ∙ ap (as_found s n) e ∙ ap (λ (y : F.Found). got (found_in y) (bits_left s n q.bit) q) h
 
 -- ---- the loop
 pub record OpenedSoFar (start : ReadIn counted Opened) (s : List ℕ) (n : ℕ) (intra : Bool) (number address gquant : ℕ) (p : Place) : Type 0 where

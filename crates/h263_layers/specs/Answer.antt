@@ -1,5 +1,5 @@
 -- The code's answers as the grammar's. A layer writes the description as it reads: its answer is the place where it ended, or the refusal. Assumes nothing.
-use Rattle.std.specs.Prelude.{ℕ, ◌+◌, ◌*◌, ◌%◌, ◌<◌, List, eqb, ℤ}
+use Rattle.std.specs.Prelude.{Option, None, Some, ℕ, ◌+◌, ◌*◌, ◌%◌, ◌<◌, List, eqb, ℤ}
 use Rattle.std.proofs.lemmas.List.Edits.{sets}
 use Rattle.laws.specs.Choice.{pick}
 use Rattle.refusals.specs.declared.Reason.{Reason}
@@ -28,10 +28,9 @@ use Rattle.h263_layers.specs.declared.start.Ahead as C
 use Rattle.h263_layers.specs.declared.start.Ahead.TheVariants.{Stands, Absent, CutOff}
 use Rattle.h263_layers.specs.declared.Header as D
 use Rattle.fields.specs.declared.CountedRead.TheVariants.{Got, Refused}
-use Rattle.h263_layers.specs.declared.FoundRead.{FoundRead}
-use Rattle.h263_layers.specs.declared.FoundRead.TheVariants.{Stuffed, Unsent as UnsentFound, Coded as CodedFound, Refused as NoFound}
-use Rattle.h263_layers.specs.declared.OpenedRead.{OpenedRead}
-use Rattle.h263_layers.specs.declared.OpenedRead.TheVariants.{Unsent as UnsentOpened, Coded as CodedOpened, Refused as NoOpened}
+use Rattle.h263_layers.specs.declared.Found as F
+use Rattle.h263_layers.specs.declared.Found.TheVariants.{Stuffing, Macroblock as FoundMacroblock}
+use Rattle.h263_layers.specs.declared.Opened as O
 
 abbrev pub as_ahead : C.Ahead → Ahead
 as_ahead (Stands gstuf) = stands gstuf
@@ -57,19 +56,27 @@ abbrev pub as_vector : List ℕ → ℕ → CountedRead (ℕ × ℕ) → ReadIn 
 as_vector = as_meant_pair vector_of
 
 -- ---- macroblocks
-abbrev pub as_found : List ℕ → ℕ → FoundRead → ReadIn counted Found
-as_found s n (Stuffed p) = got stuffed (bits_left s n p.bit) p
-as_found s n (UnsentFound p) = got (slot unsent) (bits_left s n p.bit) p
-as_found s n (CodedFound kind p) = got (slot (coded kind)) (bits_left s n p.bit) p
-as_found s n (NoFound r) = refused r
+abbrev pub slot_in : Option ℕ → Slot
+slot_in None = unsent
+slot_in (Some kind) = coded kind
+
+abbrev pub found_in : F.Found → Found
+found_in Stuffing = stuffed
+found_in (FoundMacroblock mcbpc) = slot (slot_in mcbpc)
+
+abbrev pub as_found : List ℕ → ℕ → CountedRead F.Found → ReadIn counted Found
+as_found s n (Got f p) = got (found_in f) (bits_left s n p.bit) p
+as_found s n (Refused r) = refused r
 
 abbrev pub opened_of : ℕ → Slot → Opened
 opened_of gquant s = record { gquant = gquant; slot = s }
 
-abbrev pub as_opened : List ℕ → ℕ → OpenedRead → ReadIn counted Opened
-as_opened s n (UnsentOpened gquant p) = got (opened_of gquant unsent) (bits_left s n p.bit) p
-as_opened s n (CodedOpened gquant kind p) = got (opened_of gquant (coded kind)) (bits_left s n p.bit) p
-as_opened s n (NoOpened r) = refused r
+abbrev pub opened_in : O.Opened → Opened
+opened_in o = opened_of o.gquant (slot_in o.mcbpc)
+
+abbrev pub as_opened : List ℕ → ℕ → CountedRead O.Opened → ReadIn counted Opened
+as_opened s n (Got o p) = got (opened_in o) (bits_left s n p.bit) p
+as_opened s n (Refused r) = refused r
 
 -- the two buffers with a macroblock of a group laid out in them
 pub record Sent : Type 0 where

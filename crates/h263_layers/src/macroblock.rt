@@ -21,7 +21,7 @@ ghost use Rattle.h263_layers.specs.Grammar.{found_of, found_read, group_head, ma
 use crate::block::blocks;
 use crate::head::group_head;
 use crate::vector::vector;
-use crate::{FoundRead, OpenedRead};
+use crate::{Found, Opened};
 use bits::{Place, Stopped, field};
 use fields::{CountedRead, once};
 use h263_description::kind::{has_dquant, is_inter, is_intra};
@@ -31,19 +31,19 @@ use refusals::{Reason, Refusal, Table};
 use size::Size;
 
 // MCBPC. An INTER4V word is no word here.
-fn kind_found(tables: &WordTables, bytes: &[u8], count: usize, at: Place, intra: bool) -> FoundRead
+fn kind_found(tables: &WordTables, bytes: &[u8], count: usize, at: Place, intra: bool) -> CountedRead<Found>
     requires { Reading tables.now bytes.now count at }
     ensures { as_found bytes.now count result ≡ judged_read (word (mcbpc_of intra)) found_of (bits_left bytes.now count at.bit) at }
 {
     let read = once(at, h263_words::mcbpc(tables, bytes, count, at.bit, intra));
     let CountedRead::Got(kind, next) = read else {
-        return FoundRead::Refused(read.stopped());
+        return CountedRead::Refused(read.stopped());
     };
     if kind == 24 {
-        return FoundRead::Stuffed(next);
+        return CountedRead::Got(Found::Stuffing, next);
     }
     if kind / 4 == 5 {
-        return FoundRead::Refused(Stopped {
+        return CountedRead::Refused(Stopped {
             refusal: Refusal {
                 reason: Reason::NoCodeword(Table::McbpcInter),
                 place: at.bit,
@@ -51,11 +51,11 @@ fn kind_found(tables: &WordTables, bytes: &[u8], count: usize, at: Place, intra:
             reads: next.reads,
         });
     }
-    FoundRead::Coded(kind, next)
+    CountedRead::Got(Found::Macroblock(Some(kind)), next)
 }
 
 // COD in an INTER picture, and MCBPC.
-fn found(tables: &WordTables, bytes: &[u8], count: usize, at: Place, intra: bool) -> FoundRead
+fn found(tables: &WordTables, bytes: &[u8], count: usize, at: Place, intra: bool) -> CountedRead<Found>
     requires { Reading tables.now bytes.now count at }
     ensures { as_found bytes.now count result ≡ found_read intra (bits_left bytes.now count at.bit) at }
 {
@@ -64,10 +64,10 @@ fn found(tables: &WordTables, bytes: &[u8], count: usize, at: Place, intra: bool
     }
     let read = once(at, field(bytes, count, at.bit, 1));
     let CountedRead::Got(cod, next) = read else {
-        return FoundRead::Refused(read.stopped());
+        return CountedRead::Refused(read.stopped());
     };
     if cod == 1 {
-        return FoundRead::Unsent(next);
+        return CountedRead::Got(Found::Macroblock(None), next);
     }
     kind_found(tables, bytes, count, next, false)
 }
@@ -113,7 +113,7 @@ pub fn opened(
     number: usize,
     address: usize,
     gquant: u32,
-) -> OpenedRead
+) -> CountedRead<Opened>
     requires { (Reading tables.now bytes.now count at) × (number ≤ 31) }
     ensures { as_opened bytes.now count result ≡ opened_read intra number address gquant (bits_left bytes.now count at.bit) at }
 {
@@ -122,21 +122,23 @@ pub fn opened(
     loop {
         let head = headed(bytes, count, place, number, address, standing);
         let CountedRead::Got(quantiser, after) = head else {
-            return OpenedRead::Refused(head.stopped());
+            return CountedRead::Refused(head.stopped());
         };
         standing = quantiser;
-        match found(tables, bytes, count, after, intra) {
-            FoundRead::Stuffed(next) => {
+        let read = found(tables, bytes, count, after, intra);
+        let CountedRead::Got(what, next) = read else {
+            return CountedRead::Refused(read.stopped());
+        };
+        match what {
+            Found::Stuffing => {
                 place = next;
             }
-            FoundRead::Unsent(next) => {
-                return OpenedRead::Unsent(standing, next);
-            }
-            FoundRead::Coded(kind, next) => {
-                return OpenedRead::Coded(standing, kind, next);
-            }
-            FoundRead::Refused(stopped) => {
-                return OpenedRead::Refused(stopped);
+            Found::Macroblock(mcbpc) => {
+                let opened = Opened {
+                    gquant: standing,
+                    mcbpc,
+                };
+                return CountedRead::Got(opened, next);
             }
         }
     }

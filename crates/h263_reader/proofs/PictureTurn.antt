@@ -1,4 +1,5 @@
 -- The nested loops over groups and macroblocks: what holds at each turn, and each way out. Assumes nothing.
+use Rattle.std.specs.Prelude.{Option, None, Some}
 use Prim.Native.Nat.{ℕ, zero, suc, ◌+◌, ◌*◌, ◌≤◌, ◌<◌}
 use mathlib.Core.Path.{◌≡◌, refl, sym, ap, subst, ◌∙◌}
 use mathlib.Core.Bool.{Bool, true, false}
@@ -17,7 +18,7 @@ use Rattle.bits.specs.declared.Place.{Place}
 use Rattle.bits.specs.declared.Stopped.{Stopped}
 use Rattle.fields.specs.Answer.{map_read, leaving, stopped_of}
 use Rattle.fields.specs.declared.CountedRead.{CountedRead}
-use Rattle.fields.specs.declared.CountedRead.TheVariants.{Got}
+use Rattle.fields.specs.declared.CountedRead.TheVariants.{Got, Refused}
 use Rattle.fields.proofs.Meaning.{was_got, was_refused, onward}
 use Rattle.fields.proofs.Told.{within_next, no_place, is_place}
 use Rattle.size.specs.declared.Size.{Size}
@@ -34,11 +35,10 @@ use Rattle.h263_description.specs.Kept.{kept_vector, vectors_in, first_vectors, 
 use Rattle.h263_description.specs.Proper.{ProperGquant}
 use Rattle.h263_description.proofs.Groups.{groups_listed}
 use Rattle.h263_description.proofs.Parts.{intra_type}
-use Rattle.h263_layers.specs.Answer.{vector_kept, opened_of, as_opened, Sent, sent_in, put_sent}
+use Rattle.h263_layers.specs.Answer.{vector_kept, slot_in, opened_of, as_opened, Sent, sent_in, put_sent}
 use Rattle.h263_layers.specs.Ready.{MacroblockReady}
 use Rattle.h263_layers.specs.Grammar.{unsent, coded, macroblock, Opened, opened, groups_read}
-use Rattle.h263_layers.specs.declared.OpenedRead.{OpenedRead}
-use Rattle.h263_layers.specs.declared.OpenedRead.TheVariants.{Unsent, Coded, Refused as NoSlot}
+use Rattle.h263_layers.specs.declared.Opened as O
 use Rattle.h263_layers.proofs.Layers.{Typed, MacroblockGood, macroblock_reads, OpenedGood, opened_reads}
 use Rattle.h263_reader.specs.Described.{GroupsReady}
 use Rattle.h263_reader.proofs.Vectors.{LaidSoFar, laid_none, laid_unsent, vectors_unsent, laid_sent, vectors_sent, macroblock_room, predictor_asked, predicted_low, predicted_is}
@@ -107,23 +107,29 @@ module _ {start : ReadIn counted Flat} {s : List ℕ} {n : ℕ} {size : Size} {i
   following : number_in size number column + 1 ≡ number_in size number (column + 1)
   following = omega arith
 
-  module _ (r : OpenedRead) (w : as_opened s n r ≡ opened intra number (column + 1) gquant (bits_left s n p.bit) p) where
-    is_found : (x : OpenedRead) → r ≡ x → opened {P = counted} intra number (column + 1) gquant (bits_left s n p.bit) p ≡ as_opened s n x
-    is_found x e = sym w ∙ ap (as_opened s n) e
-
-    slot_led : (o : Opened) (q : Place) → opened {P = counted} intra number (column + 1) gquant (bits_left s n p.bit) p ≡ got o (bits_left s n q.bit) q → Placed s n q × OpenedGood intra number o
-    slot_led o q e =
-        let reads = opened_reads intra number (column + 1) gquant h.quantised in
-        (within_next s n p o q reads h.placed e, (onward s n p o q reads h.placed.within.inside e).good)
+  module _ (r : CountedRead O.Opened) (w : as_opened s n r ≡ opened intra number (column + 1) gquant (bits_left s n p.bit) p) where
+    is_opened : (x : CountedRead O.Opened) → r ≡ x → opened {P = counted} intra number (column + 1) gquant (bits_left s n p.bit) p ≡ as_opened s n x
+    is_opened x e = sym w ∙ ap (as_opened s n) e
 
     -- ---- refused there
-    pub row_unopened : (y : Stopped) → r ≡ NoSlot y → refused y ≡ start
-    row_unopened y e = sym (turn ∙ row_no_slot size intra number (column + 1) gquant (flat head ms ls) _ (bits_left s n p.bit) p some.0 y (is_found (NoSlot y) e))
+    pub row_unopened : {why : Stopped} → r ≡ Refused why → refused (stopped_of r) ≡ start
+    row_unopened {why} e =
+        ap (λ (x : CountedRead O.Opened). refused (stopped_of x)) e
+        ∙ sym (turn ∙ row_no_slot size intra number (column + 1) gquant (flat head ms ls) _ (bits_left s n p.bit) p some.0 why (is_opened (Refused why) e))
+
+    module _ (o : O.Opened) (z : Place) (e : r ≡ Got o z) where
+      slot_is : (m : Option ℕ) → o.mcbpc ≡ m → opened {P = counted} intra number (column + 1) gquant (bits_left s n p.bit) p ≡ got (opened_of o.gquant (slot_in m)) (bits_left s n z.bit) z
+      slot_is m k = is_opened (Got o z) e ∙ ap (λ (x : Option ℕ). got (opened_of o.gquant (slot_in x)) (bits_left s n z.bit) z) k
+
+      slot_led : (m : Option ℕ) → o.mcbpc ≡ m → Placed s n z × OpenedGood intra number (opened_of o.gquant (slot_in m))
+      slot_led m k =
+          let reads = opened_reads intra number (column + 1) gquant h.quantised in
+          (within_next s n p _ z reads h.placed (slot_is m k), (onward s n p _ z reads h.placed.within.inside (slot_is m k)).good)
 
     -- ---- an unsent macroblock
-    pub row_skipped : (q : ℕ) (z : Place) → r ≡ Unsent q z → InRow start s n size intra number head ms ls q (column + 1) z
-    row_skipped q z e =
-        let led = slot_led (opened_of q unsent) z (is_found (Unsent q z) e) in
+    pub row_skipped : (o : O.Opened) (z : Place) → r ≡ Got o z → o.mcbpc ≡ None → InRow start s n size intra number head ms ls o.gquant (column + 1) z
+    row_skipped o z e k =
+        let led = slot_led o z e None k in
         record {
           placed = led.0;
           left = some.0;
@@ -131,14 +137,20 @@ module _ {start : ReadIn counted Flat} {s : List ℕ} {n : ℕ} {size : Size} {i
           quantised = led.1.0;
           laid = laid_unsent h.laid following;
           same =
-              turn ∙ row_unsent size intra number (column + 1) gquant (flat head ms ls) _ (bits_left s n p.bit) p some.0 q (bits_left s n z.bit) z (is_found (Unsent q z) e)
-              ∙ ap (λ (vs : List Vector). row_on size intra number some.0 (column + 1 + 1) q (flat head ms ls) vs (bits_left s n z.bit) z) (vectors_unsent h.laid following);
+              turn ∙ row_unsent size intra number (column + 1) gquant (flat head ms ls) _ (bits_left s n p.bit) p some.0 o.gquant (bits_left s n z.bit) z (slot_is o z e None k)
+              ∙ ap (λ (vs : List Vector). row_on size intra number some.0 (column + 1 + 1) o.gquant (flat head ms ls) vs (bits_left s n z.bit) z) (vectors_unsent h.laid following);
         }
 
     -- ---- one that is sent; the code has its own number of macroblocks across
-    module _ (q kind : ℕ) (z : Place) (e : r ≡ Coded q kind z) (l : number < macroblocks_down size) {across : ℕ} (ae : across ≡ macroblocks_across size) where
+    module _ (o : O.Opened) (kind : ℕ) (z : Place) (e : r ≡ Got o z) (k : o.mcbpc ≡ Some kind) (l : number < macroblocks_down size) {across : ℕ} (ae : across ≡ macroblocks_across size) where
+      abbrev q : ℕ
+      q = o.gquant
+
+      is_sent : opened {P = counted} intra number (column + 1) gquant (bits_left s n p.bit) p ≡ got (opened_of q (coded kind)) (bits_left s n z.bit) z
+      is_sent = slot_is o z e (Some kind) k
+
       led : Placed s n z × OpenedGood intra number (opened_of q (coded kind))
-      led = slot_led (opened_of q (coded kind)) z (is_found (Coded q kind z) e)
+      led = slot_led o z e (Some kind) k
 
       pub slot_placed : Placed s n z
       slot_placed = led.0
@@ -180,7 +192,7 @@ module _ {start : ReadIn counted Flat} {s : List ℕ} {n : ℕ} {size : Size} {i
           row_unsaid y =
               let no = was_refused (put_sent (macroblocks_across size) number ms ls) (macroblock size number (column + 1) aim kind (bits_left s n z.bit) z) (stopped_of t)
               (no_place s n (sent_in ms' ls') t y read_is) in
-              sym (turn ∙ row_no_macroblock size intra number (column + 1) gquant (flat head ms ls) vectors (bits_left s n p.bit) p some.0 q kind (bits_left s n z.bit) z (is_found (Coded q kind z) e) (stopped_of t) no)
+              sym (turn ∙ row_no_macroblock size intra number (column + 1) gquant (flat head ms ls) vectors (bits_left s n p.bit) p some.0 q kind (bits_left s n z.bit) z is_sent (stopped_of t) no)
 
           module _ (y : Place) (d : t ≡ Got tt y) where
             was : (m : Macroblock) × (macroblock {P = counted} size number (column + 1) aim kind (bits_left s n z.bit) z ≡ got m (bits_left s n y.bit) y) × (put_sent (macroblocks_across size) number ms ls m ≡ sent_in ms' ls')
@@ -210,7 +222,7 @@ module _ {start : ReadIn counted Flat} {s : List ℕ} {n : ℕ} {size : Size} {i
               quantised = led.1.0;
               laid = subst (λ (x : List ℕ). LaidSoFar size x ls' (number_in size number (column + 1))) (sym stored) (laid_sent h.laid room good.1 following ll);
               same =
-                  turn ∙ row_sent size intra number (column + 1) gquant (flat head ms ls) vectors (bits_left s n p.bit) p some.0 q kind (bits_left s n z.bit) z (is_found (Coded q kind z) e) m (bits_left s n y.bit) y was.1
+                  turn ∙ row_sent size intra number (column + 1) gquant (flat head ms ls) vectors (bits_left s n p.bit) p some.0 q kind (bits_left s n z.bit) z is_sent m (bits_left s n y.bit) y was.1
                   ∙ (λ i. row_on size intra number some.0 (column + 1 + 1) q (flat head (was.2 i).macroblocks (was.2 i).levels) (vectors_sent h.laid room good.1 following i) (bits_left s n y.bit) y)
                   ∙ ap (λ (x : List ℕ). row_on size intra number some.0 (column + 1 + 1) q (flat head ms' ls') (first_vectors x (number_in size number (column + 1))) (bits_left s n y.bit) y) (sym stored);
             }
@@ -291,47 +303,13 @@ module _ {start : ReadIn counted Flat} {s : List ℕ} {n : ℕ} {size : Size} {i
       let past : drop number (group_numbers size) ≡ [] = drop_of_length-le (group_numbers size) all in
       sym (h.same ∙ groups_none size intra number (flat head ms ls) (first_vectors ms (number * macroblocks_across size)) (bits_left s n p.bit) p past)
 
--- ---- where the ways out meet: a refusal with groups left, or all groups
-pub record Left (start : ReadIn counted Flat) (s : List ℕ) (n : ℕ) (size : Size) (number : ℕ) (head₀ ms₀ ls₀ head ms ls : List ℕ) (p : Place) (r : Stopped) : Type 0 where
-  pub head_long : length head ≡ length head₀
-  pub ms_long : length ms ≡ length ms₀
-  pub ls_long : length ls ≡ length ls₀
-  pub no : number < macroblocks_down size → refused r ≡ start
-  pub yes : macroblocks_down size ≤ number → got (flat head ms ls) (bits_left s n p.bit) p ≡ start
+  -- ---- the ways out: from inside a group with the refusal that was kept, or after the last one, with what the buffers hold
+  pub out_refused : number < macroblocks_down size → {o : Option Stopped} {x y z : Stopped} → o ≡ Some x → o ≡ Some y → y ≡ z → refused z ≡ row_laid size intra s n number p (flat head ms ls) → refused x ≡ start
+  out_refused l {x = x} {z = z} e f g r = let same : x ≡ z = cc in ap refused same ∙ r ∙ sym (row_start l)
 
--- the same, of equal buffers, place and refusal
-pub left_as : {start : ReadIn counted Flat} {s : List ℕ} {n : ℕ} {size : Size} {number : ℕ} {head₀ ms₀ ls₀ head ms ls head' ms' ls' : List ℕ} {p p' : Place} {r r' : Stopped} → Left start s n size number head₀ ms₀ ls₀ head ms ls p r
-    → head' ≡ head → ms' ≡ ms → ls' ≡ ls → p' ≡ p → r' ≡ r → Left start s n size number head₀ ms₀ ls₀ head' ms' ls' p' r'
-left_as {s = s} {n} h a b c d e = record {
-  head_long = ap length a ∙ h.head_long;
-  ms_long = ap length b ∙ h.ms_long;
-  ls_long = ap length c ∙ h.ls_long;
-  no = λ l. ap (λ (x : Stopped). refused x) e ∙ h.no l;
-  yes = λ l. (λ i. got (flat (a i) (b i) (c i)) (bits_left s n (d i).bit) (d i)) ∙ h.yes l;
-}
+  pub out_done : macroblocks_down size ≤ number → {head' ms' ls' : List ℕ} {p' : Place} → head' ≡ head → ms' ≡ ms → ls' ≡ ls → p' ≡ p → got (flat head' ms' ls') (bits_left s n p'.bit) p' ≡ start
+  out_done l a b c d = (λ i. got (flat (a i) (b i) (c i)) (bits_left s n (d i).bit) (d i)) ∙ picture_done l
 
-module _ {start : ReadIn counted Flat} {tables s : List ℕ} {n : ℕ} {at : Place} {size : Size} {intra : Bool} {head₀ ms₀ ls₀ head ms ls : List ℕ} {number : ℕ} {p : Place}
-    (a : GroupsReady tables s n at size head₀ ms₀ ls₀) (h : PictureSoFar start s n size intra head ms ls number p) where
-  ready_long : length ms₀ ≡ macroblocks_length size
-  ready_long = ap length a.ms_blank ∙ length-replicate (macroblocks_length size) 0
-
-  -- inside a group
-  pub out_refused : (ms' ls' : List ℕ) (z : Place) (r : Stopped) → number < macroblocks_down size → length ms' ≡ macroblocks_length size → length ls' ≡ levels_length size
-      → refused r ≡ row_laid size intra s n number p (flat head ms ls) → Left start s n size number head₀ ms₀ ls₀ head ms' ls' z r
-  out_refused ms' ls' z r l b c e = record {
-    head_long = h.head_long ∙ sym a.head_long;
-    ms_long = b ∙ sym ready_long;
-    ls_long = c ∙ sym a.ls_long;
-    no = λ m. e ∙ sym (row_start h l);
-    yes = λ m. absurd (omega arith);
-  }
-
-  -- after the last group
-  pub out_done : (r : Stopped) → macroblocks_down size ≤ number → Left start s n size number head₀ ms₀ ls₀ head ms ls p r
-  out_done r l = record {
-    head_long = h.head_long ∙ sym a.head_long;
-    ms_long = h.laid.ms_long ∙ sym ready_long;
-    ls_long = h.laid.ls_long ∙ sym a.ls_long;
-    no = λ m. absurd (omega arith);
-    yes = λ m. picture_done h l;
-  }
+-- a refusal is kept only by a break
+pub not_kept : {o : Option Stopped} {x : Stopped} → o ≡ None → o ≡ Some x → ⊥
+not_kept e f = cc

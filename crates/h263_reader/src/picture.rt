@@ -11,7 +11,6 @@ ghost use Rattle.h263_reader.specs.Described.{GroupsReady};
 use bits::Place;
 use fields::CountedRead;
 use h263_description::predicted::predictor;
-use h263_layers::OpenedRead;
 use h263_layers::macroblock::{macroblock, opened};
 use h263_words::WordTables;
 use size::Size;
@@ -48,7 +47,7 @@ pub fn groups(
     'picture: for number in 0..down {
         let mut gquant: u32 = 0;
         for column in 0..across {
-            let found = opened(
+            let read = opened(
                 tables,
                 bytes,
                 count,
@@ -58,39 +57,36 @@ pub fn groups(
                 column + 1,
                 gquant,
             );
-            match found {
-                OpenedRead::Unsent(standing, next) => {
-                    gquant = standing;
-                    place = next;
-                }
-                OpenedRead::Coded(standing, kind, next) => {
-                    let n = number * across + column;
-                    let predicted = predictor(macroblocks, n, column, across, headed(standing));
-                    let read = macroblock(
-                        tables,
-                        bytes,
-                        count,
-                        next,
-                        size,
-                        number,
-                        column + 1,
-                        predicted,
-                        kind,
-                        macroblocks,
-                        levels,
-                    );
-                    let CountedRead::Got((), end) = read else {
-                        stopped = Some(read.stopped());
-                        break 'picture;
-                    };
-                    gquant = standing;
-                    place = end;
-                }
-                OpenedRead::Refused(first) => {
-                    stopped = Some(first);
-                    break 'picture;
-                }
-            }
+            let CountedRead::Got(found, next) = read else {
+                stopped = Some(read.stopped());
+                break 'picture;
+            };
+            let Some(mcbpc) = found.mcbpc else {
+                gquant = found.gquant;
+                place = next;
+                continue;
+            };
+            let n = number * across + column;
+            let predicted = predictor(macroblocks, n, column, across, headed(found.gquant));
+            let sent = macroblock(
+                tables,
+                bytes,
+                count,
+                next,
+                size,
+                number,
+                column + 1,
+                predicted,
+                mcbpc,
+                macroblocks,
+                levels,
+            );
+            let CountedRead::Got((), end) = sent else {
+                stopped = Some(sent.stopped());
+                break 'picture;
+            };
+            gquant = found.gquant;
+            place = end;
         }
         head[5 + number] = gquant as u8;
     }

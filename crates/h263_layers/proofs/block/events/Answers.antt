@@ -18,7 +18,7 @@ overflow_add-reads c = let l = c.loop-last.invariant.1.placed.countable in omega
 
 pub returns-in_default : goal.returns-in_default
 returns-in_default c =
-    ap refused c.event_stopped.ensures ∙ events-refused c.loop-last.invariant.1 c.event-read.result c.in_default.in_default-own.keys2 c.event-read.ensures
+    ap refused c.event_stopped.ensures ∙ events-refused c.loop-last.invariant.1 c.event-read.result c.in_default.is c.event-read.ensures
 
 pub returns-then-end-to : goal.returns-then-end-to
 returns-then-end-to c =
