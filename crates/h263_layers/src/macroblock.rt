@@ -31,7 +31,13 @@ use refusals::{Reason, Refusal, Table};
 use size::Size;
 
 // MCBPC. An INTER4V word is no word here.
-fn kind_found(tables: &WordTables, bytes: &[u8], count: usize, at: Place, intra: bool) -> CountedRead<Found>
+fn kind_found(
+    tables: &WordTables,
+    bytes: &[u8],
+    count: usize,
+    at: Place,
+    intra: bool,
+) -> CountedRead<Found>
     requires { Reading tables.now bytes.now count at }
     ensures { as_found bytes.now count result ≡ judged_read (word (mcbpc_of intra)) found_of (bits_left bytes.now count at.bit) at }
 {
@@ -55,7 +61,13 @@ fn kind_found(tables: &WordTables, bytes: &[u8], count: usize, at: Place, intra:
 }
 
 // COD in an INTER picture, and MCBPC.
-fn found(tables: &WordTables, bytes: &[u8], count: usize, at: Place, intra: bool) -> CountedRead<Found>
+fn found(
+    tables: &WordTables,
+    bytes: &[u8],
+    count: usize,
+    at: Place,
+    intra: bool,
+) -> CountedRead<Found>
     requires { Reading tables.now bytes.now count at }
     ensures { as_found bytes.now count result ≡ found_read intra (bits_left bytes.now count at.bit) at }
 {

@@ -132,7 +132,7 @@ module _ (size : Size) (s : List ℕ) (n : ℕ) (a : Bool) (w : a ≡ either (lt
         let z : either (ltb (8 * length s) n) (ltb (limit size) n) ≡ false = sym w ∙ e in
         rw (z, source_left s n bounds.0)
 
-    module _ (h : CountedRead Header) (v : as_header s n h ≡ header size (bits_left s n 0) (place_of 0 0)) where
+    module _ (h : CountedRead D.Header) (v : as_header s n h ≡ header size (bits_left s n 0) (place_of 0 0)) where
       pub described_no_header : (r : Stopped) → h ≡ Refused r → described_counted size s n ≡ refused r
       unfolding picture
       described_no_header r d =
