@@ -4,7 +4,7 @@ import os
 import re
 from collections import namedtuple
 
-# a function's line, name, whether it is public, its parameters and result, and its clauses: (word, text)
+# a function's line, name (a method's with its type's before it, as `Place::next`), whether it is public, its parameters and result, and its clauses: (word, text)
 Function = namedtuple('Function', 'line name public signature clauses')
 # an item of an .antt file: 'definition', 'law', 'fixity' or 'other'; whether it is public; the names that it brings; its line; the parameters of the section around it; its type;
 # its whole text
@@ -80,6 +80,7 @@ def plain(text):
 
 def functions(text):
     text = plain(text)
+    impls = [(found.start(), found.end(), found[1]) for found in re.finditer(r'^impl(?:<[^\n{]*?>)? (?:[^\n{]+ for )?(\w+)[^\n]*\n(?:.*\n)*?\}$', text, re.M)]
     for found in re.finditer(r'^[ \t]*(?:#\[(?:unsafe\()?no_mangle\)?\]\s*)?(pub\s+)?(?:extern\s+"C"\s+)?fn\s+(\w+)', text, re.M):
         end = re.compile(r'\s*(?:\b(?:requires|ensures)\b|\{)').search(text, found.end())
         at = end.start() if end else len(text)
@@ -87,7 +88,8 @@ def functions(text):
         while clause := re.compile(r'\s*(requires|ensures)\b[^{]*').match(text, at):
             at = closed(text, clause.end())
             clauses.append((clause[1], text[clause.end():at]))
-        yield Function(text.count('\n', 0, found.start(2)) + 1, found[2], bool(found[1]), signature, clauses)
+        of = next((name + '::' for start, end, name in impls if start < found.start() < end), '')
+        yield Function(text.count('\n', 0, found.start(2)) + 1, of + found[2], bool(found[1]), signature, clauses)
 
 
 def closed(text, at):

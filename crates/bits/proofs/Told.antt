@@ -5,12 +5,12 @@ use Prim.Native.Nat.{ℕ}
 use Rattle.refusals.specs.declared.Refusal.{Refusal}
 use Rattle.bits.specs.Bits.{bits_left}
 use Rattle.bits.specs.Read.{Read, got, refused}
-use Rattle.bits.specs.Answer.{as_field, field_refusal}
+use Rattle.bits.specs.Answer.{as_field, refusal_of}
 use Rattle.bits.specs.declared.FieldRead.{FieldRead}
 use Rattle.bits.specs.declared.FieldRead.TheVariants.{Got as GotField, Refused as NoField}
 
 module _ {x : Read ℕ} (s : List ℕ) (n : ℕ) where
-  pub no_field : {why : Refusal} (r : FieldRead ℕ) → r ≡ NoField why → as_field s n r ≡ x → x ≡ refused (field_refusal r)
+  pub no_field : {why : Refusal} (r : FieldRead ℕ) → r ≡ NoField why → as_field s n r ≡ x → x ≡ refused (refusal_of r)
   no_field (GotField v p) e w = cc
   no_field (NoField r) e w = sym w
 

@@ -25,6 +25,6 @@ as_field s n (Got v p) = got v (bits_left s n p) p
 as_field s n (Refused r) = refused r
 
 -- the refusal of a read that was refused; of another it is never asked
-abbrev pub field_refusal : FieldRead ℕ → Refusal
-field_refusal (Got v p) = refusal BitsEnd p
-field_refusal (Refused r) = r
+abbrev pub refusal_of : {T : Type 0} → FieldRead T → Refusal
+refusal_of (Got v p) = refusal BitsEnd p
+refusal_of (Refused r) = r

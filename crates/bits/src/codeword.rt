@@ -5,7 +5,7 @@ ghost use Rattle.bits.specs.Appended.{FieldFits, WroteBits, CountablePlace};
 ghost use Rattle.bits.specs.Codewords.{codeword_in};
 
 // A codeword to be written: its number in `width` bits.
-#[derive(Clone, Copy)]
+#[derive(Clone, Copy, PartialEq, Eq, Debug)]
 pub struct Codeword {
     pub width: usize,
     pub bits: u32,

@@ -4,7 +4,7 @@
 ghost use Rattle.std.specs.Prelude.{◌≡◌, ◌+◌, ◌*◌, ◌≤◌, ◌<◌, length, get_or};
 ghost use Rattle.bits.specs.Bits.{bits_of, value, bits_left};
 ghost use Rattle.bits.specs.Read.{field as field_read};
-ghost use Rattle.bits.specs.Answer.{Within, as_field, field_refusal};
+ghost use Rattle.bits.specs.Answer.{Within, as_field, refusal_of};
 ghost use Rattle.bits.specs.Tree.{walk_of};
 ghost use Rattle.bits.specs.Entries.{EntryAsked, entry_read, without_entry};
 ghost use Rattle.bits.specs.Write.{bytes_with};
@@ -16,36 +16,40 @@ pub mod codeword;
 pub mod settled;
 
 // A place that counts: the number of a bit, and how many fields and codewords were read before it.
-#[derive(Clone, Copy)]
+#[derive(Clone, Copy, PartialEq, Eq, Debug)]
 pub struct Place {
     pub bit: usize,
     pub reads: usize,
 }
 
 // A refusal, and how many fields and codewords were read up to it, the failed one with them.
-#[derive(Clone, Copy)]
+#[derive(Clone, Copy, PartialEq, Eq, Debug)]
 pub struct Stopped {
     pub refusal: Refusal,
     pub reads: usize,
 }
 
 // "each read gives either a meaning with the next place or a refusal": a field's number, or what a codeword means.
-#[derive(Clone, Copy)]
+#[derive(Clone, Copy, PartialEq, Eq, Debug)]
 pub enum FieldRead<T> {
     Got(T, usize),
     Refused(Refusal),
 }
 
-// The refusal of a field that was refused.
-pub fn field_refusal(read: FieldRead<u32>) -> Refusal
-    ensures { result ≡ field_refusal read }
-{
-    match read {
-        FieldRead::Got(_, at) => Refusal {
-            reason: Reason::BitsEnd,
-            place: at,
-        },
-        FieldRead::Refused(refusal) => refusal,
+impl<T> FieldRead<T> {
+    // The refusal of a read that was refused.
+    pub fn refusal(self) -> Refusal
+    where
+        T: Copy,
+        ensures { result ≡ refusal_of self }
+    {
+        match self {
+            FieldRead::Got(_, at) => Refusal {
+                reason: Reason::BitsEnd,
+                place: at,
+            },
+            FieldRead::Refused(refusal) => refusal,
+        }
     }
 }
 

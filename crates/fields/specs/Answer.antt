@@ -6,7 +6,7 @@ use Rattle.refusals.specs.Told.{numbers_of, Told, accepted, refused_by, refused 
 use Rattle.bits.specs.Bits.{bits_left}
 use Rattle.bits.specs.Places.{Places, counted, past_in, stop_in}
 use Rattle.bits.specs.Read.{ReadIn, Read, got, refused, endless}
-use Rattle.bits.specs.Answer.{field_refusal}
+use Rattle.bits.specs.Answer.{refusal_of}
 use Rattle.bits.specs.declared.Place.{Place}
 use Rattle.bits.specs.declared.Stopped.{Stopped}
 use Rattle.bits.specs.declared.FieldRead.{FieldRead}
@@ -65,7 +65,7 @@ abbrev pub bits_end_at : Place → Stopped
 bits_end_at p = stop_in counted (refusal BitsEnd p.bit) p
 
 abbrev pub field_stopped : ℕ → FieldRead ℕ → Stopped
-field_stopped reads read = record { refusal = field_refusal read; reads = reads }
+field_stopped reads read = record { refusal = refusal_of read; reads = reads }
 
 abbrev pub stopped_of : {T : Type 0} → CountedRead T → Stopped
 stopped_of (Got v p) = bits_end_at p

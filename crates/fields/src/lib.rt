@@ -11,12 +11,12 @@ ghost use Rattle.fields.specs.Answer.{read_once, as_number, leaving, field_stopp
 ghost use Rattle.fields.specs.Rules.{expect as expected, quantiser as quantiser_read, spares as spares_read};
 
 use bit_reader::BitReader;
-use bits::{FieldRead, Place, Stopped, field, field_refusal};
+use bits::{FieldRead, Place, Stopped, field};
 use refusals::{Reason, Refusal};
 
 // "each read gives either a meaning with the next place or a refusal", both with the number of reads up to there: a number, a pair of them, where a layer
 // ended.
-#[derive(Clone, Copy)]
+#[derive(Clone, Copy, PartialEq, Eq, Debug)]
 pub enum CountedRead<T> {
     Got(T, Place),
     Refused(Stopped),
@@ -46,12 +46,12 @@ impl<T> CountedRead<T> {
 pub fn field_stopped(reads: usize, read: FieldRead<u32>) -> Stopped
     ensures { result ≡ field_stopped reads read }
 {
-    let refusal = field_refusal(read);
+    let refusal = read.refusal();
     Stopped { refusal, reads }
 }
 
 // What reading a picture comes to: the verdict, and how many fields and codewords were read, up to a refusal if it was refused.
-#[derive(Clone, Copy)]
+#[derive(Clone, Copy, PartialEq, Eq, Debug)]
 pub struct PictureRead {
     pub verdict: Result<(), Refusal>,
     pub reads: usize,

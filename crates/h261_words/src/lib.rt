@@ -67,7 +67,7 @@ pub fn tables() -> WordTables
 }
 
 // A codeword of Table 5, with its sign or an escape's fields: a run of zeros and a level in eight bits, or EOB.
-#[derive(Clone, Copy)]
+#[derive(Clone, Copy, PartialEq, Eq, Debug)]
 pub enum CoefficientRead {
     Coefficient(u8, u8, usize),
     EndOfBlock(usize),

@@ -52,7 +52,7 @@ pub fn tables() -> WordTables
 }
 
 // A codeword of TCOEF, with its sign or an escape's fields: LAST, RUN and a level in eight bits, and the next place.
-#[derive(Clone, Copy)]
+#[derive(Clone, Copy, PartialEq, Eq, Debug)]
 pub enum EventRead {
     Event(u8, u8, u8, usize),
     Refused(Refusal),

@@ -5,7 +5,7 @@ ghost use Rattle.std.specs.Prelude.{◌≡◌, Err};
 ghost use Rattle.refusals.specs.Number.{number, table_number, read_table, refusal};
 
 // The table of codewords that was being read: H.261's Tables 1 to 5, then H.263's.
-#[derive(Clone, Copy)]
+#[derive(Clone, Copy, PartialEq, Eq, Debug)]
 pub enum Table {
     Mba,
     Mtype,
@@ -19,7 +19,7 @@ pub enum Table {
     Tcoef263,
 }
 
-#[derive(Clone, Copy)]
+#[derive(Clone, Copy, PartialEq, Eq, Debug)]
 pub enum Reason {
     Length,
     Count,
@@ -47,7 +47,7 @@ pub enum Reason {
     NoLock,
 }
 
-#[derive(Clone, Copy)]
+#[derive(Clone, Copy, PartialEq, Eq, Debug)]
 pub struct Refusal {
     pub reason: Reason,
     pub place: usize,

@@ -6,7 +6,7 @@ ghost use Rattle.size.specs.Size.{width, height, limit, store_length, output_len
 
 pub mod place;
 
-#[derive(Clone, Copy)]
+#[derive(Clone, Copy, PartialEq, Eq, Debug)]
 pub enum Size {
     SubQcif,
     Qcif,
