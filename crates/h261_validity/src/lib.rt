@@ -41,14 +41,7 @@ fn all_quantisers(head: &[u8]) -> bool
     requires { 3 ≤ length head.now }
     ensures { result ≡ all is_quantiser (drop 3 head.now) }
 {
-    let mut i: usize = 3;
-    while i < head.len() {
-        if !levels::is_quantiser(head[i]) {
-            return false;
-        }
-        i += 1;
-    }
-    true
+    head[3..].iter().all(|byte| levels::is_quantiser(*byte))
 }
 
 fn valid_head(head: &[u8], format: Format) -> bool
@@ -72,8 +65,7 @@ fn valid_group(format: Format, number: usize, fields: &[u8], levels: &[u8]) -> b
     requires { GroupReady number fields.now levels.now }
     ensures { result ≡ valid_macroblocks 33 format number 1 fields.now levels.now }
 {
-    let mut k: usize = 0;
-    while k < 33 {
+    for k in 0..33 {
         let a = k * 4;
         let b = k * 384;
         if !macroblock::valid_macroblock(
@@ -85,7 +77,6 @@ fn valid_group(format: Format, number: usize, fields: &[u8], levels: &[u8]) -> b
         ) {
             return false;
         }
-        k += 1;
     }
     true
 }
@@ -95,15 +86,13 @@ fn valid_groups(format: Format, fields: &[u8], levels: &[u8]) -> bool
     ensures { result ≡ valid_groups format (group_numbers format) fields.now levels.now }
 {
     let count = h261_groups::order::group_count(format);
-    let mut g: usize = 0;
-    while g < count {
+    for g in 0..count {
         let number = h261_groups::order::group_number(format, g);
         let a = g * 132;
         let b = g * 12672;
         if !valid_group(format, number, &fields[a..], &levels[b..]) {
             return false;
         }
-        g += 1;
     }
     true
 }

@@ -12,12 +12,10 @@ pub fn is_refresh(format: Format, macroblocks: &[u8]) -> bool
     ensures { result ≡ refresh format (flat [] macroblocks.now []) }
 {
     let count = h261_groups::order::macroblock_count(format);
-    let mut n: usize = 0;
-    while n < count {
+    for n in 0..count {
         if !h261_words::kind::is_intra(macroblocks[n * 4] as u16) {
             return false;
         }
-        n += 1;
     }
     true
 }

@@ -9,7 +9,8 @@ use borrow.Author.Tests.{eq-eqb}
 use lib.Dec.{T, lit≤}
 use lib.ListN.{length, get_or, take, drop, length-drop}
 use lib.Seq.{drop-length, drop-drop}
-use Rattle.laws.specs.Choice.{either, opposite}
+use Rattle.std.proofs.lemmas.List.{get_or-take, get_or-drop}
+use Rattle.laws.specs.Choice.{pick, either, opposite}
 use Rattle.laws.proofs.Choice.{true-false, opposite_no}
 use Rattle.laws.proofs.Lists.{drop_on}
 use Rattle.bits.specs.Bits.{Bit, bits_of}
@@ -24,6 +25,8 @@ use Rattle.layout.specs.Numbers.{all, is_zero, is_level}
 use Rattle.layout.specs.Sendable.{Sendable}
 use Rattle.layout.specs.Flat.{gather, gathers}
 use Rattle.layout.proofs.Levels.{all_take, all_drop, all_join}
+use Rattle.levels.specs.Zeros.{zeros_from}
+use Rattle.levels.proofs.Zeros.{zeros_within}
 use Rattle.layout.proofs.Gathered.{piece, sendable, gather-zero, gather_code, gather-zeros, block_begins, present_some, present_low}
 use Rattle.layout.specs.Pattern.{presence_of, pattern_of}
 use Rattle.h261_writer.specs.Write.{coefficients_of, block_of, blocks_of}
@@ -56,21 +59,48 @@ pub coded_begin : (levels : List ℕ) (s : List ℕ) (at : ℕ) (opening : Bool)
     → CodedSoFar (coded_bits opening (gather 0 (drop from levels))) levels s at s opening 0 from at
 coded_begin levels s at opening from l = record { inside = omega arith; low = omega arith; bits = []; wrote = wrote_none s at; same = refl }
 
+-- from `end` on they are zeros
+pub record ZerosFrom (levels : List ℕ) (end : ℕ) : Type 0 where
+  pub low : 1 ≤ end
+  pub high : end ≤ 64
+  pub zeros : T (all is_zero (drop end levels))
+
+pub zeros_known : {levels : List ℕ} {end : ℕ} → length levels ≡ 64 → end ≡ zeros_from levels → ZerosFrom levels end
+zeros_known {levels = levels} {end = end} long e =
+    let within = zeros_within levels long e in
+    record { low = some (all is_zero (take 32 (drop 32 levels))) (all is_zero (take 16 (drop 16 levels))) e; high = within.0; zeros = within.1 }
+  where
+    some : (a b : Bool) → end ≡ pick a (pick b 16 32) 64 → 1 ≤ end
+    some true true e = omega arith
+    some true false e = omega arith
+    some false b e = omega arith
+
+-- the level at k
+pub record LevelAt (levels : List ℕ) (k code : ℕ) : Type 0 where
+  pub inside : k < 64
+  pub is : code ≡ get_or levels k 0
+
+pub level_at : (levels : List ℕ) (from end i : ℕ) → end ≤ 64 → i < end - from → LevelAt levels (from + i) (get_or (take (end - from) (drop from levels)) i 0)
+level_at levels from end i h l = record { inside = omega arith; is = get_or-take (end - from) (drop from levels) i 0 l ∙ get_or-drop from levels i 0 }
+
 module _ {whole : List Bit} {levels : List ℕ} {s : List ℕ} {at : ℕ} {t : List ℕ} {first : Bool} {run k place : ℕ} (h : CodedSoFar whole levels s at t first run k place)
     (size : length levels ≡ 64)
   where
-    pub coded_zero : k < 64 → get_or levels k 0 ≡ 0 → CodedSoFar whole levels s at t first (run + 1) (k + 1) place
+    pub coded_zero : {code : ℕ} → LevelAt levels k code → code ≡ 0 → CodedSoFar whole levels s at t first (run + 1) (k + 1) place
     coded_zero l z = record {
-      inside = omega arith;
+      inside = omega (arith, l.inside);
       low = omega (arith, h.low);
       bits = h.bits;
       wrote = h.wrote;
-      same = h.same ∙ ap (λ (b : Block). h.bits ++ coded_bits first b) (ap (gather run) (drop_on levels k (omega arith)) ∙ gather-zero run (get_or levels k 0) (drop (k + 1) levels) z);
+      same =
+          h.same
+          ∙ ap (λ (b : Block). h.bits ++ coded_bits first b)
+          (ap (gather run) (drop_on levels k (omega (arith, l.inside))) ∙ gather-zero run (get_or levels k 0) (drop (k + 1) levels) (sym l.is ∙ z));
     }
 
-    module _ (l : k < 64) (n : get_or levels k 0 ≡ 0 → ⊥) where
+    module _ {code : ℕ} (l : LevelAt levels k code) (n : code ≡ 0 → ⊥) where
       abbrev coded_word : List Bit
-      coded_word = tcoeff_of (table_of first) (coefficient run (get_or levels k 0))
+      coded_word = tcoeff_of (table_of first) (coefficient run code)
 
       abbrev coded_rest : List Bit
       coded_rest = coded_bits false (gather 0 (drop (k + 1) levels))
@@ -78,18 +108,21 @@ module _ {whole : List Bit} {levels : List ℕ} {s : List ℕ} {at : ℕ} {t : L
       coded_on : whole ≡ h.bits ++ (coded_word ++ coded_rest)
       coded_on =
           h.same
-          ∙ ap (λ (b : Block). h.bits ++ coded_bits first b) (ap (gather run) (drop_on levels k (omega arith)) ∙ gather_code run (get_or levels k 0) (drop (k + 1) levels) n)
+          ∙ ap (λ (b : Block). h.bits ++ coded_bits first b)
+          (ap (gather run) (drop_on levels k (omega (arith, l.inside))) ∙ gather_code run (get_or levels k 0) (drop (k + 1) levels) (λ z. n (l.is ∙ z)))
           ∙ ap (λ (x : List Bit). h.bits ++ x) (coded_cons first (coefficient run (get_or levels k 0)) (gather 0 (drop (k + 1) levels)))
+          ∙ ap (λ (x : ℕ). h.bits ++ (tcoeff_of (table_of first) (coefficient run x) ++ coded_rest)) (sym l.is)
 
-      pub coded_sendable : T (all is_level levels) → Sendable (coefficient run (get_or levels k 0))
-      coded_sendable t = sendable levels k run t (omega arith) n (omega (arith, h.low))
+      pub coded_sendable : T (all is_level levels) → Sendable (coefficient run code)
+      coded_sendable t =
+          rw l.is (sendable levels k run t (omega (arith, l.inside)) (λ z. n (l.is ∙ z)) (omega (arith, h.low)))
 
       pub coded_counts : CountablePlace at whole → CountablePlace place coded_word
       coded_counts c = next_countable h.wrote coded_word coded_rest coded_on c
 
       pub coded_more : {u : List ℕ} {q : ℕ} → WroteBits coded_word t place u q → CodedSoFar whole levels s at u false 0 (k + 1) q
       coded_more g = record {
-        inside = omega arith;
+        inside = omega (arith, l.inside);
         low = omega arith;
         bits = h.bits ++ coded_word;
         wrote = wrote_then h.wrote g;

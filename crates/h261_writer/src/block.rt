@@ -24,11 +24,9 @@ fn coefficients(
     let end = levels::zeros_from(levels);
     let mut first = opening;
     let mut run: usize = 0;
-    let mut k = from;
     let mut place = at;
-    while k < end {
-        let code = levels[k];
-        k += 1;
+    for code in &levels[from..end] {
+        let code = *code;
         if code == 0 {
             run += 1;
             continue;
@@ -62,11 +60,9 @@ pub fn blocks(tables: &WordTables, levels: &[u8], intra: bool, out: &mut [u8], a
     ensures { WroteBits (blocks_of intra (gathers 6 levels.now)) out.old at out.new result }
 {
     let mut place = at;
-    let mut b: usize = 0;
-    while b < 6 {
+    for b in 0..6 {
         let a = b * 64;
         place = block(tables, &levels[a..a + 64], intra, out, place);
-        b += 1;
     }
     place
 }

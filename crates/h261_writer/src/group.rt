@@ -24,14 +24,13 @@ fn macroblocks(
     let mut horizontal: u8 = 0;
     let mut vertical: u8 = 0;
     let mut place = at;
-    let mut k: usize = 0;
-    while k < 33 {
+    for k in 0..33 {
         let a = k * 4;
         let b = k * 384;
-        k += 1;
         if fields[a] == 0 {
             continue;
         }
+        let address = k + 1;
         place = macroblock::macroblock(
             tables,
             &fields[a..a + 4],
@@ -39,11 +38,11 @@ fn macroblocks(
             last,
             horizontal,
             vertical,
-            k,
+            address,
             out,
             place,
         );
-        last = k;
+        last = address;
         horizontal = fields[a + 2];
         vertical = fields[a + 3];
     }

@@ -26,8 +26,7 @@ fn groups(
 {
     let count = h261_groups::order::group_count(format);
     let mut place = at;
-    let mut g: usize = 0;
-    while g < count {
+    for g in 0..count {
         let number = h261_groups::order::group_number(format, g);
         let a = g * 132;
         let b = g * 12672;
@@ -41,7 +40,6 @@ fn groups(
             out,
             place,
         );
-        g += 1;
     }
     place
 }

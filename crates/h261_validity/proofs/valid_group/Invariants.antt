@@ -6,6 +6,3 @@ use Rattle.h261_validity.proofs.valid_group.Given as goal
 
 abbrev pub invariant-loop-k : goal.invariant-loop-k
 invariant-loop-k l = GroupSoFar 33 (valid_macroblock l.format l.number) (valid_macroblocks 33 l.format l.number 1 l.fields l.levels) l.fields l.levels l.k
-
-abbrev pub decreases-loop-k : goal.decreases-loop-k
-decreases-loop-k l = 33 - l.k

@@ -8,6 +8,3 @@ use Rattle.h261_validity.proofs.valid_groups.Given as goal
 
 abbrev pub invariant-loop-g : goal.invariant-loop-g
 invariant-loop-g l = (l.count ≡ group_count l.format) × GroupsSoFar 33 (valid_macroblock l.format) (group_numbers l.format) (valid_groups l.format (group_numbers l.format) l.fields l.levels) l.fields l.levels l.g
-
-abbrev pub decreases-loop-g : goal.decreases-loop-g
-decreases-loop-g l = l.count - l.g

@@ -13,6 +13,3 @@ intra_at macroblocks n = is_intra (get_or macroblocks (n * 4) 0)
 
 abbrev pub invariant-loop-n : goal.invariant-loop-n
 invariant-loop-n l = (l.n ≤ l.count) × (all_b l.n (intra_at l.macroblocks) ≡ true)
-
-abbrev pub decreases-loop-n : goal.decreases-loop-n
-decreases-loop-n l = l.count - l.n

@@ -6,6 +6,3 @@ use Rattle.h261_writer.proofs.block.blocks.Given as goal
 
 abbrev pub invariant-loop-b : goal.invariant-loop-b
 invariant-loop-b l = PartsSoFar (block_at l.intra l.levels) 6 l.initial.out l.at l.out l.place l.b
-
-abbrev pub decreases-loop-b : goal.decreases-loop-b
-decreases-loop-b l = 6 - l.b

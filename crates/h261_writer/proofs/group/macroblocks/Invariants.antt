@@ -8,6 +8,3 @@ use Rattle.h261_writer.proofs.group.macroblocks.Given as goal
 
 abbrev pub invariant-loop-k : goal.invariant-loop-k
 invariant-loop-k l = MacroblocksSoFar (macroblocks_of at_start (macroblocks_in 33 1 l.fields l.levels)) l.fields l.levels l.initial.out l.at l.out l.last l.horizontal l.vertical l.place l.k
-
-abbrev pub decreases-loop-k : goal.decreases-loop-k
-decreases-loop-k l = 33 - l.k

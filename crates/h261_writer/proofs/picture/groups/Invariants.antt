@@ -9,6 +9,3 @@ use Rattle.h261_writer.proofs.picture.groups.Given as goal
 
 abbrev pub invariant-loop-g : goal.invariant-loop-g
 invariant-loop-g l = GroupsSoFar (groups_of (group_numbers l.format) (groups_in 33 (drop 3 l.head) l.macroblocks l.levels)) l.format l.head l.macroblocks l.levels l.initial.out l.at l.out l.place l.g
-
-abbrev pub decreases-loop-g : goal.decreases-loop-g
-decreases-loop-g l = l.count - l.g
