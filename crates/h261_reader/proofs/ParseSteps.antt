@@ -64,20 +64,20 @@ module _ (f : Format) (s : List ℕ) (n : ℕ) (a : Bool) (w : a ≡ either (ltb
     described_no_header t = let d : header {P = counted} f (bits_left s n 0) (place_of 0 0) ≡ refused (stopped_of h) = no h t v in described_bits e ∙ rw d
       where
         no : {why : Stopped} (h : CountedRead (ℕ × ℕ)) → h ≡ Refused why → as_header s n h ≡ header f (bits_left s n 0) (place_of 0 0) → header {P = counted} f (bits_left s n 0) (place_of 0 0) ≡ refused (stopped_of h)
-        no (Got tr ptype p) t v = absurd (omega arith)
+        no (Got (tr, ptype) p) t v = cc
         no (Refused r) t v = sym v
 
-    pub header_is : (tr ptype : ℕ) (p : Place) → h ≡ Got tr ptype p → header {P = counted} f (bits_left s n 0) (place_of 0 0) ≡ got (record { tr = tr; ptype = ptype }) (bits_left s n p.bit) p
+    pub header_is : (tr ptype : ℕ) (p : Place) → h ≡ Got (tr, ptype) p → header {P = counted} f (bits_left s n 0) (place_of 0 0) ≡ got (record { tr = tr; ptype = ptype }) (bits_left s n p.bit) p
     header_is tr ptype p d = sym v ∙ ap (as_header s n) d
 
-    pub described_groups : (tr ptype : ℕ) (p : Place) → h ≡ Got tr ptype p
+    pub described_groups : (tr ptype : ℕ) (p : Place) → h ≡ Got (tr, ptype) p
         → described_counted f s n ≡ map_read (put_groups (shape f) 0 (flat (tr ∷ ptype ∷ format_bit f ∷ replicate (group_count f) 0) (replicate (group_count f * 132) 0) (replicate (group_count f * 12672) 0))) (groups_read f (group_numbers f) (bits_left s n p.bit) p)
     unfolding picture laid_picture
     described_groups tr ptype p d =
         described_bits e ∙ rw (header_is tr ptype p d)
         (map-done (laid_picture f) (λ gs. record { tr = tr; ptype = ptype; groups = gs }) (groups_read f (group_numbers f) (bits_left s n p.bit) p))
 
-    pub groups_described : {tr ptype : ℕ} {p : Place} {bit : ℕ} {c m l : List ℕ} {x : ReadIn counted Flat} → h ≡ Got tr ptype p → bit ≡ format_bit f → flat c m l ≡ zeros (shape f)
+    pub groups_described : {tr ptype : ℕ} {p : Place} {bit : ℕ} {c m l : List ℕ} {x : ReadIn counted Flat} → h ≡ Got (tr, ptype) p → bit ≡ format_bit f → flat c m l ≡ zeros (shape f)
         → x ≡ map_read (put_groups (shape f) 0 (flat (set (set (set c 0 tr) 1 ptype) 2 bit) m l)) (groups_read f (group_numbers f) (bits_left s n p.bit) p) → x ≡ described_counted f s n
     groups_described {tr} {ptype} {p} {bit} {c} d b blank z =
         let hd : set (set (set c 0 tr) 1 ptype) 2 bit ≡ tr ∷ ptype ∷ format_bit f ∷ replicate (group_count f) 0

@@ -183,7 +183,7 @@ module _ {s : List ℕ} {n : ℕ} {f : Format} {last : Bool} {number g : ℕ} {h
     group_no_macroblock y = macroblocks_inside h.so_far (is_found r (Step k q) w e) (stopped_of t) (no t y ∙ v)
       where
         no : {why : Stopped} (t : CountedRead Behind) → t ≡ Refused why → refused (stopped_of t) ≡ as_macroblock s n t ms' ls'
-        no (Got c z) y = absurd (omega arith)
+        no (Got c z) y = cc
         no (Refused r) y = refl
 
   pub group_no_mba : (r : MbaRead) (y : Stopped) → as_mba s n r ≡ mba last b.address (bits_left s n p.bit) p → r ≡ NoMba y → refused y ≡ map_read {P = counted} (put_macroblocks 33 g (flat head ms₀ ls₀)) (macroblocks_at f last number (bits_left s n from.bit) from)

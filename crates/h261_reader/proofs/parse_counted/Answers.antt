@@ -16,7 +16,7 @@ use Rattle.size.specs.Size.{limit}
 use Rattle.h261_description.specs.Value.{shape}
 use Rattle.h261_reader.proofs.ParseSteps.{described_count, bounds, limit_low, described_no_header, header_is, groups_described, refused_blank, read_laid}
 use Rattle.h261_reader.proofs.parse_counted.Goals as goal
-use Rattle.h261_reader.proofs.parse_counted.Goals.{After-groups-arg-3-1, After-refused_picture, After-refused_picture-in_default-read, Else-count_above, In-At, Then-count_above}
+use Rattle.h261_reader.proofs.parse_counted.Goals.{After-groups-arg-3-1, After-refused_picture, After-refused_picture-in_default-read, Else-count_above, In-Got-read, Then-count_above}
 
 above_is : (c : Then-count_above) → c.count_above.result ≡ either (ltb (8 * length c.args.bytes.now) c.args.count) (ltb (limit (size_of c.args.format)) c.args.count)
 above_is c = above_by (length c.args.bytes.now) c.args.count c.count_above.ensures c.limit.ensures
@@ -38,7 +38,7 @@ above_is-at4 c = above_by (length c.args.bytes.now) c.args.count c.count_above.e
 above_is-at5 : (c : After-refused_picture-in_default-read) → c.count_above.result ≡ either (ltb (8 * length c.args.bytes.now) c.args.count) (ltb (limit (size_of c.args.format)) c.args.count)
 above_is-at5 c = above_by (length c.args.bytes.now) c.args.count c.count_above.ensures c.limit.ensures
 
-above_is-at6 : (c : In-At) → c.count_above.result ≡ either (ltb (8 * length c.args.bytes.now) c.args.count) (ltb (limit (size_of c.args.format)) c.args.count)
+above_is-at6 : (c : In-Got-read) → c.count_above.result ≡ either (ltb (8 * length c.args.bytes.now) c.args.count) (ltb (limit (size_of c.args.format)) c.args.count)
 above_is-at6 c = above_by (length c.args.bytes.now) c.args.count c.count_above.ensures c.limit.ensures
 
 pub returns-then-count_above : goal.returns-then-count_above

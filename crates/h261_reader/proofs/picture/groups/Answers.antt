@@ -1,7 +1,6 @@
 -- `h261_reader::picture::groups` meets its contract: by turns over the groups, and within each over its macroblocks; the ways out meet in `left`.
 use mathlib.Core.Path.{◌≡◌, ◌∙◌}
 use mathlib.Core.Bool.{true}
-use borrow.Author.Rules.{rules}
 use native.Mathlib.Omega.{arith}
 use Prim.Native.Nat.{◌+◌, ◌<◌}
 use lib.Dec.{T, eqb}
@@ -78,7 +77,7 @@ left c =
           (w.macroblock-read.auto.macroblocks ∙ w.group.invariant.ms_long) (w.macroblock-read.auto.levels ∙ w.group.invariant.ls_long)
           (group_no_macroblock w.group.invariant w.mba-found.result _ _ (last_found bytes _ w.mba-found.result picture.group _ _ _ _ _ w.mba-found.ensures counted)
           w.in-Step.is w.macroblock-read.result _ _ w.macroblock-read.ensures w.in_default-read.is))
-          w.head-is w.macroblocks-is w.levels-is w.place-is (w.stopped-is ∙ w.stopped-stopped.ensures)
+          w.head-is w.macroblocks-is w.levels-is w.place-is (w.stopped-is ∙ w.stopped-stopped-in_default-read.ensures)
       | then-picture-test+in-Got+in-Refused w ↦
           left_as
           (out_inside lengths picture.invariant _ _ _ _ _ _ _ (less c w.picture-test.true) w.group_number-number.ensures
@@ -114,7 +113,7 @@ left_at2 c =
           (w.macroblock-read.auto.macroblocks ∙ w.group.invariant.ms_long) (w.macroblock-read.auto.levels ∙ w.group.invariant.ls_long)
           (group_no_macroblock w.group.invariant w.mba-found.result _ _ (last_found bytes _ w.mba-found.result picture.group _ _ _ _ _ w.mba-found.ensures counted)
           w.in-Step.is w.macroblock-read.result _ _ w.macroblock-read.ensures w.in_default-read.is))
-          w.head-is w.macroblocks-is w.levels-is w.place-is (w.stopped-is ∙ w.stopped-stopped.ensures)
+          w.head-is w.macroblocks-is w.levels-is w.place-is (w.stopped-is ∙ w.stopped-stopped-in_default-read.ensures)
       | then-picture-test+in-Got+in-Refused w ↦
           left_as
           (out_inside lengths picture.invariant _ _ _ _ _ _ _ (less_at2 c w.picture-test.true) w.group_number-number.ensures
@@ -179,9 +178,6 @@ macroblock-read-requires c =
         levels_room = omega (arith, to_come at_in_picture, c.group.invariant.ls_long, c.picture.invariant.ls_long);
       },
     )
-
-pub stopped-stopped-requires : goal.macroblock_stopped-stopped-requires
-stopped-stopped-requires c = search rules
 
 pub group-smaller-in-Step : goal.group-smaller-in-Step
 group-smaller-in-Step c =
