@@ -4,8 +4,7 @@ use Rattle.std.specs.Prelude.{ℕ, ◌+◌, true, false, eqb, ltb}
 use Rattle.laws.specs.Choice.{pick, either, opposite}
 use Rattle.standing.specs.declared.Answer.{Answer}
 use Rattle.standing.specs.declared.Answer.TheVariants as A
-use Rattle.account.specs.declared.End.{End}
-use Rattle.account.specs.declared.End.TheVariants.{Done}
+use Rattle.account.specs.declared.Ended.{Ended}
 use Rattle.account.specs.declared.blocks.Met.{Met}
 
 abbrev pub fresh_met : Met
@@ -35,5 +34,5 @@ met_after m (A.Picture p tick) = finished m p
 met_after m (A.Refused why) = cut_short m
 
 -- something was cut, or a part is left over
-unfoldable pub end_of : Met → End
-end_of m = Done (either m.cut m.begun) m.pictures
+unfoldable pub end_of : Met → Ended
+end_of m = record { cut = either m.cut m.begun; count = m.pictures }

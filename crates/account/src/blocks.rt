@@ -3,11 +3,11 @@ ghost use Rattle.std.specs.Prelude.{◌≡◌, eqb};
 ghost use Rattle.laws.specs.Choice.{either, opposite};
 ghost use Rattle.account.specs.Blocks.{fresh_met, one_more, finished, met_after, cut_short, end_of};
 
-use crate::End;
+use crate::Ended;
 use standing::Answer;
 
 // How many pictures were finished; whether a picture has begun and isn't finished; whether something was cut.
-#[derive(Clone, Copy)]
+#[derive(Clone, Copy, PartialEq, Eq)]
 pub struct Met {
     pub pictures: u64,
     pub begun: bool,
@@ -88,11 +88,11 @@ pub fn short(met: Met) -> Met
 }
 
 #[tactic(auto, unfolding(crate::specs::Blocks::end_of))]
-pub fn end(met: Met) -> End
+pub fn end(met: Met) -> Ended
     ensures { result ≡ end_of met }
 {
-    if met.cut {
-        return End::Done(true, met.pictures);
+    Ended {
+        cut: met.cut || met.begun,
+        count: met.pictures,
     }
-    End::Done(met.begun, met.pictures)
 }

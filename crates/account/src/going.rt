@@ -1,33 +1,16 @@
-// Whether a program's run goes on after a turn.
-ghost use Rattle.std.specs.Prelude.{◌≡◌};
-ghost use Rattle.account.specs.Going.{run_goes_on, going_after_write};
+// How a program's run goes on after a write.
+ghost use Rattle.std.specs.Prelude.{◌≡◌, Ok, Err, MatchResult};
+ghost use Rattle.account.specs.declared.Failure.TheVariants.{Unwritten};
 
-// There is more to do; or the input has ended, it can't be read, or the output can't be written.
-#[derive(Clone, Copy)]
-pub enum Going {
-    On,
-    Ended,
-    Unread,
-    Unwritten,
-}
+use crate::Failure;
+use std::io;
 
-pub fn goes_on(going: Going) -> bool
-    ensures { result ≡ run_goes_on going }
+// It goes on where all was written, and else ends.
+pub fn written(all: io::Result<()>) -> Result<(), Failure>
+    ensures { MatchResult all (λ done. result ≡ Ok done) (λ why. result ≡ Err (Unwritten why)) }
 {
-    match going {
-        Going::On => true,
-        Going::Ended => false,
-        Going::Unread => false,
-        Going::Unwritten => false,
+    match all {
+        Ok(()) => Ok(()),
+        Err(why) => Err(Failure::Unwritten(why)),
     }
-}
-
-// After a write, by whether all of it was written.
-pub fn written(all: bool) -> Going
-    ensures { result ≡ going_after_write all }
-{
-    if all {
-        return Going::On;
-    }
-    Going::Unwritten
 }

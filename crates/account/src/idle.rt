@@ -7,7 +7,7 @@ use standing::Answer;
 
 // Since the last picture that was finished: whether blocks led to none, the first and the last of them; whether a picture has begun, its first block and its last so far;
 // and the number of the picture that comes next.
-#[derive(Clone, Copy)]
+#[derive(Clone, Copy, PartialEq, Eq)]
 pub struct Idle {
     pub any: bool,
     pub from: u64,

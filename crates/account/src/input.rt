@@ -1,75 +1,61 @@
 // A program's input, where a read that fails is told from the input's end.
-ghost use Rattle.std.specs.Prelude.{◌≡◌};
+ghost use Rattle.std.specs.Prelude.{◌≡◌, Ok, Err, MatchOption};
 ghost use Rattle.io.specs.Counts.{IsPrefixLen};
-ghost use Rattle.account.specs.Input.{next_of};
+ghost use Rattle.account.specs.Input.{next_counted};
+ghost use Rattle.account.specs.declared.Failure.TheVariants.{Unread};
 
-use crate::streams::{Source, Streams};
+use crate::Failure;
+use std::io;
 use std::io::Read;
 
-// How many bytes were read, and whether the read after them failed.
+// How many bytes were read, and why the read after them failed, if it did: what came before it stands in the buffer all the same.
 #[derive(Clone, Copy)]
 pub struct Filled {
     pub count: usize,
-    pub failed: bool,
+    pub failure: Option<io::Error>,
 }
 
-// The input's next block, its end inside a block, its end, or a read that failed.
-#[derive(Clone, Copy)]
+// The input's next block, its end inside a block, or its end.
+#[derive(Clone, Copy, PartialEq, Eq)]
 pub enum Next {
     Block,
     Short,
     End,
-    Unread,
 }
 
-// Reads until the buffer is full, the file ends or a read fails.
-pub fn fill_from<R: Read>(file: &mut Source<R>, buffer: &mut [u8]) -> Filled
+// Reads until the buffer is full, the input ends or a read fails. Each turn goes on by what was read.
+pub fn fill<R: Read>(from: &mut R, buffer: &mut [u8]) -> Filled
     ensures { IsPrefixLen result.count buffer.new }
 {
     let mut done: usize = 0;
     while done < buffer.len() {
-        match file.from.read(&mut buffer[done..]) {
-            Ok(0) => {
-                return Filled {
-                    count: done,
-                    failed: false,
-                };
-            }
+        match from.read(&mut buffer[done..]) {
+            Ok(0) => break,
             Ok(more) => done += more,
             Err(why) => {
-                file.failure = Some(why);
                 return Filled {
                     count: done,
-                    failed: true,
+                    failure: Some(why),
                 };
             }
         }
     }
     Filled {
         count: done,
-        failed: false,
+        failure: None,
     }
 }
 
-// The same of standard input.
-pub fn fill<I: Read, O, E>(streams: &mut Streams<I, O, E>, buffer: &mut [u8]) -> Filled
-    ensures { IsPrefixLen result.count buffer.new }
+// What was read into the 512 bytes of a block. Where a read failed, what came before it counts for nothing.
+pub fn next_of(filled: Filled) -> Result<Next, Failure>
+    ensures { MatchOption filled.failure (result ≡ Ok (next_counted filled.count)) (λ why. result ≡ Err (Unread why)) }
 {
-    fill_from(&mut streams.stdin, buffer)
-}
-
-// What was read into the 512 bytes of a block.
-pub fn next_of(filled: Filled) -> Next
-    ensures { result ≡ next_of filled }
-{
-    if filled.failed {
-        return Next::Unread;
+    if let Some(why) = filled.failure {
+        return Err(Failure::Unread(why));
     }
-    if filled.count == 512 {
-        return Next::Block;
+    match filled.count {
+        512 => Ok(Next::Block),
+        0 => Ok(Next::End),
+        _ => Ok(Next::Short),
     }
-    if filled.count == 0 {
-        return Next::End;
-    }
-    Next::Short
 }

@@ -1,4 +1,4 @@
-// What a program's run met, whether it goes on, and the status that it ends with; what it says of blocks that led to no picture; an input that fails told from its end.
+// What a program's run met and how it ends, with the status of that; what it says of blocks that led to no picture; an input that fails told from its end.
 #![tactic(auto)]
 
 ghost use Rattle.std.specs.Prelude.{◌≡◌, ◌<◌, ◌^◌, true, false};
@@ -8,6 +8,7 @@ ghost use Rattle.std.specs.Process.{exit_status};
 
 use crate::streams::Streams;
 use std::env::{Env, FillError};
+use std::io;
 use std::io::Write;
 use std::process::ExitCode;
 
@@ -18,14 +19,19 @@ pub mod input;
 pub mod remarks;
 pub mod streams;
 
-// How a run ends: its words name nothing; the input can't be read; the output can't be written; or the input came to its end, with
-// whether something was cut, and how many pictures, or data bits, came out.
+// A run whose input came to its end: whether something was cut, and how many pictures, or data bits, came out.
+#[derive(Clone, Copy, PartialEq, Eq)]
+pub struct Ended {
+    pub cut: bool,
+    pub count: u64,
+}
+
+// Why another run ended: its words name nothing; the input can't be read; the output can't be written.
 #[derive(Clone, Copy)]
-pub enum End {
+pub enum Failure {
     Misnamed,
-    Unread,
-    Unwritten,
-    Done(bool, u64),
+    Unread(io::Error),
+    Unwritten(io::Error),
 }
 
 fn done(cut: bool, pictures: u64) -> u8
@@ -42,20 +48,20 @@ fn done(cut: bool, pictures: u64) -> u8
 
 // 0 where all that came in went out whole, 1 where something was cut, 2 where nothing came out or could, 3 where the output can't be written.
 #[tactic(auto, unfolding(crate::specs::Status::status_of))]
-pub fn status(end: End) -> u8
+pub fn status(end: Result<Ended, Failure>) -> u8
     ensures { result ≡ status_of end }
 {
     match end {
-        End::Misnamed => 2,
-        End::Unread => 2,
-        End::Unwritten => 3,
-        End::Done(cut, pictures) => done(cut, pictures),
+        Ok(run) => done(run.cut, run.count),
+        Err(Failure::Misnamed) => 2,
+        Err(Failure::Unread(_)) => 2,
+        Err(Failure::Unwritten(_)) => 3,
     }
 }
 
 // The status that the process ends with.
 #[tactic(auto, unfolding(crate::specs::Status::status_of))]
-pub fn tell(end: End) -> ExitCode
+pub fn tell(end: Result<Ended, Failure>) -> ExitCode
     ensures { exit_status result ≡ status_of end }
 {
     ExitCode::from(status(end))
@@ -63,7 +69,7 @@ pub fn tell(end: End) -> ExitCode
 
 // The same of a run over its streams: 141, as a shell has it of SIGPIPE, where nobody reads what is written.
 #[tactic(auto, unfolding(crate::specs::Status::status_of))]
-pub fn tell_over<I, O, E>(streams: &Streams<I, O, E>, end: End) -> ExitCode
+pub fn tell_over<I, O, E>(streams: &Streams<I, O, E>, end: Result<Ended, Failure>) -> ExitCode
     ensures broken { streams.now.broken ≡ true → exit_status result ≡ 141 }
     ensures whole { streams.now.broken ≡ false → exit_status result ≡ status_of end }
 {
@@ -80,7 +86,7 @@ pub fn say_chosen<I, O, E: Write>(streams: &mut Streams<I, O, E>, n: u64, clip: 
     if clip != 0 {
         let mut text = [0u8; 128];
         let count = remarks::chosen(n, clip, &mut text);
-        streams::say(streams, &text[..count]);
+        let _ = streams::say(streams, &text[..count]);
     }
 }
 

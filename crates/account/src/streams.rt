@@ -1,112 +1,75 @@
-// A program's streams, and why a read or a write of them failed last. After a write that nobody reads (EPIPE) nothing more is written: a program that SIGPIPE ends would stop there,
-// and start-up code ignores that signal here.
-ghost use Rattle.std.specs.Prelude.{◌≡◌, true, false, None, Some};
+// A program's streams. After a write that nobody reads (EPIPE) nothing more is written: a program that SIGPIPE ends would stop there, and start-up code ignores that signal here.
+ghost use Rattle.std.specs.Prelude.{◌≡◌, true, false, OnOk, IsErr};
 ghost use Rattle.std.specs.Io.KnownBytes.{Appends};
 ghost use Rattle.text.specs.Text.{decimal};
 
+use crate::{Failure, going};
+use std::io;
 use std::io::{Cursor, ErrorKind, Write};
 
-// What is read, and why a read of it failed last.
-#[derive(Drop)]
-pub struct Source<R> {
-    pub from: R,
-    pub failure: Option<std::io::Error>,
-}
-
-// `failure` is of the last write that failed; `broken`, whether nobody reads what is written.
+// `broken`: whether nobody reads what is written.
 #[derive(Drop)]
 pub struct Streams<I, O, E> {
-    pub stdin: Source<I>,
+    pub stdin: I,
     pub stdout: O,
     pub stderr: E,
-    pub failure: Option<std::io::Error>,
     pub broken: bool,
 }
 
-// A source of which no read has failed.
-pub fn reading<R>(from: R) -> Source<R>
-    ensures from { result.from ≡ from }
-    ensures failure { result.failure ≡ None }
-{
-    Source {
-        from,
-        failure: None,
-    }
-}
-
-// Streams of which no read and no write has failed.
+// Streams of which no write has failed.
 pub fn over<I, O, E>(stdin: I, stdout: O, stderr: E) -> Streams<I, O, E>
-    ensures stdin { result.stdin.from ≡ stdin }
-    ensures stdin_failure { result.stdin.failure ≡ None }
+    ensures stdin { result.stdin ≡ stdin }
     ensures stdout { result.stdout ≡ stdout }
     ensures stderr { result.stderr ≡ stderr }
-    ensures failure { result.failure ≡ None }
     ensures broken { result.broken ≡ false }
 {
     Streams {
-        stdin: reading(stdin),
+        stdin,
         stdout,
         stderr,
-        failure: None,
         broken: false,
     }
 }
 
-// What is kept of a write that failed.
-fn note<I, O, E>(streams: &mut Streams<I, O, E>, why: std::io::Error)
-    ensures stdin { streams.new.stdin ≡ streams.old.stdin }
-    ensures stdout { streams.new.stdout ≡ streams.old.stdout }
-    ensures stderr { streams.new.stderr ≡ streams.old.stderr }
-    ensures failure { streams.new.failure ≡ Some why }
+// Writes all of the bytes, or says why not; after a write that nobody reads nothing is written.
+fn write<W: Write>(to: &mut W, broken: &mut bool, bytes: &[u8]) -> io::Result<()>
+    ensures written { OnOk result (Appends (W.contents to.old) (W.contents to.new) bytes.now) }
+    ensures broken { broken.old ≡ true → IsErr result }
 {
-    if why.kind() == ErrorKind::BrokenPipe {
-        streams.broken = true;
+    if *broken {
+        return Err(io::Error::from(ErrorKind::BrokenPipe));
     }
-    streams.failure = Some(why);
+    let written = to.write_all(bytes);
+    if let Err(why) = written {
+        *broken = why.kind() == ErrorKind::BrokenPipe;
+    }
+    written
 }
 
-// Whether all of the bytes were written to standard output; after a write that nobody reads nothing is.
-pub fn put<I, O: Write, E>(streams: &mut Streams<I, O, E>, bytes: &[u8]) -> bool
-    ensures written { result ≡ true → Appends (O.contents streams.old.stdout) (O.contents streams.new.stdout) bytes.now }
-    ensures broken { streams.old.broken ≡ true → result ≡ false }
+// To standard output: what isn't written ends the run.
+pub fn put<I, O: Write, E>(streams: &mut Streams<I, O, E>, bytes: &[u8]) -> Result<(), Failure>
+    ensures written { OnOk result (Appends (O.contents streams.old.stdout) (O.contents streams.new.stdout) bytes.now) }
+    ensures broken { streams.old.broken ≡ true → IsErr result }
     ensures stdin { streams.new.stdin ≡ streams.old.stdin }
     ensures stderr { streams.new.stderr ≡ streams.old.stderr }
 {
-    if streams.broken {
-        return false;
-    }
-    match streams.stdout.write_all(bytes) {
-        Ok(()) => true,
-        Err(why) => {
-            note(streams, why);
-            false
-        }
-    }
+    going::written(write(&mut streams.stdout, &mut streams.broken, bytes))
 }
 
-// The same of standard error.
-pub fn say<I, O, E: Write>(streams: &mut Streams<I, O, E>, bytes: &[u8]) -> bool
-    ensures written { result ≡ true → Appends (E.contents streams.old.stderr) (E.contents streams.new.stderr) bytes.now }
-    ensures broken { streams.old.broken ≡ true → result ≡ false }
+// To standard error.
+pub fn say<I, O, E: Write>(streams: &mut Streams<I, O, E>, bytes: &[u8]) -> io::Result<()>
+    ensures written { OnOk result (Appends (E.contents streams.old.stderr) (E.contents streams.new.stderr) bytes.now) }
+    ensures broken { streams.old.broken ≡ true → IsErr result }
     ensures stdin { streams.new.stdin ≡ streams.old.stdin }
     ensures stdout { streams.new.stdout ≡ streams.old.stdout }
 {
-    if streams.broken {
-        return false;
-    }
-    match streams.stderr.write_all(bytes) {
-        Ok(()) => true,
-        Err(why) => {
-            note(streams, why);
-            false
-        }
-    }
+    write(&mut streams.stderr, &mut streams.broken, bytes)
 }
 
 // The same of a number's digits.
-pub fn say_number<I, O, E: Write>(streams: &mut Streams<I, O, E>, n: u64) -> bool
-    ensures written { result ≡ true → Appends (E.contents streams.old.stderr) (E.contents streams.new.stderr) (decimal n) }
-    ensures broken { streams.old.broken ≡ true → result ≡ false }
+pub fn say_number<I, O, E: Write>(streams: &mut Streams<I, O, E>, n: u64) -> io::Result<()>
+    ensures written { OnOk result (Appends (E.contents streams.old.stderr) (E.contents streams.new.stderr) (decimal n)) }
+    ensures broken { streams.old.broken ≡ true → IsErr result }
     ensures stdin { streams.new.stdin ≡ streams.old.stdin }
     ensures stdout { streams.new.stdout ≡ streams.old.stdout }
 {
@@ -116,7 +79,7 @@ pub fn say_number<I, O, E: Write>(streams: &mut Streams<I, O, E>, n: u64) -> boo
 }
 
 // The system's words for a failure, without the number that std adds: "Is a directory", of "Is a directory (os error 21)".
-fn say_reason<I, O, E: Write>(streams: &mut Streams<I, O, E>, why: std::io::Error)
+fn say_reason<I, O, E: Write>(streams: &mut Streams<I, O, E>, why: io::Error)
     ensures stdin { streams.new.stdin ≡ streams.old.stdin }
     ensures stdout { streams.new.stdout ≡ streams.old.stdout }
 {
@@ -126,7 +89,7 @@ fn say_reason<I, O, E: Write>(streams: &mut Streams<I, O, E>, why: std::io::Erro
     let text = cursor.into_inner();
     if written.is_ok() {
         if let Ok(all) = str::from_utf8(&text[..count]) {
-            match all.split_once(" (os error ") {
+            let _ = match all.split_once(" (os error ") {
                 Some((words, _)) => say(streams, words.as_bytes()),
                 None => say(streams, all.as_bytes()),
             };
@@ -135,18 +98,14 @@ fn say_reason<I, O, E: Write>(streams: &mut Streams<I, O, E>, why: std::io::Erro
 }
 
 // A line on standard error: what failed, and why. What the system says of a failure no contract can tell.
-pub fn fail<I, O, E: Write>(
-    streams: &mut Streams<I, O, E>,
-    what: &[u8],
-    why: Option<std::io::Error>,
-)
+pub fn fail<I, O, E: Write>(streams: &mut Streams<I, O, E>, what: &[u8], why: Option<io::Error>)
     ensures stdin { streams.new.stdin ≡ streams.old.stdin }
     ensures stdout { streams.new.stdout ≡ streams.old.stdout }
 {
-    say(streams, what);
-    say(streams, b": ");
+    let _ = say(streams, what);
+    let _ = say(streams, b": ");
     if let Some(error) = why {
         say_reason(streams, error);
     }
-    say(streams, b"\n");
+    let _ = say(streams, b"\n");
 }

@@ -1,12 +1,11 @@
 -- What an input's first byte names, and what can be said of buffers that it was read into, whatever it holds. Assumes nothing.
-use Rattle.std.specs.Prelude.{◌≡◌, Bool, true, List, ℕ, leb, eqb, length}
+use Rattle.std.specs.Prelude.{◌≡◌, Bool, true, List, ℕ, leb, eqb, length, Option, Some, None}
 use Rattle.laws.specs.Choice.{pick, both}
 use Rattle.coding.specs.declared.Kind.{Kind}
 use Rattle.coding.specs.declared.Kind.TheVariants.{H261, H263}
-use Rattle.checks.specs.declared.Description.{Description}
+use Rattle.checks.specs.declared.Lengths.{Lengths}
 use Rattle.h261_groups.specs.declared.Format.TheVariants as F
 use Rattle.size.specs.declared.Size.TheVariants as S
-use Rattle.checks.specs.declared.Description.TheVariants as D
 
 -- a kind by its number
 abbrev pub kind_numbered : ℕ → Kind
@@ -17,6 +16,6 @@ abbrev pub Kept : List ℕ → List ℕ → Type 0
 Kept before after = length after ≡ length before
 
 -- the buffers have room for the slices that were read
-abbrev pub room_for : Description → ℕ → ℕ → ℕ → Bool
-room_for D.Ended head macroblocks levels = true
-room_for (D.Lengths h m l) head macroblocks levels = both (leb h head) (both (leb m macroblocks) (leb l levels))
+abbrev pub room_for : Option Lengths → ℕ → ℕ → ℕ → Bool
+room_for None head macroblocks levels = true
+room_for (Some read) head macroblocks levels = both (leb read.head head) (both (leb read.macroblocks macroblocks) (leb read.levels levels))

@@ -18,11 +18,12 @@ use std::io::{Read, Write};
 
 // ---- records
 
-// A description's lengths, head, macroblocks, levels; or the end of the input.
-#[derive(Clone, Copy)]
-pub enum Description {
-    Lengths(usize, usize, usize),
-    Ended,
+// How many bytes of a description's slices were read.
+#[derive(Clone, Copy, PartialEq, Eq)]
+pub struct Lengths {
+    pub head: usize,
+    pub macroblocks: usize,
+    pub levels: usize,
 }
 
 fn wide(x: u8) -> u64
@@ -85,33 +86,37 @@ pub fn fills<I: Read>(stdin: &mut I, buffer: &mut [u8]) -> bool
     stdin.read_exact(buffer).is_ok()
 }
 
-// A description from the input: its lengths in four bytes each, and its slices. Ended too where a slice is beyond the room for it.
+// A description from the input: its lengths in four bytes each, and its slices. Nothing where the input ends, or a slice is beyond the room for it.
 pub fn next_description<I: Read>(
     stdin: &mut I,
     head: &mut [u8],
     macroblocks: &mut [u8],
     levels: &mut [u8],
-) -> Description
+) -> Option<Lengths>
     ensures levels_value { room_for result (length head.old) (length macroblocks.old) (length levels.old) ≡ true }
     ensures kept { (Kept head.old head.new) × (Kept macroblocks.old macroblocks.new) × (Kept levels.old levels.new) }
 {
     let mut start = [0u8; 12];
     if !fills(stdin, &mut start) {
-        return Description::Ended;
+        return None;
     }
     let heads = four(start[0], start[1], start[2], start[3]);
     let fields = four(start[4], start[5], start[6], start[7]);
     let coefficients = four(start[8], start[9], start[10], start[11]);
     if !fills_part(stdin, heads, head) {
-        return Description::Ended;
+        return None;
     }
     if !fills_part(stdin, fields, macroblocks) {
-        return Description::Ended;
+        return None;
     }
     if !fills_part(stdin, coefficients, levels) {
-        return Description::Ended;
+        return None;
     }
-    Description::Lengths(heads, fields, coefficients)
+    Some(Lengths {
+        head: heads,
+        macroblocks: fields,
+        levels: coefficients,
+    })
 }
 
 // ---- buffers
@@ -155,12 +160,10 @@ pub fn lent(length: usize, short: bool) -> usize
 pub fn is_filled(buffer: &[u8], value: u8) -> bool
     ensures { result ≡ alike buffer.now (replicate (length buffer.now) value) }
 {
-    let mut i: usize = 0;
-    while i < buffer.len() {
-        if buffer[i] != value {
+    for &byte in buffer {
+        if byte != value {
             return false;
         }
-        i += 1;
     }
     true
 }
@@ -173,10 +176,8 @@ fn check_on(h: u64, bytes: &[u8]) -> u64
     ensures { (result ≡ check_from h bytes.now) × (result < 4294967291) }
 {
     let mut on = h;
-    let mut i: usize = 0;
-    while i < bytes.len() {
-        on = (65599 * on + wide(bytes[i])) % 4294967291;
-        i += 1;
+    for &byte in bytes {
+        on = (65599 * on + wide(byte)) % 4294967291;
     }
     on
 }

@@ -14,19 +14,17 @@ ghost use Rattle.text.specs.Text.{over};
 ghost use Rattle.frames.specs.Header.{header_text};
 ghost use Rattle.frames.specs.Timing.{timing_text};
 
-use account::End;
 use account::blocks::Met;
-use account::going::Going;
 use account::idle::Idle;
 use account::input::Next;
 use account::streams::Streams;
-use listing::Clip;
+use account::{Ended, Failure};
+use listing::{Clip, Listed};
 use pace::Between;
 use size::Size;
 use standing::{Answer, Received, Receiver};
 use std::io::{Read, Write};
 use std::process::ExitCode;
-use ticks::Tick;
 
 // Whether there is a frame for each tick, and the frames that were written between pictures.
 #[derive(Clone, Copy)]
@@ -36,17 +34,9 @@ struct Timing {
     grey: u64,
 }
 
-// After the frames between two pictures: whether all were written.
+// What the blocks so far have led to: the clip, what was met, the blocks that led to no picture, and the frames between pictures.
 #[derive(Clone, Copy)]
-struct Filled {
-    timing: Timing,
-    all: bool,
-}
-
-// After a turn: whether there is more to do, the clip, what was met so far, the blocks that led to no picture, and the frames between pictures.
-#[derive(Clone, Copy)]
-struct Turn {
-    going: Going,
+struct State {
     clip: Clip,
     met: Met,
     idle: Idle,
@@ -67,33 +57,35 @@ fn header(size: Size, out: &mut [u8; 128]) -> usize
     text::put(b" F30000:1001 Ip A12:11 C420jpeg\n", high, out)
 }
 
-fn begin<I, O: Write, E>(streams: &mut Streams<I, O, E>, size: Size) -> bool {
+fn begin<I, O: Write, E>(streams: &mut Streams<I, O, E>, size: Size) -> Result<(), Failure> {
     let mut text = [0u8; 128];
     let count = header(size, &mut text);
     account::streams::put(streams, &text[..count])
 }
 
-fn frame<I, O: Write, E>(streams: &mut Streams<I, O, E>, samples: &[u8]) -> bool {
-    if account::streams::put(streams, b"FRAME\n") {
-        return account::streams::put(streams, samples);
-    }
-    false
+fn frame<I, O: Write, E>(streams: &mut Streams<I, O, E>, samples: &[u8]) -> Result<(), Failure> {
+    account::streams::put(streams, b"FRAME\n")?;
+    account::streams::put(streams, samples)
 }
 
-fn frames<I, O: Write, E>(streams: &mut Streams<I, O, E>, samples: &[u8], count: u32) -> bool {
-    let mut left = count;
-    while 0 < left {
-        if !frame(streams, samples) {
-            return false;
-        }
-        left -= 1;
+fn frames<I, O: Write, E>(
+    streams: &mut Streams<I, O, E>,
+    samples: &[u8],
+    count: u32,
+) -> Result<(), Failure> {
+    for _ in 0..count {
+        frame(streams, samples)?;
     }
-    true
+    Ok(())
 }
 
 // Plain grey.
 #[tactic(auto, using(size::proofs::Room::store_most))]
-fn grey_frames<I, O: Write, E>(streams: &mut Streams<I, O, E>, size: Size, count: u32) -> bool {
+fn grey_frames<I, O: Write, E>(
+    streams: &mut Streams<I, O, E>,
+    size: Size,
+    count: u32,
+) -> Result<(), Failure> {
     let samples = size::store_length(size);
     let grey = [128u8; 152064];
     frames(streams, &grey[..samples], count)
@@ -114,60 +106,28 @@ fn fill_with<'a, I, O: Write, E>(
     between: Between,
     first: &'a [u8],
     second: &'a [u8],
-) -> Filled {
-    let kind = receiver.kind;
-    let size = coding::size_of(kind);
+) -> Result<Timing, Failure> {
+    let size = coding::size_of(receiver.kind);
     match between {
         Between::Repeated(count) => {
-            let last = receiver.last;
-            let holder = last.holder;
-            let all = frames(
-                streams,
-                standing::store_shown(size, holder, first, second),
-                count,
-            );
-            Filled {
-                timing: Timing {
-                    timed: timing.timed,
-                    repeated: more(timing.repeated, count),
-                    grey: timing.grey,
-                },
-                all,
-            }
+            let shown = standing::store_shown(size, receiver.last.holder, first, second);
+            frames(streams, shown, count)?;
+            Ok(Timing {
+                repeated: more(timing.repeated, count),
+                ..timing
+            })
         }
         Between::Grey(count) => {
-            let all = grey_frames(streams, size, count);
-            Filled {
-                timing: Timing {
-                    timed: timing.timed,
-                    repeated: timing.repeated,
-                    grey: more(timing.grey, count),
-                },
-                all,
-            }
+            grey_frames(streams, size, count)?;
+            Ok(Timing {
+                grey: more(timing.grey, count),
+                ..timing
+            })
         }
     }
 }
 
-// The frames between the picture before and this one, by the clip as it was before the block that finished it.
-fn fill_before<'a, I, O: Write, E>(
-    streams: &mut Streams<I, O, E>,
-    timing: Timing,
-    before: Clip,
-    picture: u32,
-    tick: Tick,
-    first: &'a [u8],
-    second: &'a [u8],
-) -> Filled {
-    match before {
-        Clip::Known(receiver) => {
-            let between = pace::frames_between(receiver, picture, tick);
-            fill_with(streams, timing, receiver, between, first, second)
-        }
-        _ => Filled { timing, all: true },
-    }
-}
-
+// The frames between the picture before and the one that is finished, by the clip as it was before the block that finished it.
 fn fill<'a, I, O: Write, E>(
     streams: &mut Streams<I, O, E>,
     timing: Timing,
@@ -175,36 +135,32 @@ fn fill<'a, I, O: Write, E>(
     answer: Answer,
     first: &'a [u8],
     second: &'a [u8],
-) -> Filled {
-    if timing.timed {
-        match answer {
-            Answer::Picture(picture, tick) => {
-                fill_before(streams, timing, before, picture, tick, first, second)
-            }
-            _ => Filled { timing, all: true },
+) -> Result<Timing, Failure> {
+    match (before, answer) {
+        (Clip::Known(receiver), Answer::Picture(picture, tick)) if timing.timed => {
+            let between = pace::frames_between(receiver, picture, tick);
+            fill_with(streams, timing, receiver, between, first, second)
         }
-    } else {
-        Filled { timing, all: true }
+        _ => Ok(timing),
     }
 }
 
 // The picture that is finished.
 fn show<'a, I, O: Write, E>(
     streams: &mut Streams<I, O, E>,
-    answer: Answer,
-    clip: Clip,
+    listed: Listed,
     first: &'a [u8],
     second: &'a [u8],
-) -> bool {
-    match clip {
+) -> Result<(), Failure> {
+    match listed.next {
         Clip::Known(receiver) => {
             let received = Received {
-                answer,
+                answer: listed.answer,
                 next: receiver,
             };
             frame(streams, standing::show(received, first, second))
         }
-        _ => true,
+        _ => Ok(()),
     }
 }
 
@@ -213,20 +169,20 @@ fn show<'a, I, O: Write, E>(
 fn say_line<I, O, E: Write>(streams: &mut Streams<I, O, E>, n: u64, answer: Answer) {
     let mut text = [0u8; 128];
     let count = listing::line(n, answer, &mut text);
-    account::streams::say(streams, &text[..count]);
+    let _ = account::streams::say(streams, &text[..count]);
 }
 
 fn say_short<I, O, E: Write>(streams: &mut Streams<I, O, E>, n: u64) {
     let mut text = [0u8; 128];
     let count = listing::short(n, &mut text);
-    account::streams::say(streams, &text[..count]);
+    let _ = account::streams::say(streams, &text[..count]);
 }
 
 fn say_idle<I, O, E: Write>(streams: &mut Streams<I, O, E>, idle: Idle) {
     if idle.any {
         let mut text = [0u8; 128];
         let count = account::remarks::idle(idle.from, idle.to, &mut text);
-        account::streams::say(streams, &text[..count]);
+        let _ = account::streams::say(streams, &text[..count]);
     }
 }
 
@@ -234,7 +190,7 @@ fn say_missing<I, O, E: Write>(streams: &mut Streams<I, O, E>, from: u64, next: 
     if from < next {
         let mut text = [0u8; 128];
         let count = account::remarks::missing(from, next - 1, &mut text);
-        account::streams::say(streams, &text[..count]);
+        let _ = account::streams::say(streams, &text[..count]);
     }
 }
 
@@ -242,7 +198,7 @@ fn say_rest<I, O, E: Write>(streams: &mut Streams<I, O, E>, idle: Idle) {
     if idle.any {
         let mut text = [0u8; 128];
         let count = account::remarks::rest(idle.next, &mut text);
-        account::streams::say(streams, &text[..count]);
+        let _ = account::streams::say(streams, &text[..count]);
     }
 }
 
@@ -262,220 +218,113 @@ fn say_timing<I, O, E: Write>(streams: &mut Streams<I, O, E>, timing: Timing) {
     if timing.timed {
         let mut text = [0u8; 128];
         let count = timing_line(timing.repeated, timing.grey, &mut text);
-        account::streams::say(streams, &text[..count]);
+        let _ = account::streams::say(streams, &text[..count]);
     }
 }
 
 fn say_pictures<I, O, E: Write>(streams: &mut Streams<I, O, E>, pictures: u64) {
     let mut text = [0u8; 128];
     let count = text::remarks::pictures(pictures, &mut text);
-    account::streams::say(streams, &text[..count]);
+    let _ = account::streams::say(streams, &text[..count]);
 }
 
 // ---- a block
 
-// What is said of a block, and whether a picture that it finished was written.
+// What is said of a block, and the picture that it finished.
 fn follow<'a, I, O: Write, E: Write>(
     streams: &mut Streams<I, O, E>,
     n: u64,
-    answer: Answer,
-    clip: Clip,
+    listed: Listed,
     idle: Idle,
     first: &'a [u8],
     second: &'a [u8],
-) -> bool {
-    match answer {
+) -> Result<(), Failure> {
+    match listed.answer {
         Answer::Picture(picture, _) => {
             say_idle(streams, idle);
             say_missing(streams, idle.next, picture as u64);
-            show(streams, answer, clip, first, second)
+            show(streams, listed, first, second)
         }
         Answer::Refused(_) => {
-            say_line(streams, n, answer);
-            true
+            say_line(streams, n, listed.answer);
+            Ok(())
         }
-        _ => true,
+        _ => Ok(()),
     }
 }
 
-// What the block's answer leads to: frames up to its picture, then the picture and what is said. After a failed write nothing more is done.
-fn shown<'a, I, O: Write, E: Write>(
-    streams: &mut Streams<I, O, E>,
-    n: u64,
-    before: Clip,
-    clip: Clip,
-    answer: Answer,
-    met: Met,
-    idle: Idle,
-    timing: Timing,
-    first: &'a [u8],
-    second: &'a [u8],
-) -> Turn {
-    let filled = fill(streams, timing, before, answer, first, second);
-    let timing_after = filled.timing;
-    let mut all = false;
-    if filled.all {
-        all = follow(streams, n, answer, clip, idle, first, second);
-    }
-    Turn {
-        going: account::going::written(all),
-        clip,
-        met: account::blocks::after(met, answer),
-        idle: account::idle::after(idle, n, answer),
-        timing: timing_after,
-    }
-}
-
+// Frames up to the block's picture, then the picture and what is said. After a failed write nothing more is done.
 fn whole<I, O: Write, E: Write>(
     streams: &mut Streams<I, O, E>,
     n: u64,
     size: Size,
-    clip: Clip,
-    met: Met,
-    idle: Idle,
-    timing: Timing,
+    before: State,
     block: &[u8; 512],
     collection: &mut [u8],
     first: &mut [u8],
     second: &mut [u8],
-) -> Turn {
-    let listed = listing::list(size, clip, block, collection, first, second);
+) -> Result<State, Failure> {
+    let listed = listing::list(size, before.clip, block, collection, first, second);
     let answer = listed.answer;
-    let next = listed.next;
-    account::say_chosen(streams, n, listing::chosen(clip, next));
-    shown(
-        streams, n, clip, next, answer, met, idle, timing, first, second,
-    )
-}
-
-fn short<I, O, E: Write>(
-    streams: &mut Streams<I, O, E>,
-    n: u64,
-    clip: Clip,
-    met: Met,
-    idle: Idle,
-    timing: Timing,
-) -> Turn {
-    say_short(streams, n);
-    Turn {
-        going: Going::Ended,
-        clip,
-        met: account::blocks::short(met),
-        idle,
+    account::say_chosen(streams, n, listing::chosen(before.clip, listed.next));
+    let timing = fill(streams, before.timing, before.clip, answer, first, second)?;
+    follow(streams, n, listed, before.idle, first, second)?;
+    Ok(State {
+        clip: listed.next,
+        met: account::blocks::after(before.met, answer),
+        idle: account::idle::after(before.idle, n, answer),
         timing,
-    }
+    })
 }
 
-fn one<I: Read, O: Write, E: Write>(
-    streams: &mut Streams<I, O, E>,
-    n: u64,
-    size: Size,
-    clip: Clip,
-    met: Met,
-    idle: Idle,
-    timing: Timing,
-    collection: &mut [u8],
-    first: &mut [u8],
-    second: &mut [u8],
-) -> Turn {
-    let mut block = [0u8; 512];
-    let filled = account::input::fill(streams, &mut block);
-    match account::input::next_of(filled) {
-        Next::Block => whole(
-            streams, n, size, clip, met, idle, timing, &block, collection, first, second,
-        ),
-        Next::Short => short(streams, n, clip, met, idle, timing),
-        Next::End => Turn {
-            going: Going::Ended,
-            clip,
-            met,
-            idle,
-            timing,
-        },
-        Next::Unread => Turn {
-            going: Going::Unread,
-            clip,
-            met,
-            idle,
-            timing,
-        },
-    }
-}
+// ---- from the first block to the last
 
-// ---- the end
-
-fn unread<I, O, E: Write>(streams: &mut Streams<I, O, E>) -> End {
-    let why = streams.stdin.failure;
-    account::streams::fail(streams, b"frames: the input could not be read", why);
-    End::Unread
-}
-
-fn unwritten<I, O, E: Write>(streams: &mut Streams<I, O, E>) -> End {
-    let why = streams.failure;
-    account::streams::fail(streams, b"frames: a picture could not be written", why);
-    End::Unwritten
-}
-
-fn end<I, O, E: Write>(
-    streams: &mut Streams<I, O, E>,
-    met: Met,
-    idle: Idle,
-    timing: Timing,
-) -> End {
-    let left = account::idle::drop(idle);
+fn end<I, O, E: Write>(streams: &mut Streams<I, O, E>, state: State) -> Ended {
+    let left = account::idle::drop(state.idle);
     say_idle(streams, left);
     say_rest(streams, left);
-    say_pictures(streams, met.pictures);
-    say_timing(streams, timing);
-    account::blocks::end(met)
-}
-
-fn finish<I, O, E: Write>(
-    streams: &mut Streams<I, O, E>,
-    going: Going,
-    met: Met,
-    idle: Idle,
-    timing: Timing,
-) -> End {
-    match going {
-        Going::Unread => unread(streams),
-        Going::Unwritten => unwritten(streams),
-        _ => end(streams, met, idle, timing),
-    }
+    say_pictures(streams, state.met.pictures);
+    say_timing(streams, state.timing);
+    account::blocks::end(state.met)
 }
 
 // Nothing says that the input ends, so the loop counts its turns.
 fn all<I: Read, O: Write, E: Write>(
     streams: &mut Streams<I, O, E>,
     size: Size,
-    opened: Clip,
+    clip: Clip,
     timed: bool,
     collection: &mut [u8],
     first: &mut [u8],
     second: &mut [u8],
-) -> End {
-    let mut clip = opened;
-    let mut met = account::blocks::open();
-    let mut idle = account::idle::open(0);
-    let mut timing = Timing {
-        timed,
-        repeated: 0,
-        grey: 0,
+) -> Result<Ended, Failure> {
+    begin(streams, size)?;
+    let mut state = State {
+        clip,
+        met: account::blocks::open(),
+        idle: account::idle::open(0),
+        timing: Timing {
+            timed,
+            repeated: 0,
+            grey: 0,
+        },
     };
-    let mut going = account::going::written(begin(streams, size));
-    let mut n: u64 = 0;
-    while n < 18446744073709551615 && account::going::goes_on(going) {
-        let turn = one(
-            streams, n, size, clip, met, idle, timing, collection, first, second,
-        );
-        clip = turn.clip;
-        met = turn.met;
-        idle = turn.idle;
-        timing = turn.timing;
-        going = turn.going;
-        n += 1;
+    for n in 0..u64::MAX {
+        let mut block = [0u8; 512];
+        let filled = account::input::fill(&mut streams.stdin, &mut block);
+        match account::input::next_of(filled)? {
+            Next::Block => {
+                state = whole(streams, n, size, state, &block, collection, first, second)?;
+            }
+            Next::Short => {
+                say_short(streams, n);
+                state.met = account::blocks::short(state.met);
+                break;
+            }
+            Next::End => break,
+        }
     }
-    finish(streams, going, met, idle, timing)
+    Ok(end(streams, state))
 }
 
 // The buffers have room for any size.
@@ -485,7 +334,7 @@ fn run<I: Read, O: Write, E: Write>(
     size: Size,
     clip: Clip,
     timed: bool,
-) -> End {
+) -> Result<Ended, Failure> {
     let bytes = size::collection_length(size);
     let samples = size::store_length(size);
     let mut collection = [0u8; 33000];
@@ -504,21 +353,6 @@ fn run<I: Read, O: Write, E: Write>(
 
 // ---- the words
 
-fn usage<I, O, E: Write>(streams: &mut Streams<I, O, E>) -> End {
-    account::streams::say(
-        streams,
-        b"usage: frames sqcif|qcif|cif [CLIP] [timed] < BLOCKS > PICTURES.y4m, with CLIP from 1 to 65535\n",
-    );
-    End::Misnamed
-}
-
-fn clip_of(number: Option<u16>) -> Clip {
-    match number {
-        Some(number) => Clip::Asked(number),
-        None => Clip::Unknown,
-    }
-}
-
 // How many words there are, the program's own name among them and `timed` not, and the two after it.
 fn of_words<I: Read, O: Write, E: Write>(
     streams: &mut Streams<I, O, E>,
@@ -526,10 +360,15 @@ fn of_words<I: Read, O: Write, E: Write>(
     size: &[u8],
     clip: &[u8],
     timed: bool,
-) -> End {
+) -> Result<Ended, Failure> {
     match arguments::vault_named(count, size, clip) {
-        Some(vault) => run(streams, vault.size, clip_of(vault.clip), timed),
-        None => usage(streams),
+        Some(vault) => run(
+            streams,
+            vault.size,
+            vault.clip.map_or(Clip::Unknown, Clip::Asked),
+            timed,
+        ),
+        None => Err(Failure::Misnamed),
     }
 }
 
@@ -540,19 +379,33 @@ fn of_timed<I: Read, O: Write, E: Write>(
     size: &[u8],
     clip: &[u8],
     last: &[u8],
-) -> End {
+) -> Result<Ended, Failure> {
     if 3 <= count && text::same(last, b"timed") {
         return of_words(streams, count - 1, size, clip, true);
     }
     of_words(streams, count, size, clip, false)
 }
 
-// Which word is the last.
-fn last_of(count: usize) -> usize {
-    if 1 <= count {
-        return count - 1;
+// Why the run ended before its input did.
+fn say_failure<I, O, E: Write>(streams: &mut Streams<I, O, E>, failure: Failure) {
+    match failure {
+        Failure::Misnamed => {
+            let _ = account::streams::say(
+                streams,
+                b"usage: frames sqcif|qcif|cif [CLIP] [timed] < BLOCKS > PICTURES.y4m, with CLIP from 1 to 65535\n",
+            );
+        }
+        Failure::Unread(why) => {
+            account::streams::fail(streams, b"frames: the input could not be read", Some(why));
+        }
+        Failure::Unwritten(why) => {
+            account::streams::fail(
+                streams,
+                b"frames: a picture could not be written",
+                Some(why),
+            );
+        }
     }
-    0
 }
 
 fn main(rt: HostRuntime) -> ExitCode {
@@ -563,7 +416,7 @@ fn main(rt: HostRuntime) -> ExitCode {
     let clips = account::arg(&rt, 2, &mut clip);
     let mut last = [0u8; 16];
     let count = account::arg_count(&rt);
-    let lasts = account::arg(&rt, last_of(count), &mut last);
+    let lasts = account::arg(&rt, count.saturating_sub(1), &mut last);
     let end = of_timed(
         &mut streams,
         count,
@@ -571,5 +424,8 @@ fn main(rt: HostRuntime) -> ExitCode {
         &clip[..clips],
         &last[..lasts],
     );
+    if let Err(failure) = end {
+        say_failure(&mut streams, failure);
+    }
     account::tell_over(&streams, end)
 }

@@ -6,20 +6,18 @@
 //     ./pagesorrel lister qcif 7 < clip.blocks
 #![tactic(auto)]
 
-use account::End;
 use account::blocks::Met;
-use account::going::Going;
 use account::input::Next;
 use account::streams::Streams;
+use account::{Ended, Failure};
 use listing::Clip;
 use size::Size;
 use std::io::{Read, Write};
 use std::process::ExitCode;
 
-// After a turn: whether there is more to do, the clip, and what was met so far.
+// What the blocks so far have led to.
 #[derive(Clone, Copy)]
-struct Turn {
-    going: Going,
+struct State {
     clip: Clip,
     met: Met,
 }
@@ -30,135 +28,82 @@ fn whole<I, O: Write, E: Write>(
     streams: &mut Streams<I, O, E>,
     n: u64,
     size: Size,
-    clip: Clip,
-    met: Met,
+    before: State,
     block: &[u8; 512],
     collection: &mut [u8],
     first: &mut [u8],
     second: &mut [u8],
-) -> Turn {
-    let listed = listing::list(size, clip, block, collection, first, second);
-    let answer = listed.answer;
-    let next = listed.next;
-    account::say_chosen(streams, n, listing::chosen(clip, next));
+) -> Result<State, Failure> {
+    let listed = listing::list(size, before.clip, block, collection, first, second);
+    account::say_chosen(streams, n, listing::chosen(before.clip, listed.next));
     let mut text = [0u8; 128];
-    let count = listing::line(n, answer, &mut text);
-    let all = account::streams::put(streams, &text[..count]);
-    Turn {
-        going: account::going::written(all),
-        clip: next,
-        met: account::blocks::after(met, answer),
-    }
+    let count = listing::line(n, listed.answer, &mut text);
+    account::streams::put(streams, &text[..count])?;
+    Ok(State {
+        clip: listed.next,
+        met: account::blocks::after(before.met, listed.answer),
+    })
 }
 
-fn short<I, O: Write, E>(streams: &mut Streams<I, O, E>, n: u64, clip: Clip, met: Met) -> Turn {
-    let mut text = [0u8; 128];
-    let count = listing::short(n, &mut text);
-    if account::streams::put(streams, &text[..count]) {
-        return Turn {
-            going: Going::Ended,
-            clip,
-            met: account::blocks::short(met),
-        };
-    }
-    Turn {
-        going: Going::Unwritten,
-        clip,
-        met,
-    }
-}
-
-fn one<I: Read, O: Write, E: Write>(
+fn short<I, O: Write, E>(
     streams: &mut Streams<I, O, E>,
     n: u64,
-    size: Size,
-    clip: Clip,
-    met: Met,
-    collection: &mut [u8],
-    first: &mut [u8],
-    second: &mut [u8],
-) -> Turn {
-    let mut block = [0u8; 512];
-    let filled = account::input::fill(streams, &mut block);
-    match account::input::next_of(filled) {
-        Next::Block => whole(
-            streams, n, size, clip, met, &block, collection, first, second,
-        ),
-        Next::Short => short(streams, n, clip, met),
-        Next::End => Turn {
-            going: Going::Ended,
-            clip,
-            met,
-        },
-        Next::Unread => Turn {
-            going: Going::Unread,
-            clip,
-            met,
-        },
-    }
-}
-
-// ---- the end
-
-fn unread<I, O, E: Write>(streams: &mut Streams<I, O, E>) -> End {
-    let why = streams.stdin.failure;
-    account::streams::fail(streams, b"lister: the input could not be read", why);
-    End::Unread
-}
-
-fn unwritten<I, O, E: Write>(streams: &mut Streams<I, O, E>) -> End {
-    let why = streams.failure;
-    account::streams::fail(streams, b"lister: the listing could not be written", why);
-    End::Unwritten
-}
-
-fn end<I, O: Write, E: Write>(streams: &mut Streams<I, O, E>, clip: Clip, met: Met) -> End {
+    before: State,
+) -> Result<State, Failure> {
     let mut text = [0u8; 128];
-    let count = listing::end(clip, &mut text);
-    if account::streams::put(streams, &text[..count]) {
-        return account::blocks::end(met);
-    }
-    unwritten(streams)
+    let count = listing::short(n, &mut text);
+    account::streams::put(streams, &text[..count])?;
+    Ok(State {
+        clip: before.clip,
+        met: account::blocks::short(before.met),
+    })
 }
 
-fn finish<I, O: Write, E: Write>(
-    streams: &mut Streams<I, O, E>,
-    going: Going,
-    clip: Clip,
-    met: Met,
-) -> End {
-    match going {
-        Going::Unread => unread(streams),
-        Going::Unwritten => unwritten(streams),
-        _ => end(streams, clip, met),
-    }
+// ---- from the first block to the last
+
+fn end<I, O: Write, E>(streams: &mut Streams<I, O, E>, state: State) -> Result<Ended, Failure> {
+    let mut text = [0u8; 128];
+    let count = listing::end(state.clip, &mut text);
+    account::streams::put(streams, &text[..count])?;
+    Ok(account::blocks::end(state.met))
 }
 
 // Nothing says that the input ends, so the loop counts its turns.
 fn all<I: Read, O: Write, E: Write>(
     streams: &mut Streams<I, O, E>,
     size: Size,
-    opened: Clip,
+    clip: Clip,
     collection: &mut [u8],
     first: &mut [u8],
     second: &mut [u8],
-) -> End {
-    let mut clip = opened;
-    let mut met = account::blocks::open();
-    let mut going = Going::On;
-    let mut n: u64 = 0;
-    while n < 18446744073709551615 && account::going::goes_on(going) {
-        let turn = one(streams, n, size, clip, met, collection, first, second);
-        clip = turn.clip;
-        met = turn.met;
-        going = turn.going;
-        n += 1;
+) -> Result<Ended, Failure> {
+    let mut state = State {
+        clip,
+        met: account::blocks::open(),
+    };
+    for n in 0..u64::MAX {
+        let mut block = [0u8; 512];
+        let filled = account::input::fill(&mut streams.stdin, &mut block);
+        match account::input::next_of(filled)? {
+            Next::Block => {
+                state = whole(streams, n, size, state, &block, collection, first, second)?;
+            }
+            Next::Short => {
+                state = short(streams, n, state)?;
+                break;
+            }
+            Next::End => break,
+        }
     }
-    finish(streams, going, clip, met)
+    end(streams, state)
 }
 
 // The buffers have room for any size.
-fn run<I: Read, O: Write, E: Write>(streams: &mut Streams<I, O, E>, size: Size, clip: Clip) -> End {
+fn run<I: Read, O: Write, E: Write>(
+    streams: &mut Streams<I, O, E>,
+    size: Size,
+    clip: Clip,
+) -> Result<Ended, Failure> {
     let bytes = size::collection_length(size);
     let samples = size::store_length(size);
     let mut collection = [0u8; 33000];
@@ -176,34 +121,45 @@ fn run<I: Read, O: Write, E: Write>(streams: &mut Streams<I, O, E>, size: Size, 
 
 // ---- the words
 
-fn usage<I, O, E: Write>(streams: &mut Streams<I, O, E>) -> End {
-    account::streams::say(
-        streams,
-        b"usage: lister [sqcif|qcif|cif [CLIP]] < BLOCKS, with CLIP from 1 to 65535\n",
-    );
-    End::Misnamed
-}
-
-fn clip_of(number: Option<u16>) -> Clip {
-    match number {
-        Some(number) => Clip::Asked(number),
-        None => Clip::Unknown,
-    }
-}
-
 // How many words there are, the program's own name among them, and the two after it.
 fn of_words<I: Read, O: Write, E: Write>(
     streams: &mut Streams<I, O, E>,
     count: usize,
     size: &[u8],
     clip: &[u8],
-) -> End {
+) -> Result<Ended, Failure> {
     if count <= 1 {
         return run(streams, Size::Qcif, Clip::Unknown);
     }
     match arguments::vault_named(count, size, clip) {
-        Some(vault) => run(streams, vault.size, clip_of(vault.clip)),
-        None => usage(streams),
+        Some(vault) => run(
+            streams,
+            vault.size,
+            vault.clip.map_or(Clip::Unknown, Clip::Asked),
+        ),
+        None => Err(Failure::Misnamed),
+    }
+}
+
+// Why the run ended before its input did.
+fn say_failure<I, O, E: Write>(streams: &mut Streams<I, O, E>, failure: Failure) {
+    match failure {
+        Failure::Misnamed => {
+            let _ = account::streams::say(
+                streams,
+                b"usage: lister [sqcif|qcif|cif [CLIP]] < BLOCKS, with CLIP from 1 to 65535\n",
+            );
+        }
+        Failure::Unread(why) => {
+            account::streams::fail(streams, b"lister: the input could not be read", Some(why));
+        }
+        Failure::Unwritten(why) => {
+            account::streams::fail(
+                streams,
+                b"lister: the listing could not be written",
+                Some(why),
+            );
+        }
     }
 }
 
@@ -219,5 +175,8 @@ fn main(rt: HostRuntime) -> ExitCode {
         &size[..sizes],
         &clip[..clips],
     );
+    if let Err(failure) = end {
+        say_failure(&mut streams, failure);
+    }
     account::tell_over(&streams, end)
 }

@@ -8,7 +8,7 @@ use standing::{Last, Receiver, Standing};
 use ticks::Tick;
 
 // How many frames: the last picture again, or grey.
-#[derive(Clone, Copy)]
+#[derive(Clone, Copy, PartialEq, Eq)]
 pub enum Between {
     Repeated(u32),
     Grey(u32),

@@ -3,8 +3,8 @@ ghost use Rattle.std.specs.Prelude.{◌≤◌, length};
 
 use crate::recording;
 use crate::recording::{Recording, Whole};
-use account::End;
 use account::streams::Streams;
+use account::{Ended, Failure};
 use h261_groups::Format;
 use std::io::Write;
 use stream::Stream;
@@ -42,10 +42,10 @@ fn close<I, O: Write, E: Write>(
     picture: &[u8],
     first: &mut [u8],
     second: &mut [u8],
-) -> H261Pack {
+) -> Result<H261Pack, Failure> {
     let stream = before.stream;
     if !stream.begun {
-        return before;
+        return Ok(before);
     }
     let format = before.format;
     let recording = before.recording;
@@ -58,10 +58,10 @@ fn close<I, O: Write, E: Write>(
         picture,
         first,
         second,
-    );
+    )?;
     let mut pack = before;
     pack.recording = next;
-    pack
+    Ok(pack)
 }
 
 // A start code ends with the next bit, which is the last of its zeros: the picture before it is whole.
@@ -71,7 +71,7 @@ fn start<I, O: Write, E: Write>(
     picture: &mut [u8],
     first: &mut [u8],
     second: &mut [u8],
-) -> H261Pack {
+) -> Result<H261Pack, Failure> {
     let stream = before.stream;
     let count = bits_before(stream.count);
     let mut pack = close(
@@ -82,16 +82,16 @@ fn start<I, O: Write, E: Write>(
         picture,
         first,
         second,
-    );
+    )?;
     let next = stream::push(stream, false, picture);
     pack.stream = next;
     if stream.begun {
-        return pack;
+        return Ok(pack);
     }
     let recording = pack.recording;
     let begun = recording::begin(streams, recording, next.offset);
     pack.recording = begun;
-    pack
+    Ok(pack)
 }
 
 // What was read of the stream, from one start code to the next.
@@ -102,7 +102,7 @@ pub fn chunk<I, O: Write, E: Write>(
     picture: &mut [u8],
     first: &mut [u8],
     second: &mut [u8],
-) -> H261Pack
+) -> Result<H261Pack, Failure>
     requires { length bytes.now ≤ 4096 }
 {
     let mut pack = before;
@@ -114,12 +114,12 @@ pub fn chunk<I, O: Write, E: Write>(
         let there = passed.at;
         pack.stream = next;
         if bytes.len() <= there / 8 {
-            return pack;
+            return Ok(pack);
         }
-        pack = start(streams, pack, picture, first, second);
+        pack = start(streams, pack, picture, first, second)?;
         at = there + 1;
     }
-    pack
+    Ok(pack)
 }
 
 // The picture at the stream's end.
@@ -129,7 +129,7 @@ pub fn end<I, O: Write, E: Write>(
     picture: &[u8],
     first: &mut [u8],
     second: &mut [u8],
-) -> End {
+) -> Result<Ended, Failure> {
     let stream = before.stream;
     let pack = close(
         streams,
@@ -139,7 +139,7 @@ pub fn end<I, O: Write, E: Write>(
         picture,
         first,
         second,
-    );
+    )?;
     let recording = pack.recording;
-    recording::end(streams, recording, stream.begun, stream.place / 8)
+    Ok(recording::end(streams, recording, stream.begun, stream.place / 8))
 }

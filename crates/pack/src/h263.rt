@@ -1,8 +1,8 @@
 // A raw H.263 stream packed: each picture reaches from its start code, at a byte, to the next one or an end code, or to the stream's end.
 use crate::recording;
 use crate::recording::{Recording, Whole};
-use account::End;
 use account::streams::Streams;
+use account::{Ended, Failure};
 use h263_stream::Stream;
 use size::Size;
 use std::io::Write;
@@ -39,10 +39,10 @@ fn close<I, O: Write, E: Write>(
     picture: &[u8],
     first: &mut [u8],
     second: &mut [u8],
-) -> H263Pack {
+) -> Result<H263Pack, Failure> {
     let stream = before.stream;
     if !stream.ongoing {
-        return before;
+        return Ok(before);
     }
     let size = before.size;
     let recording = before.recording;
@@ -55,10 +55,10 @@ fn close<I, O: Write, E: Write>(
         picture,
         first,
         second,
-    );
+    )?;
     let mut pack = before;
     pack.recording = next;
-    pack
+    Ok(pack)
 }
 
 // The next byte completes a code: the picture before it is whole.
@@ -69,21 +69,21 @@ fn complete<I, O: Write, E: Write>(
     picture: &mut [u8],
     first: &mut [u8],
     second: &mut [u8],
-) -> H263Pack {
+) -> Result<H263Pack, Failure> {
     let stream = before.stream;
     let count = bytes_before(stream.count);
-    let mut pack = close(streams, before, count, picture, first, second);
+    let mut pack = close(streams, before, count, picture, first, second)?;
     let next = h263_stream::push(stream, byte, picture);
     pack.stream = next;
     if stream.begun {
-        return pack;
+        return Ok(pack);
     }
     if next.begun {
         let recording = pack.recording;
         let begun = recording::begin(streams, recording, next.offset);
         pack.recording = begun;
     }
-    pack
+    Ok(pack)
 }
 
 // What was read of the stream, from one code to the next.
@@ -94,7 +94,7 @@ pub fn chunk<I, O: Write, E: Write>(
     picture: &mut [u8],
     first: &mut [u8],
     second: &mut [u8],
-) -> H263Pack {
+) -> Result<H263Pack, Failure> {
     let mut pack = before;
     let mut at: usize = 0;
     while at < bytes.len() {
@@ -104,12 +104,12 @@ pub fn chunk<I, O: Write, E: Write>(
         let there = passed.at;
         pack.stream = next;
         if bytes.len() <= there {
-            return pack;
+            return Ok(pack);
         }
-        pack = complete(streams, pack, bytes[there], picture, first, second);
+        pack = complete(streams, pack, bytes[there], picture, first, second)?;
         at = there + 1;
     }
-    pack
+    Ok(pack)
 }
 
 // The picture at the stream's end.
@@ -119,9 +119,9 @@ pub fn end<I, O: Write, E: Write>(
     picture: &[u8],
     first: &mut [u8],
     second: &mut [u8],
-) -> End {
+) -> Result<Ended, Failure> {
     let stream = before.stream;
-    let pack = close(streams, before, stream.count, picture, first, second);
+    let pack = close(streams, before, stream.count, picture, first, second)?;
     let recording = pack.recording;
-    recording::end(streams, recording, stream.begun, stream.place)
+    Ok(recording::end(streams, recording, stream.begun, stream.place))
 }

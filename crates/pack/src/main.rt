@@ -11,9 +11,8 @@ ghost use Rattle.std.specs.Prelude.{◌≤◌, length};
 
 use crate::h261::H261Pack;
 use crate::h263::H263Pack;
-use crate::recording::Recording;
-use account::End;
 use account::streams::Streams;
+use account::{Ended, Failure};
 use coding::Kind;
 use sender::Sender;
 use std::io::{IsTerminal, Read, Write};
@@ -29,14 +28,6 @@ enum Pack {
     H263(H263Pack),
 }
 
-// Whether there is more to read, whether it can be read, and what came of it so far.
-#[derive(Clone, Copy)]
-struct Turn {
-    more: bool,
-    reads: bool,
-    pack: Pack,
-}
-
 // ---- the stream, by its standard
 
 fn open(sender: Sender, terminal: bool) -> Pack {
@@ -45,13 +36,6 @@ fn open(sender: Sender, terminal: bool) -> Pack {
     match kind {
         Kind::H261(format) => Pack::H261(h261::open(format, recording)),
         Kind::H263(size) => Pack::H263(h263::open(size, recording)),
-    }
-}
-
-fn recording_of(pack: Pack) -> Recording {
-    match pack {
-        Pack::H261(so_far) => so_far.recording,
-        Pack::H263(so_far) => so_far.recording,
     }
 }
 
@@ -72,30 +56,28 @@ fn chunk<I, O: Write, E: Write>(
     picture: &mut [u8],
     first: &mut [u8],
     second: &mut [u8],
-) -> Pack
+) -> Result<Pack, Failure>
     requires { length bytes.now ≤ 4096 }
 {
     match pack {
-        Pack::H261(before) => Pack::H261(h261::chunk(
-            streams, before, bytes, picture, first, second,
-        )),
-        Pack::H263(before) => Pack::H263(h263::chunk(
-            streams, before, bytes, picture, first, second,
-        )),
+        Pack::H261(before) => {
+            let next = h261::chunk(streams, before, bytes, picture, first, second)?;
+            Ok(Pack::H261(next))
+        }
+        Pack::H263(before) => {
+            let next = h263::chunk(streams, before, bytes, picture, first, second)?;
+            Ok(Pack::H263(next))
+        }
     }
 }
 
-fn ended<I, O: Write, E: Write>(
+fn end<I, O: Write, E: Write>(
     streams: &mut Streams<I, O, E>,
     pack: Pack,
-    reads: bool,
     picture: &[u8],
     first: &mut [u8],
     second: &mut [u8],
-) -> End {
-    if !reads {
-        return recording::unread(streams, recording_of(pack));
-    }
+) -> Result<Ended, Failure> {
     match pack {
         Pack::H261(before) => h261::end(streams, before, picture, first, second),
         Pack::H263(before) => h263::end(streams, before, picture, first, second),
@@ -104,44 +86,34 @@ fn ended<I, O: Write, E: Write>(
 
 // ---- from its beginning to its end
 
-fn one<I: Read, O: Write, E: Write>(
-    streams: &mut Streams<I, O, E>,
-    pack: Pack,
-    picture: &mut [u8],
-    first: &mut [u8],
-    second: &mut [u8],
-) -> Turn {
-    let mut input = [0u8; 4096];
-    let filled = account::input::fill(streams, &mut input);
-    let got = filled.count;
-    let next = chunk(streams, pack, &input[..got], picture, first, second);
-    Turn {
-        more: recording::goes_on(recording_of(next), got),
-        reads: !filled.failed,
-        pack: next,
-    }
-}
-
-// The stream, and the picture at its end. Nothing says that the input ends, so the loop counts its turns.
+// The stream, and the picture at its end. What came before a read that failed is packed. Nothing says that the input ends, so the loop counts its turns.
 fn all<I: Read, O: Write, E: Write>(
     streams: &mut Streams<I, O, E>,
     opened: Pack,
     picture: &mut [u8],
     first: &mut [u8],
     second: &mut [u8],
-) -> End {
+) -> Result<Ended, Failure> {
     let mut pack = opened;
-    let mut more = true;
-    let mut reads = true;
-    let mut n: u64 = 0;
-    while n < 18446744073709551615 && more {
-        let turn = one(streams, pack, picture, first, second);
-        pack = turn.pack;
-        more = turn.more;
-        reads = turn.reads;
-        n += 1;
+    for _ in 0..u64::MAX {
+        let mut input = [0u8; 4096];
+        let filled = account::input::fill(&mut streams.stdin, &mut input);
+        pack = chunk(
+            streams,
+            pack,
+            &input[..filled.count],
+            picture,
+            first,
+            second,
+        )?;
+        if let Some(why) = filled.failure {
+            return Err(Failure::Unread(why));
+        }
+        if filled.count < input.len() {
+            break;
+        }
     }
-    ended(streams, pack, reads, picture, first, second)
+    end(streams, pack, picture, first, second)
 }
 
 // The buffers that last as long as the stream have room for any size.
@@ -149,7 +121,7 @@ fn record<I: Read, O: Write, E: Write>(
     streams: &mut Streams<I, O, E>,
     sender: Sender,
     terminal: bool,
-) -> End {
+) -> Result<Ended, Failure> {
     let kind = sender.kind;
     let size = coding::size_of(kind);
     let bytes = room(kind);
@@ -168,23 +140,15 @@ fn record<I: Read, O: Write, E: Write>(
 
 // ---- the words
 
-fn usage<I, O, E: Write>(streams: &mut Streams<I, O, E>) -> End {
-    account::streams::say(
-        streams,
-        b"usage: pack qcif|cif|h263-sqcif|h263-qcif|h263-cif CLIP < STREAM > BLOCKS, with CLIP from 1 to 65535\n",
-    );
-    End::Misnamed
-}
-
 fn begin<I: Read, O: Write, E: Write>(
     streams: &mut Streams<I, O, E>,
     kind: Kind,
     clip: u16,
     terminal: bool,
-) -> End {
+) -> Result<Ended, Failure> {
     match sender::open(clip, kind) {
         Ok(sender) => record(streams, sender, terminal),
-        Err(_) => usage(streams),
+        Err(_) => Err(Failure::Misnamed),
     }
 }
 
@@ -194,13 +158,33 @@ fn of_words<I: Read, O: Write, E: Write>(
     kind: &[u8],
     clip: &[u8],
     terminal: bool,
-) -> End {
+) -> Result<Ended, Failure> {
     if count != 3 {
-        return usage(streams);
+        return Err(Failure::Misnamed);
     }
     match (arguments::kind_named(kind), arguments::clip_named(clip)) {
         (Some(named), Some(number)) => begin(streams, named, number, terminal),
-        _ => usage(streams),
+        _ => Err(Failure::Misnamed),
+    }
+}
+
+// Why the stream was not packed to its end.
+fn say_failure<I, O, E: Write>(streams: &mut Streams<I, O, E>, terminal: bool, failure: Failure) {
+    match failure {
+        Failure::Misnamed => {
+            let _ = account::streams::say(
+                streams,
+                b"usage: pack qcif|cif|h263-sqcif|h263-qcif|h263-cif CLIP < STREAM > BLOCKS, with CLIP from 1 to 65535\n",
+            );
+        }
+        Failure::Unread(why) => {
+            let what = b"pack: the stream could not be read";
+            recording::say_failure(streams, terminal, what, why);
+        }
+        Failure::Unwritten(why) => {
+            let what = b"pack: a picture's blocks could not be written";
+            recording::say_failure(streams, terminal, what, why);
+        }
     }
 }
 
@@ -210,12 +194,16 @@ fn main(rt: HostRuntime) -> ExitCode {
     let mut clip = [0u8; 16];
     let kinds = account::arg(&rt, 1, &mut kind);
     let clips = account::arg(&rt, 2, &mut clip);
+    let terminal = rt.stderr().is_terminal();
     let end = of_words(
         &mut streams,
         account::arg_count(&rt),
         &kind[..kinds],
         &clip[..clips],
-        rt.stderr().is_terminal(),
+        terminal,
     );
+    if let Err(failure) = end {
+        say_failure(&mut streams, terminal, failure);
+    }
     account::tell_over(&streams, end)
 }

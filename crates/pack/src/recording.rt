@@ -1,20 +1,20 @@
 // The pictures of a stream recorded as a clip, and what is said of them: the same for both standards.
 ghost use Rattle.coding.specs.Described.{RoomIn};
 
-use account::End;
 use account::streams::Streams;
+use account::{Ended, Failure};
 use coding::Kind;
 use h261_groups::Format;
 use refusals::Refusal;
 use sender::Sender;
 use size::Size;
-use std::io::Write;
+use std::io;
+use std::io::{ErrorKind, Write};
 
-// The sender so far; whether the blocks can still be written; whether something was cut; whether a terminal shows how far it has come.
+// The sender so far; whether something was cut; whether a terminal shows how far it has come.
 #[derive(Clone, Copy)]
 pub struct Recording {
     pub sender: Sender,
-    pub writes: bool,
     pub cut: bool,
     pub terminal: bool,
 }
@@ -29,7 +29,6 @@ pub enum Whole {
 pub fn open(sender: Sender, terminal: bool) -> Recording {
     Recording {
         sender,
-        writes: true,
         cut: false,
         terminal,
     }
@@ -40,7 +39,7 @@ pub fn open(sender: Sender, terminal: bool) -> Recording {
 // The line that a terminal shows last makes room for another.
 fn clear<I, O, E: Write>(streams: &mut Streams<I, O, E>, terminal: bool) {
     if terminal {
-        account::streams::say(streams, b"\r\x1b[K");
+        let _ = account::streams::say(streams, b"\r\x1b[K");
     }
 }
 
@@ -53,14 +52,14 @@ fn say_progress<I, O, E: Write>(
     if terminal {
         let mut text = [0u8; 128];
         let count = text::remarks::progress(pictures as u64, offset as u64, &mut text);
-        account::streams::say(streams, &text[..count]);
+        let _ = account::streams::say(streams, &text[..count]);
     }
 }
 
 // The last such line stays.
 fn end_progress<I, O, E: Write>(streams: &mut Streams<I, O, E>, terminal: bool) {
     if terminal {
-        account::streams::say(streams, b"\n");
+        let _ = account::streams::say(streams, b"\n");
     }
 }
 
@@ -73,7 +72,7 @@ fn say_refused<I, O, E: Write>(
     clear(streams, terminal);
     let mut text = [0u8; 128];
     let count = text::remarks::refused(offset as u64, why, &mut text);
-    account::streams::say(streams, &text[..count]);
+    let _ = account::streams::say(streams, &text[..count]);
 }
 
 // What stands before the first picture.
@@ -81,19 +80,19 @@ fn say_before<I, O, E: Write>(streams: &mut Streams<I, O, E>, terminal: bool, by
     clear(streams, terminal);
     let mut text = [0u8; 128];
     let count = account::remarks::before(bytes as u64, &mut text);
-    account::streams::say(streams, &text[..count]);
+    let _ = account::streams::say(streams, &text[..count]);
 }
 
 fn say_nothing<I, O, E: Write>(streams: &mut Streams<I, O, E>, bytes: usize) {
     let mut text = [0u8; 128];
     let count = account::remarks::nothing(bytes as u64, &mut text);
-    account::streams::say(streams, &text[..count]);
+    let _ = account::streams::say(streams, &text[..count]);
 }
 
 fn say_pictures<I, O, E: Write>(streams: &mut Streams<I, O, E>, pictures: u32) {
     let mut text = [0u8; 128];
     let count = text::remarks::pictures(pictures as u64, &mut text);
-    account::streams::say(streams, &text[..count]);
+    let _ = account::streams::say(streams, &text[..count]);
 }
 
 // ---- a picture
@@ -112,14 +111,18 @@ fn refused<I, O, E: Write>(
 }
 
 // The first blocks of `out`. It has room for all that the sender writes, so the tests never fail.
-fn put_blocks<I, O: Write, E>(streams: &mut Streams<I, O, E>, blocks: usize, out: &[u8]) -> bool {
+fn put_blocks<I, O: Write, E>(
+    streams: &mut Streams<I, O, E>,
+    blocks: usize,
+    out: &[u8],
+) -> Result<(), Failure> {
     if blocks <= 66 {
         let end = 512 * blocks;
         if end <= out.len() {
             return account::streams::put(streams, &out[..end]);
         }
     }
-    false
+    Err(Failure::Unwritten(ErrorKind::WriteZero.into()))
 }
 
 // A description goes under the next number.
@@ -133,22 +136,20 @@ fn send<I, O: Write, E: Write>(
     out: &mut [u8],
     first: &mut [u8],
     second: &mut [u8],
-) -> Recording {
-    let sender = before.sender;
-    let sent = sender::send(sender, head, macroblocks, levels, out, first, second);
-    let answer = sent.answer;
+) -> Result<Recording, Failure> {
+    let sent = sender::send(before.sender, head, macroblocks, levels, out, first, second);
     let next = sent.next;
-    let mut recording = before;
-    recording.sender = next;
-    match answer {
+    let recording = Recording {
+        sender: next,
+        ..before
+    };
+    match sent.answer {
         Ok(blocks) => {
-            recording.writes = put_blocks(streams, blocks, out);
-            if recording.writes {
-                say_progress(streams, recording.terminal, next.picture, offset);
-            }
-            recording
+            put_blocks(streams, blocks, out)?;
+            say_progress(streams, recording.terminal, next.picture, offset);
+            Ok(recording)
         }
-        Err(why) => refused(streams, recording, offset, why),
+        Err(why) => Ok(refused(streams, recording, offset, why)),
     }
 }
 
@@ -182,7 +183,7 @@ fn finish_in<I, O: Write, E: Write>(
     out: &mut [u8],
     first: &mut [u8],
     second: &mut [u8],
-) -> Recording {
+) -> Result<Recording, Failure> {
     match read(whole, picture, head, macroblocks, levels) {
         Ok(()) => send(
             streams,
@@ -195,7 +196,7 @@ fn finish_in<I, O: Write, E: Write>(
             first,
             second,
         ),
-        Err(why) => refused(streams, recording, offset, why),
+        Err(why) => Ok(refused(streams, recording, offset, why)),
     }
 }
 
@@ -211,7 +212,7 @@ fn finish_small<I, O: Write, E: Write>(
     picture: &[u8],
     first: &mut [u8],
     second: &mut [u8],
-) -> Recording
+) -> Result<Recording, Failure>
     requires { RoomIn 14 396 38016 kind }
 {
     let mut head = [0u8; 14];
@@ -246,7 +247,7 @@ fn finish_large<I, O: Write, E: Write>(
     picture: &[u8],
     first: &mut [u8],
     second: &mut [u8],
-) -> Recording
+) -> Result<Recording, Failure>
     requires { RoomIn 23 1584 152064 kind }
 {
     let mut head = [0u8; 23];
@@ -280,10 +281,7 @@ pub fn finish<I, O: Write, E: Write>(
     picture: &[u8],
     first: &mut [u8],
     second: &mut [u8],
-) -> Recording {
-    if !recording.writes {
-        return recording;
-    }
+) -> Result<Recording, Failure> {
     let sender = recording.sender;
     let kind = sender.kind;
     let size = coding::size_of(kind);
@@ -317,33 +315,15 @@ pub fn begin<I, O, E: Write>(
 
 // ---- the end
 
-// There is more where the input filled the buffer, as long as blocks can be written.
-pub fn goes_on(recording: Recording, got: usize) -> bool {
-    if recording.writes {
-        return got == 4096;
-    }
-    false
-}
-
-fn unwritten<I, O, E: Write>(streams: &mut Streams<I, O, E>, terminal: bool) -> End {
+// Why the stream was not packed to its end: the line that a terminal shows makes room for it.
+pub fn say_failure<I, O, E: Write>(
+    streams: &mut Streams<I, O, E>,
+    terminal: bool,
+    what: &[u8],
+    why: io::Error,
+) {
     clear(streams, terminal);
-    let why = streams.failure;
-    account::streams::fail(
-        streams,
-        b"pack: a picture's blocks could not be written",
-        why,
-    );
-    End::Unwritten
-}
-
-pub fn unread<I, O, E: Write>(streams: &mut Streams<I, O, E>, recording: Recording) -> End {
-    if !recording.writes {
-        return unwritten(streams, recording.terminal);
-    }
-    clear(streams, recording.terminal);
-    let why = streams.stdin.failure;
-    account::streams::fail(streams, b"pack: the stream could not be read", why);
-    End::Unread
+    account::streams::fail(streams, what, Some(why));
 }
 
 // A stream of so many bytes, in which a picture has begun or none has.
@@ -352,16 +332,19 @@ pub fn end<I, O, E: Write>(
     recording: Recording,
     begun: bool,
     bytes: usize,
-) -> End {
-    if !recording.writes {
-        return unwritten(streams, recording.terminal);
-    }
+) -> Ended {
     if !begun {
         say_nothing(streams, bytes);
-        return End::Done(false, 0);
+        return Ended {
+            cut: false,
+            count: 0,
+        };
     }
     let sender = recording.sender;
     end_progress(streams, recording.terminal);
     say_pictures(streams, sender.picture);
-    End::Done(recording.cut, sender.picture as u64)
+    Ended {
+        cut: recording.cut,
+        count: sender.picture as u64,
+    }
 }

@@ -8,11 +8,10 @@
 //     ./pagesorrel reads qcif 7 < clip.blocks
 #![tactic(auto)]
 
-use account::End;
 use account::blocks::Met;
-use account::going::Going;
 use account::input::Next;
 use account::streams::Streams;
+use account::{Ended, Failure};
 use coding::Kind;
 use listing::Clip;
 use size::Size;
@@ -20,10 +19,9 @@ use standing::Answer;
 use std::io::{Read, Write};
 use std::process::ExitCode;
 
-// After a turn: whether there is more to do, the clip, and what was met so far.
+// What the blocks so far have led to.
 #[derive(Clone, Copy)]
-struct Turn {
-    going: Going,
+struct State {
     clip: Clip,
     met: Met,
 }
@@ -37,14 +35,14 @@ fn say_reads<I, O: Write, E>(
     answer: Answer,
     bits: usize,
     collection: &[u8],
-) -> bool {
+) -> Result<(), Failure> {
     let reads = counting::reads(kind, collection, bits);
     let mut text = [0u8; 256];
     let count = counting::line(n, answer, bits, reads, &mut text);
     account::streams::put(streams, &text[..count])
 }
 
-// Where the block ended a picture, its line; whether it was written. A clip that ended one is known.
+// Where the block ended a picture, its line. A clip that ended one is known.
 fn say<I, O: Write, E>(
     streams: &mut Streams<I, O, E>,
     n: u64,
@@ -52,16 +50,12 @@ fn say<I, O: Write, E>(
     answer: Answer,
     ending: Option<usize>,
     collection: &[u8],
-) -> bool {
-    match ending {
-        None => true,
-        Some(bits) => match clip {
-            Clip::Known(receiver) => {
-                let kind = receiver.kind;
-                say_reads(streams, n, kind, answer, bits, collection)
-            }
-            _ => true,
-        },
+) -> Result<(), Failure> {
+    match (ending, clip) {
+        (Some(bits), Clip::Known(receiver)) => {
+            say_reads(streams, n, receiver.kind, answer, bits, collection)
+        }
+        _ => Ok(()),
     }
 }
 
@@ -71,135 +65,82 @@ fn whole<I, O: Write, E: Write>(
     streams: &mut Streams<I, O, E>,
     n: u64,
     size: Size,
-    clip: Clip,
-    met: Met,
+    before: State,
     block: &[u8; 512],
     collection: &mut [u8],
     first: &mut [u8],
     second: &mut [u8],
-) -> Turn {
-    let ending = counting::ended(size, clip, block, collection, first, second);
-    let listed = listing::list(size, clip, block, collection, first, second);
-    let answer = listed.answer;
-    let next = listed.next;
-    account::say_chosen(streams, n, listing::chosen(clip, next));
-    let all = say(streams, n, next, answer, ending, collection);
-    Turn {
-        going: account::going::written(all),
-        clip: next,
-        met: account::blocks::after(met, answer),
-    }
+) -> Result<State, Failure> {
+    let ending = counting::ended(size, before.clip, block, collection, first, second);
+    let listed = listing::list(size, before.clip, block, collection, first, second);
+    account::say_chosen(streams, n, listing::chosen(before.clip, listed.next));
+    say(streams, n, listed.next, listed.answer, ending, collection)?;
+    Ok(State {
+        clip: listed.next,
+        met: account::blocks::after(before.met, listed.answer),
+    })
 }
 
-fn short<I, O: Write, E>(streams: &mut Streams<I, O, E>, n: u64, clip: Clip, met: Met) -> Turn {
-    let mut text = [0u8; 128];
-    let count = listing::short(n, &mut text);
-    if account::streams::put(streams, &text[..count]) {
-        return Turn {
-            going: Going::Ended,
-            clip,
-            met: account::blocks::short(met),
-        };
-    }
-    Turn {
-        going: Going::Unwritten,
-        clip,
-        met,
-    }
-}
-
-fn one<I: Read, O: Write, E: Write>(
+fn short<I, O: Write, E>(
     streams: &mut Streams<I, O, E>,
     n: u64,
-    size: Size,
-    clip: Clip,
-    met: Met,
-    collection: &mut [u8],
-    first: &mut [u8],
-    second: &mut [u8],
-) -> Turn {
-    let mut block = [0u8; 512];
-    let filled = account::input::fill(streams, &mut block);
-    match account::input::next_of(filled) {
-        Next::Block => whole(
-            streams, n, size, clip, met, &block, collection, first, second,
-        ),
-        Next::Short => short(streams, n, clip, met),
-        Next::End => Turn {
-            going: Going::Ended,
-            clip,
-            met,
-        },
-        Next::Unread => Turn {
-            going: Going::Unread,
-            clip,
-            met,
-        },
-    }
-}
-
-// ---- the end
-
-fn unread<I, O, E: Write>(streams: &mut Streams<I, O, E>) -> End {
-    let why = streams.stdin.failure;
-    account::streams::fail(streams, b"reads: the input could not be read", why);
-    End::Unread
-}
-
-fn unwritten<I, O, E: Write>(streams: &mut Streams<I, O, E>) -> End {
-    let why = streams.failure;
-    account::streams::fail(streams, b"reads: a line could not be written", why);
-    End::Unwritten
-}
-
-fn end<I, O: Write, E: Write>(streams: &mut Streams<I, O, E>, clip: Clip, met: Met) -> End {
+    before: State,
+) -> Result<State, Failure> {
     let mut text = [0u8; 128];
-    let count = listing::end(clip, &mut text);
-    if account::streams::put(streams, &text[..count]) {
-        return account::blocks::end(met);
-    }
-    unwritten(streams)
+    let count = listing::short(n, &mut text);
+    account::streams::put(streams, &text[..count])?;
+    Ok(State {
+        clip: before.clip,
+        met: account::blocks::short(before.met),
+    })
 }
 
-fn finish<I, O: Write, E: Write>(
-    streams: &mut Streams<I, O, E>,
-    going: Going,
-    clip: Clip,
-    met: Met,
-) -> End {
-    match going {
-        Going::Unread => unread(streams),
-        Going::Unwritten => unwritten(streams),
-        _ => end(streams, clip, met),
-    }
+// ---- from the first block to the last
+
+fn end<I, O: Write, E>(streams: &mut Streams<I, O, E>, state: State) -> Result<Ended, Failure> {
+    let mut text = [0u8; 128];
+    let count = listing::end(state.clip, &mut text);
+    account::streams::put(streams, &text[..count])?;
+    Ok(account::blocks::end(state.met))
 }
 
 // Nothing says that the input ends, so the loop counts its turns.
 fn all<I: Read, O: Write, E: Write>(
     streams: &mut Streams<I, O, E>,
     size: Size,
-    opened: Clip,
+    clip: Clip,
     collection: &mut [u8],
     first: &mut [u8],
     second: &mut [u8],
-) -> End {
-    let mut clip = opened;
-    let mut met = account::blocks::open();
-    let mut going = Going::On;
-    let mut n: u64 = 0;
-    while n < 18446744073709551615 && account::going::goes_on(going) {
-        let turn = one(streams, n, size, clip, met, collection, first, second);
-        clip = turn.clip;
-        met = turn.met;
-        going = turn.going;
-        n += 1;
+) -> Result<Ended, Failure> {
+    let mut state = State {
+        clip,
+        met: account::blocks::open(),
+    };
+    for n in 0..u64::MAX {
+        let mut block = [0u8; 512];
+        let filled = account::input::fill(&mut streams.stdin, &mut block);
+        match account::input::next_of(filled)? {
+            Next::Block => {
+                state = whole(streams, n, size, state, &block, collection, first, second)?;
+            }
+            Next::Short => {
+                state = short(streams, n, state)?;
+                break;
+            }
+            Next::End => break,
+        }
     }
-    finish(streams, going, clip, met)
+    end(streams, state)
 }
 
 // The buffers have room for any size.
 #[tactic(auto, using(size::proofs::Room::collection_most, size::proofs::Room::store_most))]
-fn run<I: Read, O: Write, E: Write>(streams: &mut Streams<I, O, E>, size: Size, clip: Clip) -> End {
+fn run<I: Read, O: Write, E: Write>(
+    streams: &mut Streams<I, O, E>,
+    size: Size,
+    clip: Clip,
+) -> Result<Ended, Failure> {
     let bytes = size::collection_length(size);
     let samples = size::store_length(size);
     let mut collection = [0u8; 33000];
@@ -217,31 +158,38 @@ fn run<I: Read, O: Write, E: Write>(streams: &mut Streams<I, O, E>, size: Size, 
 
 // ---- the words
 
-fn usage<I, O, E: Write>(streams: &mut Streams<I, O, E>) -> End {
-    account::streams::say(
-        streams,
-        b"usage: reads sqcif|qcif|cif [CLIP] < BLOCKS, with CLIP from 1 to 65535\n",
-    );
-    End::Misnamed
-}
-
-fn clip_of(number: Option<u16>) -> Clip {
-    match number {
-        Some(number) => Clip::Asked(number),
-        None => Clip::Unknown,
-    }
-}
-
 // How many words there are, the program's own name among them, and the two after it.
 fn of_words<I: Read, O: Write, E: Write>(
     streams: &mut Streams<I, O, E>,
     count: usize,
     size: &[u8],
     clip: &[u8],
-) -> End {
+) -> Result<Ended, Failure> {
     match arguments::vault_named(count, size, clip) {
-        Some(vault) => run(streams, vault.size, clip_of(vault.clip)),
-        None => usage(streams),
+        Some(vault) => run(
+            streams,
+            vault.size,
+            vault.clip.map_or(Clip::Unknown, Clip::Asked),
+        ),
+        None => Err(Failure::Misnamed),
+    }
+}
+
+// Why the run ended before its input did.
+fn say_failure<I, O, E: Write>(streams: &mut Streams<I, O, E>, failure: Failure) {
+    match failure {
+        Failure::Misnamed => {
+            let _ = account::streams::say(
+                streams,
+                b"usage: reads sqcif|qcif|cif [CLIP] < BLOCKS, with CLIP from 1 to 65535\n",
+            );
+        }
+        Failure::Unread(why) => {
+            account::streams::fail(streams, b"reads: the input could not be read", Some(why));
+        }
+        Failure::Unwritten(why) => {
+            account::streams::fail(streams, b"reads: a line could not be written", Some(why));
+        }
     }
 }
 
@@ -257,5 +205,8 @@ fn main(rt: HostRuntime) -> ExitCode {
         &size[..sizes],
         &clip[..clips],
     );
+    if let Err(failure) = end {
+        say_failure(&mut streams, failure);
+    }
     account::tell_over(&streams, end)
 }

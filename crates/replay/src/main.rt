@@ -6,12 +6,12 @@
 //     ./pagesorrel replay < clips/testsrc2-qcif-coarse.line > stream.h261
 #![tactic(auto)]
 
-ghost use Rattle.std.specs.Prelude.{◌≡◌, ◌+◌, ◌*◌, ◌≤◌, ◌<◌, length};
+ghost use Rattle.std.specs.Prelude.{◌≡◌, ◌+◌, ◌*◌, ◌≤◌, ◌<◌, length, IfOk};
 ghost use Rattle.bch.specs.Frame.{byte_steps};
 
-use account::End;
 use account::input::Filled;
 use account::streams::Streams;
+use account::{Ended, Failure};
 use capture::Came;
 use std::io::{Read, Write};
 use std::process::ExitCode;
@@ -25,46 +25,36 @@ struct State {
     // The data bits that have been written, and those that wait.
     given: u64,
     waiting: usize,
-    // Whether the frames have locked, whether one was not mended, whether there is more to read.
+    // Whether the frames have locked, and whether one was not mended.
     locked: bool,
     cut: bool,
-    more: bool,
-    // Whether the recording can be read, and what is written is taken.
-    reads: bool,
-    writes: bool,
-}
-
-fn wide(n: usize) -> u64
-    ensures { result ≡ n }
-{
-    n as u64
 }
 
 // Bits are counted up to the largest number.
 fn plus(a: u64, n: usize) -> u64 {
-    let b = wide(n);
-    if 18446744073709551615 - a < b {
-        return 18446744073709551615;
-    }
-    a + b
+    a.saturating_add(n as u64)
 }
 
 fn say<I, O, E: Write>(streams: &mut Streams<I, O, E>, words: &[u8], number: u64) {
-    account::streams::say(streams, words);
-    account::streams::say_number(streams, number);
-    account::streams::say(streams, b"\n");
+    let _ = account::streams::say(streams, words);
+    let _ = account::streams::say_number(streams, number);
+    let _ = account::streams::say(streams, b"\n");
 }
 
 // ---- the data bits
 
 // The whole bytes are written, and the bits of a started one go to the front.
-fn flush<I, O: Write, E>(streams: &mut Streams<I, O, E>, out: &mut [u8], waiting: usize) -> bool
+fn flush<I, O: Write, E>(
+    streams: &mut Streams<I, O, E>,
+    out: &mut [u8],
+    waiting: usize,
+) -> Result<(), Failure>
     requires { waiting < 8 * length out.old }
 {
     let bytes = waiting / 8;
-    let taken = account::streams::put(streams, &out[..bytes]);
+    account::streams::put(streams, &out[..bytes])?;
     out[0] = out[bytes];
-    taken
+    Ok(())
 }
 
 // Room for the data bits of another frame.
@@ -72,24 +62,28 @@ fn roomy<I, O: Write, E>(
     streams: &mut Streams<I, O, E>,
     before: State,
     out: &mut [u8; 65536],
-) -> State
+) -> Result<State, Failure>
     requires { before.waiting ≤ 524280 }
-    ensures { (result.waiting ≤ 523788) × (result.at ≡ before.at) }
+    ensures { IfOk result (λ state. (state.waiting ≤ 523788) × (state.at ≡ before.at)) }
 {
     let waiting = before.waiting;
     if waiting <= 523788 {
-        return before;
+        return Ok(before);
     }
-    let taken = flush(streams, out, waiting);
-    let mut state = before;
-    state.given = plus(before.given, waiting - waiting % 8);
-    state.waiting = waiting % 8;
-    state.writes = taken;
-    state
+    flush(streams, out, waiting)?;
+    Ok(State {
+        given: plus(before.given, waiting - waiting % 8),
+        waiting: waiting % 8,
+        ..before
+    })
 }
 
 // All that wait, the last started byte too.
-fn finish<I, O: Write, E>(streams: &mut Streams<I, O, E>, waiting: usize, out: &[u8]) -> bool
+fn finish<I, O: Write, E>(
+    streams: &mut Streams<I, O, E>,
+    waiting: usize,
+    out: &[u8],
+) -> Result<(), Failure>
     requires { (waiting ≤ 524280) × (length out.now ≡ 65536) }
 {
     let bytes = (waiting + 7) / 8;
@@ -135,22 +129,20 @@ fn frames<I, O: Write, E: Write>(
     count: usize,
     before: State,
     out: &mut [u8; 65536],
-) -> State
+) -> Result<State, Failure>
     requires { (steps.now ≡ byte_steps) × (count ≤ 524288) × (before.waiting ≤ 524280) }
-    ensures { result.waiting ≤ 524280 }
+    ensures { IfOk result (λ state. state.waiting ≤ 524280) }
 {
     let mut state = before;
+    // the place of the next frame is the state's, which goes on beyond the loop: no index is counted beside it
     while state.at < count {
         if count - state.at < 512 {
-            return state;
+            return Ok(state);
         }
-        let ready = roomy(streams, state, out);
-        if !ready.writes {
-            return ready;
-        }
+        let ready = roomy(streams, state, out)?;
         state = frame(streams, steps, input, ready, out);
     }
-    state
+    Ok(state)
 }
 
 // ---- lock
@@ -194,22 +186,10 @@ fn fill<I: Read, O, E>(streams: &mut Streams<I, O, E>, input: &mut [u8], bytes: 
     if input.len() < bytes {
         return Filled {
             count: 0,
-            failed: false,
+            failure: None,
         };
     }
-    account::input::fill(streams, &mut input[bytes..])
-}
-
-// The bytes from `from` on to the front.
-fn shift(input: &mut [u8; 65536], from: usize, bytes: usize)
-    requires { (from ≤ bytes) × (bytes ≤ 65536) }
-{
-    let left = bytes - from;
-    let mut i: usize = 0;
-    while i < left {
-        input[i] = input[from + i];
-        i += 1;
-    }
+    account::input::fill(&mut streams.stdin, &mut input[bytes..])
 }
 
 // The bytes that have gone by make room.
@@ -220,7 +200,7 @@ fn dropped(before: State, input: &mut [u8; 65536]) -> State
     let bytes = before.bytes;
     let mut state = before;
     if from <= bytes && bytes <= 65536 {
-        shift(input, from, bytes);
+        input.copy_within(from..bytes, 0);
         state.gone = plus(before.gone, 8 * from);
         state.bytes = bytes - from;
         state.at = before.at % 8;
@@ -250,68 +230,47 @@ fn replayed<I, O: Write, E: Write>(
     count: usize,
     before: State,
     out: &mut [u8; 65536],
-) -> State
+) -> Result<State, Failure>
     requires { (steps.now ≡ byte_steps) × (count ≤ 524288) × (before.waiting ≤ 524280) }
-    ensures { result.waiting ≤ 524280 }
+    ensures { IfOk result (λ state. state.waiting ≤ 524280) }
 {
     let state = located(streams, input, count, before);
     if state.locked {
         return frames(streams, steps, input, count, state, out);
     }
-    state
+    Ok(state)
 }
 
-// There is more where the input filled the buffer, as long as what is written is taken.
-fn goes_on(bytes: usize, writes: bool) -> bool {
-    if writes {
-        return bytes == 65536;
-    }
-    false
-}
-
-// A buffer of the capture. The tests of the bytes never fail.
+// A buffer of the capture. What came before a read that failed is replayed, and the read is what is told. The tests of the bytes never fail.
 fn turn<I: Read, O: Write, E: Write>(
     streams: &mut Streams<I, O, E>,
     steps: &[u32; 256],
     input: &mut [u8; 65536],
     before: State,
     out: &mut [u8; 65536],
-) -> State
+) -> Result<State, Failure>
     requires { (steps.now ≡ byte_steps) × (before.waiting ≤ 524280) }
-    ensures { result.waiting ≤ 524280 }
+    ensures { IfOk result (λ state. state.waiting ≤ 524280) }
 {
     let mut state = dropped(before, input);
     let had = state.bytes;
     let filled = fill(streams, input, had);
     let got = filled.count;
-    state.more = false;
-    state.reads = !filled.failed;
     if 65536 < had {
-        return state;
+        return Ok(state);
     }
     if 65536 - had < got {
-        return state;
+        return Ok(state);
     }
-    let bytes = had + got;
-    state.bytes = bytes;
-    let mut after = replayed(streams, steps, input, 8 * bytes, state, out);
-    after.more = goes_on(bytes, after.writes);
-    after
+    state.bytes = had + got;
+    let after = replayed(streams, steps, input, 8 * (had + got), state, out);
+    match filled.failure {
+        Some(why) => Err(Failure::Unread(why)),
+        None => after,
+    }
 }
 
 // ---- the end
-
-fn unread<I, O, E: Write>(streams: &mut Streams<I, O, E>) -> End {
-    let why = streams.stdin.failure;
-    account::streams::fail(streams, b"replay: the recording could not be read", why);
-    End::Unread
-}
-
-fn unwritten<I, O, E: Write>(streams: &mut Streams<I, O, E>) -> End {
-    let why = streams.failure;
-    account::streams::fail(streams, b"replay: the data could not be written", why);
-    End::Unwritten
-}
 
 // The last frame, where it is cut.
 fn say_cut<I, O, E: Write>(streams: &mut Streams<I, O, E>, state: State) -> bool {
@@ -324,54 +283,38 @@ fn say_cut<I, O, E: Write>(streams: &mut Streams<I, O, E>, state: State) -> bool
     state.cut
 }
 
-// The data bits that wait are written, and all are counted.
-fn told<I, O: Write, E: Write>(
-    streams: &mut Streams<I, O, E>,
-    state: State,
-    out: &[u8; 65536],
-) -> End
-    requires { state.waiting ≤ 524280 }
-{
-    let cut = say_cut(streams, state);
-    let waiting = state.waiting;
-    if finish(streams, waiting, out) {
-        let data = plus(state.given, waiting);
-        say(streams, b"data ", data);
-        return End::Done(cut, data);
-    }
-    unwritten(streams)
-}
-
-// What came of it all.
+// What came of it all: the data bits that wait are written, and all are counted.
 fn close<I, O: Write, E: Write>(
     streams: &mut Streams<I, O, E>,
     state: State,
     out: &[u8; 65536],
-) -> End
+) -> Result<Ended, Failure>
     requires { state.waiting ≤ 524280 }
 {
-    if !state.reads {
-        return unread(streams);
+    if !state.locked {
+        let _ = account::streams::say(streams, b"refused 44\n");
+        return Ok(Ended {
+            cut: false,
+            count: 0,
+        });
     }
-    if !state.writes {
-        return unwritten(streams);
-    }
-    if state.locked {
-        return told(streams, state, out);
-    }
-    account::streams::say(streams, b"refused 44\n");
-    End::Done(false, 0)
+    let cut = say_cut(streams, state);
+    let waiting = state.waiting;
+    finish(streams, waiting, out)?;
+    let data = plus(state.given, waiting);
+    say(streams, b"data ", data);
+    Ok(Ended { cut, count: data })
 }
 
-// Nothing says that the input ends, so the loop counts its turns.
+// There is more where the input filled the buffer. Nothing says that the input ends, so the loop counts its turns.
 fn all<I: Read, O: Write, E: Write>(
     streams: &mut Streams<I, O, E>,
     steps: &[u32; 256],
     input: &mut [u8; 65536],
     out: &mut [u8; 65536],
-) -> State
+) -> Result<State, Failure>
     requires { steps.now ≡ byte_steps }
-    ensures { result.waiting ≤ 524280 }
+    ensures { IfOk result (λ state. state.waiting ≤ 524280) }
 {
     let mut state = State {
         gone: 0,
@@ -381,36 +324,58 @@ fn all<I: Read, O: Write, E: Write>(
         waiting: 0,
         locked: false,
         cut: false,
-        more: true,
-        reads: true,
-        writes: true,
     };
-    let mut n: u64 = 0;
-    while n < 18446744073709551615 && state.more {
-        state = turn(streams, steps, input, state, out);
-        n += 1;
+    for _ in 0..u64::MAX {
+        state = turn(streams, steps, input, state, out)?;
+        if state.bytes < input.len() {
+            break;
+        }
     }
-    state
+    Ok(state)
 }
 
-fn run<I: Read, O: Write, E: Write>(streams: &mut Streams<I, O, E>) -> End {
+fn run<I: Read, O: Write, E: Write>(streams: &mut Streams<I, O, E>) -> Result<Ended, Failure> {
     let steps = bch::byte_steps();
     let mut input = [0u8; 65536];
     let mut out = [0u8; 65536];
-    let state = all(streams, &steps, &mut input, &mut out);
+    let state = all(streams, &steps, &mut input, &mut out)?;
     close(streams, state, &out)
 }
 
-fn of_words<I: Read, O: Write, E: Write>(streams: &mut Streams<I, O, E>, count: usize) -> End {
+fn of_words<I: Read, O: Write, E: Write>(
+    streams: &mut Streams<I, O, E>,
+    count: usize,
+) -> Result<Ended, Failure> {
     if count <= 1 {
         return run(streams);
     }
-    account::streams::say(streams, b"usage: replay < CAPTURE > STREAM.h261\n");
-    End::Misnamed
+    Err(Failure::Misnamed)
+}
+
+// Why the run ended before the recording did.
+fn say_failure<I, O, E: Write>(streams: &mut Streams<I, O, E>, failure: Failure) {
+    match failure {
+        Failure::Misnamed => {
+            let _ = account::streams::say(streams, b"usage: replay < CAPTURE > STREAM.h261\n");
+        }
+        Failure::Unread(why) => {
+            account::streams::fail(
+                streams,
+                b"replay: the recording could not be read",
+                Some(why),
+            );
+        }
+        Failure::Unwritten(why) => {
+            account::streams::fail(streams, b"replay: the data could not be written", Some(why));
+        }
+    }
 }
 
 fn main(rt: HostRuntime) -> ExitCode {
     let mut streams = account::streams::over(rt.stdin(), rt.stdout(), rt.stderr());
     let end = of_words(&mut streams, account::arg_count(&rt));
+    if let Err(failure) = end {
+        say_failure(&mut streams, failure);
+    }
     account::tell_over(&streams, end)
 }

@@ -8,195 +8,80 @@
 //     ./pagesorrel salvage qcif 7 9 lossy.blocks > new.blocks 2> new.log
 #![tactic(auto)]
 
-use account::End;
-use account::going::Going;
 use account::input::Next;
-use account::streams::{Source, Streams};
+use account::streams::Streams;
+use account::{Ended, Failure};
 use coding::Kind;
 use refusals::Reason;
 use salvaging::{Entries, Entry, Fate, Sight, Tally};
 use standing::{Answer, Received, Receiver};
-use std::io::{Read, Seek, SeekFrom, Write};
+use std::io::{ErrorKind, Read, Seek, SeekFrom, Write};
 use std::process::ExitCode;
 use std::rt::Files;
 use std::{fs, io};
 
 // ---- the file
 
-// A list that has grown or shrunk since its length was taken may end inside a block: that is no end of it, and is taken like a read that failed.
-fn read_block<F: Read + Seek>(file: &mut Source<F>, block: &mut [u8; 512]) -> Next {
-    let filled = account::input::fill_from(file, block);
-    account::input::next_of(filled)
+// Whether the file has another block. A list that has grown or shrunk since its length was taken may end inside one: that is no end of it, and is taken like a read that failed,
+// of which the system says nothing.
+fn read_block<F: Read>(file: &mut F, block: &mut [u8; 512]) -> Result<bool, Failure> {
+    let filled = account::input::fill(file, block);
+    match account::input::next_of(filled)? {
+        Next::Block => Ok(true),
+        Next::End => Ok(false),
+        Next::Short => Err(Failure::Unread(io::Error::new(ErrorKind::UnexpectedEof, ""))),
+    }
+}
+
+fn go_to<F: Seek>(file: &mut F, place: SeekFrom) -> Result<u64, Failure> {
+    file.seek(place).map_err(Failure::Unread)
 }
 
 // Where one has come to, the other goes on.
-fn follow<F: Read + Seek>(file: &mut Source<F>, ahead: &mut Source<F>) -> bool {
-    match file.from.stream_position() {
-        Ok(here) => goes_to(ahead, SeekFrom::Start(here)),
-        Err(why) => {
-            file.failure = Some(why);
-            false
-        }
-    }
-}
-
-fn goes_to<F: Read + Seek>(file: &mut Source<F>, place: SeekFrom) -> bool {
-    match file.from.seek(place) {
-        Ok(_) => true,
-        Err(why) => {
-            file.failure = Some(why);
-            false
-        }
-    }
+fn follow<F: Seek>(file: &mut F, ahead: &mut F) -> Result<u64, Failure> {
+    let here = file.stream_position().map_err(Failure::Unread)?;
+    go_to(ahead, SeekFrom::Start(here))
 }
 
 // ---- looking ahead
 
-// What is looked for: any picture that is finished, or whether this one is.
-#[derive(Clone, Copy)]
-enum Sought {
-    Any,
-    Picture(u32),
-}
-
-#[derive(Clone, Copy)]
-enum Found {
-    Open,
-    Yes,
-    No,
-    Unread,
-}
-
-// How far a search has come.
-#[derive(Clone, Copy)]
-struct Search {
-    receiver: Receiver,
-    found: Found,
-}
-
-// A block that goes on whatever comes later finishes a picture.
-fn found_any(answer: Answer) -> Found {
-    if salvaging::goes_on(answer, false) {
-        return Found::Yes;
-    }
-    Found::Open
-}
-
-fn found_picture(picture: u32, received: Received) -> Found {
+// Whether a picture is finished, any or the one that is sought; nothing where blocks that follow have to say. A block that goes on whatever comes later finishes a picture.
+fn found_by(sought: Option<u32>, received: Received) -> Option<bool> {
+    let Some(picture) = sought else {
+        return salvaging::goes_on(received.answer, false).then_some(true);
+    };
     match salvaging::look(picture, received) {
-        Sight::Finished => Found::Yes,
-        Sight::Gone => Found::No,
-        Sight::Collecting => Found::Open,
-    }
-}
-
-fn found_by(sought: Sought, received: Received) -> Found {
-    match sought {
-        Sought::Any => {
-            let answer = received.answer;
-            found_any(answer)
-        }
-        Sought::Picture(picture) => found_picture(picture, received),
-    }
-}
-
-fn look_at(
-    sought: Sought,
-    receiver: Receiver,
-    block: &[u8; 512],
-    collection: &mut [u8],
-    first: &mut [u8],
-    second: &mut [u8],
-) -> Search {
-    let received = receiver::receive(receiver, block, collection, first, second);
-    let after = received.next;
-    Search {
-        receiver: after,
-        found: found_by(sought, received),
-    }
-}
-
-fn look_on<F: Read + Seek>(
-    file: &mut Source<F>,
-    sought: Sought,
-    receiver: Receiver,
-    collection: &mut [u8],
-    first: &mut [u8],
-    second: &mut [u8],
-) -> Search {
-    let mut block = [0u8; 512];
-    match read_block(file, &mut block) {
-        Next::Block => look_at(sought, receiver, &block, collection, first, second),
-        Next::End => Search {
-            receiver,
-            found: Found::No,
-        },
-        _ => Search {
-            receiver,
-            found: Found::Unread,
-        },
-    }
-}
-
-fn is_open(found: Found) -> bool {
-    match found {
-        Found::Open => true,
-        _ => false,
+        Sight::Finished => Some(true),
+        Sight::Gone => Some(false),
+        Sight::Collecting => None,
     }
 }
 
 // Nothing says that the file ends, so the loop counts its turns.
-fn find<F: Read + Seek>(
-    file: &mut Source<F>,
-    sought: Sought,
+fn find<F: Read>(
+    file: &mut F,
+    sought: Option<u32>,
     begun: Receiver,
     collection: &mut [u8],
     first: &mut [u8],
     second: &mut [u8],
-) -> Found {
+) -> Result<bool, Failure> {
     let mut receiver = begun;
-    let mut found = Found::Open;
-    let mut n: u64 = 0;
-    while n < 18446744073709551615 && is_open(found) {
-        let search = look_on(file, sought, receiver, collection, first, second);
-        receiver = search.receiver;
-        found = search.found;
-        n += 1;
+    for _ in 0..u64::MAX {
+        let mut block = [0u8; 512];
+        if !read_block(file, &mut block)? {
+            return Ok(false);
+        }
+        let received = receiver::receive(receiver, &block, collection, first, second);
+        if let Some(found) = found_by(sought, received) {
+            return Ok(found);
+        }
+        receiver = received.next;
     }
-    found
+    Ok(false)
 }
 
 // ---- a picture's fate
-
-// What is known of the picture that is collected, and whether all could be read that had to be.
-#[derive(Clone, Copy)]
-struct Settled {
-    fate: Option<Fate>,
-    read: bool,
-}
-
-fn settled_by(picture: u32, found: Found) -> Settled {
-    match found {
-        Found::Yes => Settled {
-            fate: Some(Fate {
-                picture,
-                kept: true,
-            }),
-            read: true,
-        },
-        Found::Unread => Settled {
-            fate: None,
-            read: false,
-        },
-        _ => Settled {
-            fate: Some(Fate {
-                picture,
-                kept: false,
-            }),
-            read: true,
-        },
-    }
-}
 
 // The two are of one length, so that the test never fails.
 fn copy(from: &[u8], to: &mut [u8]) {
@@ -205,10 +90,10 @@ fn copy(from: &[u8], to: &mut [u8]) {
     }
 }
 
-// Where a block asks for its picture's fate, the second receiver goes on from the first one's state.
+// What is known of the picture that is collected. Where a block asks for its picture's fate, the second receiver goes on from the first one's state.
 fn settle<F: Read + Seek>(
-    file: &mut Source<F>,
-    ahead: &mut Source<F>,
+    file: &mut F,
+    ahead: &mut F,
     fate: Option<Fate>,
     received: Received,
     collection: &[u8],
@@ -217,32 +102,23 @@ fn settle<F: Read + Seek>(
     collection_ahead: &mut [u8],
     first_ahead: &mut [u8],
     second_ahead: &mut [u8],
-) -> Settled {
-    let answer = received.answer;
-    let receiver = received.next;
-    match salvaging::asks(fate, answer) {
-        None => Settled {
-            fate: salvaging::still(fate, answer),
-            read: true,
-        },
-        Some(picture) => {
-            copy(collection, collection_ahead);
-            copy(first, first_ahead);
-            copy(second, second_ahead);
-            if follow(file, ahead) {
-                let found = find(
-                    ahead,
-                    Sought::Picture(picture),
-                    receiver,
-                    collection_ahead,
-                    first_ahead,
-                    second_ahead,
-                );
-                return settled_by(picture, found);
-            }
-            settled_by(picture, Found::Unread)
-        }
-    }
+) -> Result<Option<Fate>, Failure> {
+    let Some(picture) = salvaging::asks(fate, received.answer) else {
+        return Ok(salvaging::still(fate, received.answer));
+    };
+    copy(collection, collection_ahead);
+    copy(first, first_ahead);
+    copy(second, second_ahead);
+    follow(file, ahead)?;
+    let kept = find(
+        ahead,
+        Some(picture),
+        received.next,
+        collection_ahead,
+        first_ahead,
+        second_ahead,
+    )?;
+    Ok(Some(Fate { picture, kept }))
 }
 
 // ---- what is written
@@ -253,44 +129,31 @@ fn put_renewed<I, O: Write, E>(
     clip: u16,
     picture: u64,
     block: &[u8; 512],
-) -> bool {
+) -> Result<(), Failure> {
     if picture < 1048576 {
         let mut renewed = [0u8; 512];
         vault::renew(clip, picture as u32, block, &mut renewed);
         return account::streams::put(streams, &renewed);
     }
-    false
+    Err(Failure::Unwritten(ErrorKind::InvalidData.into()))
 }
 
-// A block that goes on.
-fn put_block<I, O: Write, E>(
-    streams: &mut Streams<I, O, E>,
-    goes: bool,
-    clip: u16,
-    picture: u64,
-    block: &[u8; 512],
-) -> bool {
-    if goes {
-        return put_renewed(streams, clip, picture, block);
-    }
-    true
-}
-
-fn say<I, O, E: Write>(streams: &mut Streams<I, O, E>, entry: Entry) -> bool {
+fn say<I, O, E: Write>(streams: &mut Streams<I, O, E>, entry: Entry) -> Result<(), Failure> {
     let mut text = [0u8; 128];
     let count = salvage_log::line(entry, &mut text);
-    account::streams::say(streams, &text[..count])
+    account::going::written(account::streams::say(streams, &text[..count]))
 }
 
-fn say_all<I, O, E: Write>(streams: &mut Streams<I, O, E>, entries: Entries) -> bool {
+fn say_all<I, O, E: Write>(
+    streams: &mut Streams<I, O, E>,
+    entries: Entries,
+) -> Result<(), Failure> {
     match entries {
-        Entries::Nothing => true,
+        Entries::Nothing => Ok(()),
         Entries::One(entry) => say(streams, entry),
         Entries::Two(first, second) => {
-            if say(streams, first) {
-                return say(streams, second);
-            }
-            false
+            say(streams, first)?;
+            say(streams, second)
         }
     }
 }
@@ -306,15 +169,9 @@ struct State {
     cut: bool,
 }
 
-#[derive(Clone, Copy)]
-struct Turn {
-    going: Going,
-    state: State,
-}
-
 // No clip has so many pictures that the test fails.
 fn counted(tally: Tally, answer: Answer) -> Tally {
-    if tally.pictures < 18446744073709551615 {
+    if tally.pictures < u64::MAX {
         return salvaging::count(tally, answer);
     }
     tally
@@ -329,75 +186,28 @@ fn write<I, O: Write, E: Write>(
     received: Received,
     fate: Option<Fate>,
     block: &[u8; 512],
-) -> Turn {
+) -> Result<State, Failure> {
     let answer = received.answer;
-    let receiver = received.next;
     let tally = before.tally;
     let later = salvaging::is_kept(fate);
-    let goes = salvaging::goes_on(answer, later);
+    if salvaging::goes_on(answer, later) {
+        put_renewed(streams, clip, tally.pictures, block)?;
+    }
     let entries = salvaging::entries_for(n, tally, answer, later);
-    if put_block(streams, goes, clip, tally.pictures, block) && say_all(streams, entries) {
-        return Turn {
-            going: Going::On,
-            state: State {
-                receiver,
-                fate,
-                tally: counted(tally, answer),
-                cut: salvage_log::cut_after(before.cut, entries),
-            },
-        };
-    }
-    Turn {
-        going: Going::Unwritten,
-        state: before,
-    }
-}
-
-// Once the first receiver has answered.
-fn answered<F: Read + Seek, I, O: Write, E: Write>(
-    streams: &mut Streams<I, O, E>,
-    n: u64,
-    file: &mut Source<F>,
-    ahead: &mut Source<F>,
-    clip: u16,
-    before: State,
-    received: Received,
-    block: &[u8; 512],
-    collection: &[u8],
-    first: &[u8],
-    second: &[u8],
-    collection_ahead: &mut [u8],
-    first_ahead: &mut [u8],
-    second_ahead: &mut [u8],
-) -> Turn {
-    let fate = before.fate;
-    let settled = settle(
-        file,
-        ahead,
+    say_all(streams, entries)?;
+    Ok(State {
+        receiver: received.next,
         fate,
-        received,
-        collection,
-        first,
-        second,
-        collection_ahead,
-        first_ahead,
-        second_ahead,
-    );
-    if settled.read {
-        let known = settled.fate;
-        return write(streams, n, clip, before, received, known, block);
-    }
-    Turn {
-        going: Going::Unread,
-        state: before,
-    }
+        tally: counted(tally, answer),
+        cut: salvage_log::cut_after(before.cut, entries),
+    })
 }
 
 fn whole<F: Read + Seek, I, O: Write, E: Write>(
     streams: &mut Streams<I, O, E>,
     n: u64,
-    file: &mut Source<F>,
-    ahead: &mut Source<F>,
+    file: &mut F,
+    ahead: &mut F,
     clip: u16,
     before: State,
     block: &[u8; 512],
@@ -407,121 +217,43 @@ fn whole<F: Read + Seek, I, O: Write, E: Write>(
     collection_ahead: &mut [u8],
     first_ahead: &mut [u8],
     second_ahead: &mut [u8],
-) -> Turn {
-    let receiver = before.receiver;
-    let received = receiver::receive(receiver, block, collection, first, second);
-    answered(
-        streams,
-        n,
+) -> Result<State, Failure> {
+    let received = receiver::receive(before.receiver, block, collection, first, second);
+    let fate = settle(
         file,
         ahead,
-        clip,
-        before,
+        before.fate,
         received,
-        block,
         collection,
         first,
         second,
         collection_ahead,
         first_ahead,
         second_ahead,
-    )
+    )?;
+    write(streams, n, clip, before, received, fate, block)
 }
 
-fn one<F: Read + Seek, I, O: Write, E: Write>(
+// ---- from the first block to the last
+
+fn refused<I, O, E: Write>(
     streams: &mut Streams<I, O, E>,
-    n: u64,
-    file: &mut Source<F>,
-    ahead: &mut Source<F>,
-    clip: u16,
-    before: State,
-    collection: &mut [u8],
-    first: &mut [u8],
-    second: &mut [u8],
-    collection_ahead: &mut [u8],
-    first_ahead: &mut [u8],
-    second_ahead: &mut [u8],
-) -> Turn {
-    let mut block = [0u8; 512];
-    match read_block(file, &mut block) {
-        Next::Block => whole(
-            streams,
-            n,
-            file,
-            ahead,
-            clip,
-            before,
-            &block,
-            collection,
-            first,
-            second,
-            collection_ahead,
-            first_ahead,
-            second_ahead,
-        ),
-        Next::End => Turn {
-            going: Going::Ended,
-            state: before,
-        },
-        _ => Turn {
-            going: Going::Unread,
-            state: before,
-        },
-    }
-}
-
-// ---- the end
-
-fn unread<F, I, O, E: Write>(
-    streams: &mut Streams<I, O, E>,
-    file: &Source<F>,
-    ahead: &Source<F>,
-) -> End {
-    let why = match file.failure {
-        Some(why) => Some(why),
-        None => ahead.failure,
-    };
-    account::streams::fail(streams, b"salvage: the blocks could not be read", why);
-    End::Unread
-}
-
-fn unwritten<I, O, E: Write>(streams: &mut Streams<I, O, E>) -> End {
-    let why = streams.failure;
-    account::streams::fail(streams, b"salvage: the new clip could not be written", why);
-    End::Unwritten
-}
-
-fn refused<I, O, E: Write>(streams: &mut Streams<I, O, E>, reason: Reason) -> End {
+    reason: Reason,
+) -> Result<Ended, Failure> {
     let mut text = [0u8; 128];
     let count = salvage_log::refused(reason, &mut text);
-    if account::streams::say(streams, &text[..count]) {
-        return End::Done(false, 0);
-    }
-    unwritten(streams)
-}
-
-fn finish<F, I, O, E: Write>(
-    streams: &mut Streams<I, O, E>,
-    file: &Source<F>,
-    ahead: &Source<F>,
-    going: Going,
-    state: State,
-) -> End {
-    match going {
-        Going::Unread => unread(streams, file, ahead),
-        Going::Unwritten => unwritten(streams),
-        _ => {
-            let tally = state.tally;
-            End::Done(state.cut, tally.pictures)
-        }
-    }
+    account::going::written(account::streams::say(streams, &text[..count]))?;
+    Ok(Ended {
+        cut: false,
+        count: 0,
+    })
 }
 
 // Nothing says that the file ends, so the loop counts its turns.
 fn all<F: Read + Seek, I, O: Write, E: Write>(
     streams: &mut Streams<I, O, E>,
-    file: &mut Source<F>,
-    ahead: &mut Source<F>,
+    file: &mut F,
+    ahead: &mut F,
     clip: u16,
     opened: Receiver,
     collection: &mut [u8],
@@ -530,7 +262,7 @@ fn all<F: Read + Seek, I, O: Write, E: Write>(
     collection_ahead: &mut [u8],
     first_ahead: &mut [u8],
     second_ahead: &mut [u8],
-) -> End {
+) -> Result<Ended, Failure> {
     let mut state = State {
         receiver: opened,
         fate: None,
@@ -540,35 +272,38 @@ fn all<F: Read + Seek, I, O: Write, E: Write>(
         },
         cut: false,
     };
-    let mut going = Going::On;
-    let mut n: u64 = 0;
-    while n < 18446744073709551615 && account::going::goes_on(going) {
-        let turn = one(
+    for n in 0..u64::MAX {
+        let mut block = [0u8; 512];
+        if !read_block(file, &mut block)? {
+            break;
+        }
+        state = whole(
             streams,
             n,
             file,
             ahead,
             clip,
             state,
+            &block,
             collection,
             first,
             second,
             collection_ahead,
             first_ahead,
             second_ahead,
-        );
-        state = turn.state;
-        going = turn.going;
-        n += 1;
+        )?;
     }
-    finish(streams, file, ahead, going, state)
+    Ok(Ended {
+        cut: state.cut,
+        count: state.tally.pictures,
+    })
 }
 
 // Whether anything is kept is settled first.
 fn begin<F: Read + Seek, I, O: Write, E: Write>(
     streams: &mut Streams<I, O, E>,
-    file: &mut Source<F>,
-    ahead: &mut Source<F>,
+    file: &mut F,
+    ahead: &mut F,
     clip: u16,
     opened: Receiver,
     collection: &mut [u8],
@@ -577,18 +312,16 @@ fn begin<F: Read + Seek, I, O: Write, E: Write>(
     collection_ahead: &mut [u8],
     first_ahead: &mut [u8],
     second_ahead: &mut [u8],
-) -> End {
-    let found = find(
+) -> Result<Ended, Failure> {
+    if find(
         ahead,
-        Sought::Any,
+        None,
         opened,
         collection_ahead,
         first_ahead,
         second_ahead,
-    );
-    match found {
-        Found::Unread => unread(streams, file, ahead),
-        Found::Yes => all(
+    )? {
+        return all(
             streams,
             file,
             ahead,
@@ -600,20 +333,20 @@ fn begin<F: Read + Seek, I, O: Write, E: Write>(
             collection_ahead,
             first_ahead,
             second_ahead,
-        ),
-        _ => refused(streams, Reason::NoneKept),
+        );
     }
+    refused(streams, Reason::NoneKept)
 }
 
 // The buffers have room for any size.
 fn run<F: Read + Seek, I, O: Write, E: Write>(
     streams: &mut Streams<I, O, E>,
     kind: Kind,
-    file: &mut Source<F>,
-    ahead: &mut Source<F>,
+    file: &mut F,
+    ahead: &mut F,
     clip: u16,
     opened: Receiver,
-) -> End {
+) -> Result<Ended, Failure> {
     let size = coding::size_of(kind);
     let bytes = size::collection_length(size);
     let samples = size::store_length(size);
@@ -640,46 +373,16 @@ fn run<F: Read + Seek, I, O: Write, E: Write>(
 
 // ---- the list's length
 
-#[derive(Clone, Copy)]
-enum Length {
-    Whole,
-    Part,
-    Unread,
-}
-
-// A folder can be opened and has a length, but can't be read.
-fn can_read<F: Read + Seek>(file: &mut Source<F>) -> bool {
+// Whether it is whole blocks; the file then stands at its beginning. A folder can be opened and has a length, but can't be read.
+fn measure<F: Read + Seek>(file: &mut F) -> Result<bool, Failure> {
     let mut block = [0u8; 512];
-    let filled = account::input::fill_from(file, &mut block);
-    !filled.failed
-}
-
-fn is_whole(length: u64) -> bool {
-    length % 512 == 0
-}
-
-// Whether it is whole blocks; the file then stands at its beginning.
-fn measure<F: Read + Seek>(file: &mut Source<F>) -> Length {
-    if !can_read(file) {
-        return Length::Unread;
+    let filled = account::input::fill(file, &mut block);
+    if let Some(why) = filled.failure {
+        return Err(Failure::Unread(why));
     }
-    match file.from.seek(SeekFrom::End(0)) {
-        Ok(end) => measured(file, end),
-        Err(why) => {
-            file.failure = Some(why);
-            Length::Unread
-        }
-    }
-}
-
-fn measured<F: Read + Seek>(file: &mut Source<F>, end: u64) -> Length {
-    if !goes_to(file, SeekFrom::Start(0)) {
-        return Length::Unread;
-    }
-    if is_whole(end) {
-        return Length::Whole;
-    }
-    Length::Part
+    let end = go_to(file, SeekFrom::End(0))?;
+    go_to(file, SeekFrom::Start(0))?;
+    Ok(end % 512 == 0)
 }
 
 fn opened_as<F: Read + Seek, I, O: Write, E: Write>(
@@ -687,14 +390,11 @@ fn opened_as<F: Read + Seek, I, O: Write, E: Write>(
     kind: Kind,
     old: u16,
     new: u16,
-    file: &mut Source<F>,
-    ahead: &mut Source<F>,
-) -> End {
+    file: &mut F,
+    ahead: &mut F,
+) -> Result<Ended, Failure> {
     match standing::open(old, kind) {
-        Err(why) => {
-            let reason = why.reason;
-            refused(streams, reason)
-        }
+        Err(why) => { refused(streams, why.reason) }
         Ok(receiver) => {
             if new == 0 {
                 return refused(streams, Reason::BlockField);
@@ -710,39 +410,48 @@ fn over<F: Read + Seek, I, O: Write, E: Write>(
     kind: Kind,
     old: u16,
     new: u16,
-    file: &mut Source<F>,
-    ahead: &mut Source<F>,
-) -> End {
-    match measure(ahead) {
-        Length::Unread => unread(streams, file, ahead),
-        Length::Part => refused(streams, Reason::Length),
-        Length::Whole => opened_as(streams, kind, old, new, file, ahead),
+    file: &mut F,
+    ahead: &mut F,
+) -> Result<Ended, Failure> {
+    if measure(ahead)? {
+        return opened_as(streams, kind, old, new, file, ahead);
+    }
+    refused(streams, Reason::Length)
+}
+
+// Why the run ended before the list did.
+fn say_failure<I, O, E: Write>(streams: &mut Streams<I, O, E>, failure: Failure) {
+    match failure {
+        Failure::Misnamed => {
+            let _ = account::streams::say(
+                streams,
+                b"usage: salvage qcif|cif|h263-sqcif|h263-qcif|h263-cif OLD NEW BLOCKS > NEWBLOCKS 2> LOG, with OLD and NEW from 1 to 65535\n",
+            );
+        }
+        Failure::Unread(why) => {
+            account::streams::fail(streams, b"salvage: the blocks could not be read", Some(why));
+        }
+        Failure::Unwritten(why) => {
+            account::streams::fail(
+                streams,
+                b"salvage: the new clip could not be written",
+                Some(why),
+            );
+        }
     }
 }
 
 // ---- the words
 
-fn usage<I, O, E: Write>(streams: &mut Streams<I, O, E>) -> End {
-    account::streams::say(
-        streams,
-        b"usage: salvage qcif|cif|h263-sqcif|h263-qcif|h263-cif OLD NEW BLOCKS > NEWBLOCKS 2> LOG, with OLD and NEW from 1 to 65535\n",
-    );
-    End::Misnamed
-}
-
-fn unopened<I, O, E: Write>(streams: &mut Streams<I, O, E>, path: &[u8], why: io::Error) -> End {
-    account::streams::fail(streams, path, Some(why));
-    End::Unread
-}
-
 // A path that is no text names no file that std can open: 84 is EILSEQ.
-fn opened<R: Files>(rt: &R, path: &[u8]) -> io::Result<Source<R::File>> {
+fn opened<R: Files>(rt: &R, path: &[u8]) -> io::Result<R::File> {
     match str::from_utf8(path) {
-        Ok(name) => Ok(account::streams::reading(fs::open(rt, name)?)),
+        Ok(name) => fs::open(rt, name),
         Err(_) => Err(io::Error::from_raw_os_error(84)),
     }
 }
 
+// A file that can't be opened is named by its path.
 fn of_file<R: Files, I, O: Write, E: Write>(
     rt: &R,
     streams: &mut Streams<I, O, E>,
@@ -750,13 +459,19 @@ fn of_file<R: Files, I, O: Write, E: Write>(
     old: u16,
     new: u16,
     path: &[u8],
-) -> End {
-    match opened(rt, path) {
-        Ok(mut file) => match opened(rt, path) {
-            Ok(mut ahead) => over(streams, kind, old, new, &mut file, &mut ahead),
-            Err(why) => unopened(streams, path, why),
-        },
-        Err(why) => unopened(streams, path, why),
+) -> Result<Ended, Failure> {
+    match (opened(rt, path), opened(rt, path)) {
+        (Ok(mut file), Ok(mut ahead)) => {
+            let end = over(streams, kind, old, new, &mut file, &mut ahead);
+            if let Err(failure) = end {
+                say_failure(streams, failure);
+            }
+            end
+        }
+        (Err(why), _) | (_, Err(why)) => {
+            account::streams::fail(streams, path, Some(why));
+            Err(Failure::Unread(why))
+        }
     }
 }
 
@@ -769,18 +484,18 @@ fn of_words<R: Files, I, O: Write, E: Write>(
     old: &[u8],
     new: &[u8],
     path: &[u8],
-) -> End {
-    if count != 5 || path.len() == 0 {
-        return usage(streams);
+) -> Result<Ended, Failure> {
+    if count == 5 && 0 < path.len() {
+        if let (Some(named), Some(from), Some(to)) = (
+            arguments::kind_named(kind),
+            arguments::clip_named(old),
+            arguments::clip_named(new),
+        ) {
+            return of_file(rt, streams, named, from, to, path);
+        }
     }
-    match (
-        arguments::kind_named(kind),
-        arguments::clip_named(old),
-        arguments::clip_named(new),
-    ) {
-        (Some(named), Some(from), Some(to)) => of_file(rt, streams, named, from, to, path),
-        _ => usage(streams),
-    }
+    say_failure(streams, Failure::Misnamed);
+    Err(Failure::Misnamed)
 }
 
 fn main(rt: HostRuntime) -> ExitCode {

@@ -1,12 +1,11 @@
 -- What a salvage ends with, by its log: a run is a cut, and so is a dropped block, unless it came before or too late. Assumes nothing.
-use Rattle.std.specs.Prelude.{◌≡◌, Bool, true, false, List, [], ◌∷◌, ◌++◌, ℕ, eqb}
+use Rattle.std.specs.Prelude.{Ok, ◌≡◌, Bool, true, false, List, [], ◌∷◌, ◌++◌, ℕ, eqb}
 use Rattle.laws.specs.Choice.{pick, either}
 use Rattle.refusals.specs.Told.{Told, accepted, refused_by}
 use Rattle.standing.specs.Answered.{Said, old, taken, lost, picture, refused}
 use Rattle.salvaging.specs.Log.{LogEntry, kept, skipped, dropped}
 use Rattle.salvaging.specs.Salvage.{Salvage, some_kept}
 use Rattle.account.specs.Status.{status_of}
-use Rattle.account.specs.declared.End.TheVariants.{Done}
 use Rattle.salvage_log.specs.Lines.{refused_text, entries_text, log_text}
 
 -- a dropped block, by its answer
@@ -36,7 +35,7 @@ salvage_status (refused_by numbers) = 2
 -- "then 43, no picture kept": by its entries, its pictures and whether something was cut
 pub record RunTells (s : Salvage) : Type 0 where
   pub text : pick (eqb s.pictures 0) (refused_text 43) (entries_text s.log) ≡ log_text (some_kept s)
-  pub status : status_of (Done (cut_after false s.log) s.pictures) ≡ salvage_status (some_kept s)
+  pub status : status_of (Ok (record { cut = cut_after false s.log; count = s.pictures })) ≡ salvage_status (some_kept s)
 
 abbrev pub EveryRunTells : Type 0
 EveryRunTells = (s : Salvage) → RunTells s

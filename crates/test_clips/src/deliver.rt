@@ -96,7 +96,10 @@ fn receive<O: Write>(
     if told {
         checks::say(stdout, b",");
     }
-    Called::Next(Party::Receiving(next), told)
+    Called {
+        next: Party::Receiving(next),
+        told,
+    }
 }
 
 pub fn call<I: Read, O: Write>(
@@ -107,11 +110,11 @@ pub fn call<I: Read, O: Write>(
     collection: &mut [u8],
     first: &mut [u8],
     second: &mut [u8],
-) -> Called {
+) -> Option<Called> {
     let mut block = [0u8; 1024];
     if !checks::fills_part(stdin, length, &mut block) {
-        return Called::Ended;
+        return None;
     }
     let whole = checks::part(length, &block);
-    receive(stdout, receiver, &block[..whole], collection, first, second)
+    Some(receive(stdout, receiver, &block[..whole], collection, first, second))
 }

@@ -21,7 +21,6 @@ mod send;
 enum Case {
     Send,
     Deliver,
-    Other,
 }
 
 // Who is called.
@@ -31,11 +30,11 @@ enum Party {
     Receiving(Receiver),
 }
 
-// Who is called next, and whether the line goes on with the checks of the buffers; or the end of the input.
+// Who is called next, and whether the line goes on with the checks of the buffers.
 #[derive(Clone, Copy)]
-enum Called {
-    Next(Party, bool),
-    Ended,
+struct Called {
+    next: Party,
+    told: bool,
 }
 
 // ---- buffers: the sender's output or the receiver's collection buffer, and two stores, with room for any size
@@ -102,7 +101,7 @@ fn lend<I: Read, O: Write>(
     buffer: &mut [u8],
     first: &mut [u8],
     second: &mut [u8],
-) -> Called {
+) -> Option<Called> {
     let samples = size::store_length(size_of(party));
     let short = short_of(party, start);
     let most = part(lent(buffer_length(party), short == 1), buffer);
@@ -138,20 +137,17 @@ fn next_call<I: Read, O: Write>(
     buffer: &mut [u8],
     first: &mut [u8],
     second: &mut [u8],
-) -> Called {
+) -> Option<Called> {
     let mut start = [0u8; 3];
     if !checks::fills(stdin, &mut start) {
-        return Called::Ended;
+        return None;
     }
-    let called = lend(stdin, stdout, party, &start, buffer, first, second);
-    let Called::Next(next, told) = called else {
-        return Called::Ended;
-    };
-    if told {
-        say_checks(stdout, next, buffer, first, second);
+    let called = lend(stdin, stdout, party, &start, buffer, first, second)?;
+    if called.told {
+        say_checks(stdout, called.next, buffer, first, second);
     }
     checks::say(stdout, b"\n");
-    called
+    Some(called)
 }
 
 // ---- a session
@@ -167,14 +163,11 @@ fn calls<I: Read, O: Write>(
     second: &mut [u8],
 ) -> bool {
     let mut party = opened;
-    let mut n: usize = 0;
-    while n < count {
-        let called = next_call(stdin, stdout, party, buffer, first, second);
-        let Called::Next(next, _) = called else {
+    for _ in 0..count {
+        let Some(called) = next_call(stdin, stdout, party, buffer, first, second) else {
             return false;
         };
-        party = next;
-        n += 1;
+        party = called.next;
     }
     true
 }
@@ -246,15 +239,9 @@ fn open<I: Read, O: Write>(
     match case {
         Case::Send => open_sender(stdin, stdout, clip, kind, count),
         Case::Deliver => match standing::open(clip, kind) {
-            Ok(receiver) => session(
-                stdin,
-                stdout,
-                Party::Receiving(receiver),
-                count,
-            ),
+            Ok(receiver) => session(stdin, stdout, Party::Receiving(receiver), count),
             Err(why) => refused(stdout, why),
         },
-        Case::Other => false,
     }
 }
 
@@ -278,20 +265,21 @@ fn one<I: Read, O: Write>(stdin: &mut I, stdout: &mut O, case: Case) -> bool {
 
 // Nothing says that the input ends, so the loop counts its turns.
 fn all<I: Read, O: Write>(stdin: &mut I, stdout: &mut O, case: Case) {
-    let mut n: u64 = 0;
-    while n < 100000000 && one(stdin, stdout, case) {
-        n += 1;
+    for _ in 0..100000000u64 {
+        if !one(stdin, stdout, case) {
+            break;
+        }
     }
 }
 
-fn case_named(word: &[u8]) -> Case {
+fn case_named(word: &[u8]) -> Option<Case> {
     if text::same(word, b"send") {
-        return Case::Send;
+        return Some(Case::Send);
     }
     if text::same(word, b"deliver") {
-        return Case::Deliver;
+        return Some(Case::Deliver);
     }
-    Case::Other
+    None
 }
 
 fn main(rt: HostRuntime) {
@@ -300,13 +288,10 @@ fn main(rt: HostRuntime) {
     let mut stderr = rt.stderr();
     let mut word = [0u8; 16];
     let count = checks::arg(&rt, 1, &mut word);
-    let case = case_named(&word[..count]);
-    match case {
-        Case::Other => {
-            stderr
-                .write_all(b"usage: test_clips send|deliver < SESSIONS\n")
-                .is_ok();
+    match case_named(&word[..count]) {
+        None => {
+            let _ = stderr.write_all(b"usage: test_clips send|deliver < SESSIONS\n");
         }
-        _ => all(&mut stdin, &mut stdout, case),
+        Some(case) => all(&mut stdin, &mut stdout, case),
     }
 }

@@ -1,7 +1,7 @@
 // Descriptions sent: a call is how often it is made in two bytes, which buffer is lent without its last byte in one (0 none, 1 the first store, 2 the second, 3 the output),
 // and the description. The line of its last time: "sent PICTURE BLOCKS" or "refused NUMBER", and the checks of output, first and second store.
 use crate::{Called, Party};
-use checks::{Description, part};
+use checks::part;
 use refusals::Refusal;
 use sender::Sender;
 use std::io::{Read, Write};
@@ -43,12 +43,10 @@ fn repeat<O: Write>(
 ) -> Sender {
     let mut picture = sender.picture;
     let mut last = sender::send(sender, head, macroblocks, levels, out, first, second);
-    let mut n: usize = 1;
-    while n < times {
+    for _ in 1..times {
         let next = last.next;
         picture = next.picture;
         last = sender::send(next, head, macroblocks, levels, out, first, second);
-        n += 1;
     }
     let answer = last.answer;
     say_answer(stdout, picture, answer);
@@ -63,17 +61,14 @@ pub fn call<I: Read, O: Write>(
     out: &mut [u8],
     first: &mut [u8],
     second: &mut [u8],
-) -> Called {
+) -> Option<Called> {
     let mut head = [0u8; 64];
     let mut macroblocks = [0u8; 2048];
     let mut levels = [0u8; 153600];
-    let described = checks::next_description(stdin, &mut head, &mut macroblocks, &mut levels);
-    let Description::Lengths(heads, fields, coefficients) = described else {
-        return Called::Ended;
-    };
-    let headed = part(heads, &head);
-    let fielded = part(fields, &macroblocks);
-    let levelled = part(coefficients, &levels);
+    let read = checks::next_description(stdin, &mut head, &mut macroblocks, &mut levels)?;
+    let headed = part(read.head, &head);
+    let fielded = part(read.macroblocks, &macroblocks);
+    let levelled = part(read.levels, &levels);
     let next = repeat(
         stdout,
         sender,
@@ -85,5 +80,8 @@ pub fn call<I: Read, O: Write>(
         first,
         second,
     );
-    Called::Next(Party::Sending(next), true)
+    Some(Called {
+        next: Party::Sending(next),
+        told: true,
+    })
 }

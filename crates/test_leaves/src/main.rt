@@ -18,26 +18,22 @@ enum Case {
     Words,
     Blocks,
     Due,
-    Other,
 }
 
-fn case_named<E: Write>(stderr: &mut E, word: &[u8]) -> Case {
+fn case_named(word: &[u8]) -> Option<Case> {
     if text::same(word, b"words") {
-        return Case::Words;
+        return Some(Case::Words);
     }
     if text::same(word, b"h263-words") {
-        return Case::Words;
+        return Some(Case::Words);
     }
     if text::same(word, b"blocks") {
-        return Case::Blocks;
+        return Some(Case::Blocks);
     }
     if text::same(word, b"due") {
-        return Case::Due;
+        return Some(Case::Due);
     }
-    stderr
-        .write_all(b"usage: test_leaves words|h263-words|blocks|due < RECORDS\n")
-        .is_ok();
-    Case::Other
+    None
 }
 
 // One record, and whether to go on.
@@ -54,7 +50,6 @@ fn one<I: Read, O: Write>(
         Case::Words => words::one(stdin, stdout, tables, newer),
         Case::Blocks => blocks::one(stdin, stdout),
         Case::Due => due::one(stdin, stdout),
-        Case::Other => false,
     }
 }
 
@@ -68,9 +63,10 @@ fn all<I: Read, O: Write>(
 )
     requires { TablesLent tables.now newer.now }
 {
-    let mut n: u64 = 0;
-    while n < 100000000 && one(stdin, stdout, case, tables, newer) {
-        n += 1;
+    for _ in 0..100000000u64 {
+        if !one(stdin, stdout, case, tables, newer) {
+            break;
+        }
     }
 }
 
@@ -80,8 +76,13 @@ fn main(rt: HostRuntime) {
     let mut stderr = rt.stderr();
     let mut word = [0u8; 16];
     let count = checks::arg(&rt, 1, &mut word);
-    let case = case_named(&mut stderr, &word[..count]);
     let tables = h261_words::tables();
     let newer = h263_words::tables();
-    all(&mut stdin, &mut stdout, case, &tables, &newer);
+    match case_named(&word[..count]) {
+        Some(case) => all(&mut stdin, &mut stdout, case, &tables, &newer),
+        None => {
+            let usage = b"usage: test_leaves words|h263-words|blocks|due < RECORDS\n";
+            let _ = stderr.write_all(usage);
+        }
+    }
 }

@@ -12,10 +12,8 @@ use refusals::Refusal;
 use std::io::{Read, Write};
 
 fn say_places<O: Write>(stdout: &mut O, places: &[u64]) {
-    let mut i: usize = 0;
-    while i < places.len() {
-        checks::say_number(stdout, places[i]);
-        i += 1;
+    for &place in places {
+        checks::say_number(stdout, place);
     }
 }
 
@@ -88,8 +86,9 @@ fn one<I: Read, O: Write>(stdin: &mut I, stdout: &mut O) -> bool {
 fn main(rt: HostRuntime) {
     let mut stdin = rt.stdin();
     let mut stdout = rt.stdout();
-    let mut n: u64 = 0;
-    while n < 100000000 && one(&mut stdin, &mut stdout) {
-        n += 1;
+    for _ in 0..100000000u64 {
+        if !one(&mut stdin, &mut stdout) {
+            break;
+        }
     }
 }

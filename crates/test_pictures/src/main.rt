@@ -20,20 +20,19 @@ enum Case {
     Render,
     Write,
     Pictures,
-    Other,
 }
 
-fn case_named(word: &[u8]) -> Case {
+fn case_named(word: &[u8]) -> Option<Case> {
     if text::same(word, b"render") {
-        return Case::Render;
+        return Some(Case::Render);
     }
     if text::same(word, b"write") {
-        return Case::Write;
+        return Some(Case::Write);
     }
     if text::same(word, b"pictures") {
-        return Case::Pictures;
+        return Some(Case::Pictures);
     }
-    Case::Other
+    None
 }
 
 // One record, and whether to go on.
@@ -52,15 +51,15 @@ fn one<I: Read, O: Write>(
         Case::Render => render::one(stdin, stdout, kind),
         Case::Write => write::one(stdin, stdout, kind),
         Case::Pictures => pictures::one(stdin, stdout, kind, pattern),
-        Case::Other => false,
     }
 }
 
 // Nothing says that the input ends, so the loop counts its turns.
 fn all<I: Read, O: Write>(stdin: &mut I, stdout: &mut O, case: Case, pattern: &[u8; 152064]) {
-    let mut n: u64 = 0;
-    while n < 100000000 && one(stdin, stdout, case, pattern) {
-        n += 1;
+    for _ in 0..100000000u64 {
+        if !one(stdin, stdout, case, pattern) {
+            break;
+        }
     }
 }
 
@@ -72,10 +71,8 @@ fn sample(i: usize) -> u8
 }
 
 fn lay(pattern: &mut [u8; 152064]) {
-    let mut i: usize = 0;
-    while i < 152064 {
+    for i in 0..152064 {
         pattern[i] = sample(i);
-        i += 1;
     }
 }
 
@@ -85,14 +82,11 @@ fn main(rt: HostRuntime) {
     let mut stderr = rt.stderr();
     let mut word = [0u8; 16];
     let count = checks::arg(&rt, 1, &mut word);
-    let case = case_named(&word[..count]);
-    match case {
-        Case::Other => {
-            stderr
-                .write_all(b"usage: test_pictures render|write|pictures < RECORDS\n")
-                .is_ok();
+    match case_named(&word[..count]) {
+        None => {
+            let _ = stderr.write_all(b"usage: test_pictures render|write|pictures < RECORDS\n");
         }
-        _ => {
+        Some(case) => {
             let mut pattern = [0u8; 152064];
             lay(&mut pattern);
             all(&mut stdin, &mut stdout, case, &pattern);

@@ -37,15 +37,10 @@ fn same_refusal(a: Refusal, b: Refusal) -> bool {
 
 // Whether two verdicts are the same.
 fn agree(a: Result<(), Refusal>, b: Result<(), Refusal>) -> bool {
-    match a {
-        Ok(()) => match b {
-            Ok(()) => true,
-            Err(_) => false,
-        },
-        Err(why) => match b {
-            Ok(()) => false,
-            Err(other) => same_refusal(why, other),
-        },
+    match (a, b) {
+        (Ok(()), Ok(())) => true,
+        (Err(why), Err(other)) => same_refusal(why, other),
+        _ => false,
     }
 }
 

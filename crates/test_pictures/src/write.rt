@@ -1,7 +1,7 @@
 // Pictures written: a record goes on with the output's length in four bytes and the description. Every byte of the output is 165 before. Lines: "written N CHECK" and
 // "refused NUMBER CHECK" with the check of the output; "not read back" where reading N bits of it doesn't give the description again.
 use crate::BEFORE;
-use checks::{Description, part};
+use checks::part;
 use coding::Kind;
 use std::io::{Read, Write};
 
@@ -100,12 +100,12 @@ pub fn one<I: Read, O: Write>(stdin: &mut I, stdout: &mut O, kind: Kind) -> bool
     let mut macroblocks = [0u8; 2048];
     let mut levels = [0u8; 153600];
     let described = checks::next_description(stdin, &mut head, &mut macroblocks, &mut levels);
-    let Description::Lengths(heads, fields, coefficients) = described else {
+    let Some(read) = described else {
         return false;
     };
-    let headed = part(heads, &head);
-    let fielded = part(fields, &macroblocks);
-    let levelled = part(coefficients, &levels);
+    let headed = part(read.head, &head);
+    let fielded = part(read.macroblocks, &macroblocks);
+    let levelled = part(read.levels, &levels);
     say(
         stdout,
         kind,

@@ -3,8 +3,5 @@ use Rattle.std.proofs.Common.{length, ◌-◌}
 use Rattle.checks.proofs.Turns.{CheckedSoFar}
 use Rattle.checks.proofs.check_on.Given as goal
 
-abbrev pub invariant-loop-i : goal.invariant-loop-i
-invariant-loop-i l = CheckedSoFar l.h l.bytes l.on l.i
-
-abbrev pub decreases-loop-i : goal.decreases-loop-i
-decreases-loop-i l = length l.bytes - l.i
+abbrev pub invariant-loop-byte : goal.invariant-loop-byte
+invariant-loop-byte l = CheckedSoFar l.h l.bytes l.on l.byte-index

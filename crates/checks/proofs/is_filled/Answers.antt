@@ -4,14 +4,14 @@ use lib.ListN.{length-replicate, get_or-replicate}
 use Rattle.text.proofs.Compared.{alike-none, alike_more, alike_all, other_byte}
 use Rattle.checks.proofs.is_filled.Goals as goal
 
-pub loop-i-init : goal.loop-i-init
-loop-i-init c = alike-none _ _ (sym (length-replicate _ _))
+pub loop-byte-init : goal.loop-byte-init
+loop-byte-init c = alike-none _ _ (sym (length-replicate _ _))
 
-pub returns-then-buffer-i : goal.returns-then-buffer-i
-returns-then-buffer-i c = other_byte c.loop-i.invariant c.loop-i-test.true (λ e. c.if-buffer-i.true (e ∙ get_or-replicate _ _ _ 0 c.loop-i-test.true))
+pub returns-then-byte : goal.returns-then-byte
+returns-then-byte c = other_byte c.loop-byte.invariant c.loop-byte-test.true (λ e. c.if-byte.true (e ∙ get_or-replicate _ _ _ 0 c.loop-byte-test.true))
 
-pub loop-i-preserved : goal.loop-i-preserved
-loop-i-preserved c = alike_more c.loop-i.invariant c.loop-i-test.true (c.if-buffer-i.false ∙ sym (get_or-replicate _ _ _ 0 c.loop-i-test.true))
+pub loop-byte-preserved : goal.loop-byte-preserved
+loop-byte-preserved c = alike_more c.loop-byte.invariant c.loop-byte-test.true (c.if-byte.false ∙ sym (get_or-replicate _ _ _ 0 c.loop-byte-test.true))
 
 pub returns : goal.returns
-returns c = alike_all c.loop-i.invariant c.loop-i-test.false
+returns c = alike_all c.loop-byte.invariant c.loop-byte-test.false

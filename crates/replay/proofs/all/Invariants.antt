@@ -1,9 +1,6 @@
--- Ends: the turns are counted. Assumes nothing.
-use Rattle.std.proofs.Common.{◌-◌, ◌≤◌}
+-- What waits has room. Assumes nothing.
+use Rattle.std.proofs.Common.{◌≤◌}
 use Rattle.replay.proofs.all.Given as goal
 
-abbrev pub invariant-loop-n : goal.invariant-loop-n
-invariant-loop-n g l = (l.n ≤ 18446744073709551615) × (l.state.waiting ≤ 524280)
-
-abbrev pub decreases-loop-n : goal.decreases-loop-n
-decreases-loop-n g l = 18446744073709551615 - l.n
+abbrev pub invariant-loop-1 : goal.invariant-loop-1
+invariant-loop-1 g l = l.state.waiting ≤ 524280
