@@ -127,7 +127,7 @@ fn first_index(kind: u32, intra: bool) -> u64
     }
 }
 
-fn say_kind<O: Write>(stdout: &mut O, r: FieldRead, intra: bool) {
+fn say_kind<O: Write>(stdout: &mut O, r: FieldRead<u32>, intra: bool) {
     match r {
         FieldRead::Got(v, p) => say_got(stdout, first_index(v / 4, intra) + (v % 4) as u64, p),
         FieldRead::Refused(x) => say_refused(stdout, x),
