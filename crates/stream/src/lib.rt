@@ -263,8 +263,7 @@ fn pass_bytes(stream: Stream, bytes: &[u8], from: usize, picture: &mut [u8]) -> 
 {
     let room = smaller(picture.len(), 1152921504606846976);
     let mut next = stream;
-    let mut i = from;
-    while i < bytes.len() {
+    for i in from..bytes.len() {
         if !calm(next, room) {
             return Passed {
                 stream: next,
@@ -274,11 +273,10 @@ fn pass_bytes(stream: Stream, bytes: &[u8], from: usize, picture: &mut [u8]) -> 
         let byte = bytes[i];
         put_byte(picture, next.count, byte);
         next = longer_by_byte(next, room, byte);
-        i += 1;
     }
     Passed {
         stream: next,
-        at: i * 8,
+        at: bytes.len() * 8,
     }
 }
 
@@ -310,6 +308,7 @@ pub fn pass(stream: Stream, bytes: &[u8], at: usize, picture: &mut [u8]) -> Pass
 {
     let mut next = stream;
     let mut i = at;
+    // No `for`: a turn passes one bit, or whole bytes before it.
     while i / 8 < bytes.len() {
         let run = pass_calm(next, bytes, i, picture);
         next = run.stream;

@@ -1,7 +1,8 @@
 -- `stream::pass_bytes` meets its contract: byte by byte, as long as it is calm. Assumes nothing.
-use mathlib.Core.Path.{refl}
+use mathlib.Core.Path.{◌≡◌, refl}
 use Prim.Native.Nat.{◌*◌}
 use native.Mathlib.Omega.{arith}
+use lib.ListN.{length}
 use borrow.Author.Tests.{not-false}
 use Rattle.stream.proofs.Bytes.{reaches_here, reaches_more, reaches_byte}
 use Rattle.stream.proofs.pass_bytes.Goals as goal
@@ -32,7 +33,9 @@ loop-i-preserved c = (
 )
 
 pub overflow_mul-result-2 : goal.overflow_mul-result-2
-overflow_mul-result-2 c = omega (arith, c.loop-i.invariant.0, c.requires.0)
+overflow_mul-result-2 c = omega (arith, c.requires.0)
 
 pub returns : goal.returns
-returns c = c.loop-i.invariant.1
+returns c =
+    let all : c.loop-i.i ≡ length c.args.bytes.now = omega (arith, c.loop-i.invariant.0, c.loop-i-test.false) in
+    rw all at c.loop-i.invariant.1

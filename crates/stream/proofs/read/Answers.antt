@@ -11,16 +11,16 @@ pub overflow_add-ones : goal.overflow_add-ones
 overflow_add-ones c =
     omega (arith, (c.ends_filled.ensures (not-false _ c.if-not-ends_filled.false-raw)).some, c.ranges.count)
 
-pub returns-in-Accepted : goal.returns-in-Accepted
-returns-in-Accepted c =
+pub returns-in-Ok : goal.returns-in-Ok
+returns-in-Ok c =
     let a = c.args in
     let all = filled_once (c.ends_filled.ensures (not-false _ c.if-not-ends_filled.false-raw)) (flat a.head.now a.macroblocks.now a.levels.now) (c.read-read.ensures.verdict, c.read-read.ensures.buffers)
-    (ap told_verdict c.in-Accepted.is) in
+    (ap told_verdict c.in-Ok.is) in
     record { verdict = all.0; buffers = all.1 }
 
-pub returns-in-Refused : goal.returns-in-Refused
-returns-in-Refused c =
+pub returns-in-Err : goal.returns-in-Err
+returns-in-Err c =
     let a = c.args in
     let all = filled_again (c.ends_filled.ensures (not-false _ c.if-not-ends_filled.false-raw)) (flat a.head.now a.macroblocks.now a.levels.now) (c.read-read.ensures.verdict, c.read-read.ensures.buffers)
-    (ap told_verdict c.in-Refused.is) (c.read_whole-in-Refused.ensures.verdict, c.read_whole-in-Refused.ensures.buffers) in
+    (ap told_verdict c.in-Err.is) (c.read_whole-in-Err.ensures.verdict, c.read_whole-in-Err.ensures.buffers) in
     record { verdict = all.0; buffers = all.1 }

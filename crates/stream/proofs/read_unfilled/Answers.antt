@@ -11,16 +11,16 @@ returns-then-not-among_zeros c = let a = c.args in
     let all = stays a.format a.bytes.now a.ones (flat a.head.now a.macroblocks.now a.levels.now) _ c.among_zeros.ensures (not-true _ c.if-not-among_zeros.true-raw) in
     record { verdict = all.0; buffers = all.1 }
 
-pub returns-in-Accepted : goal.returns-in-Accepted
-returns-in-Accepted c =
+pub returns-in-Ok : goal.returns-in-Ok
+returns-in-Ok c =
     let a = c.args in
     let all = whole a.format a.bytes.now a.ones (flat a.head.now a.macroblocks.now a.levels.now) _ c.among_zeros.ensures
-    (not-false _ c.if-not-among_zeros.false-raw) (c.read-read.ensures.verdict, c.read-read.ensures.buffers) (ap told_verdict c.in-Accepted.is) in
+    (not-false _ c.if-not-among_zeros.false-raw) (c.read-read.ensures.verdict, c.read-read.ensures.buffers) (ap told_verdict c.in-Ok.is) in
     record { verdict = all.0; buffers = all.1 }
 
-pub returns-in-Refused : goal.returns-in-Refused
-returns-in-Refused c =
+pub returns-in-Err : goal.returns-in-Err
+returns-in-Err c =
     let a = c.args in
     let all = broken a.format a.bytes.now a.ones (flat a.head.now a.macroblocks.now a.levels.now) _ c.among_zeros.ensures
-    (not-false _ c.if-not-among_zeros.false-raw) (c.read-read.ensures.verdict, c.read-read.ensures.buffers) (ap told_verdict c.in-Refused.is) in
+    (not-false _ c.if-not-among_zeros.false-raw) (c.read-read.ensures.verdict, c.read-read.ensures.buffers) (ap told_verdict c.in-Err.is) in
     record { verdict = all.0; buffers = all.1 }

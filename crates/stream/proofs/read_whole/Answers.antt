@@ -6,18 +6,18 @@ use Rattle.layout.specs.Flat.{flat}
 use Rattle.stream.proofs.Unfilled.{at_once, again}
 use Rattle.stream.proofs.read_whole.Goals as goal
 
-pub returns-in-Accepted : goal.returns-in-Accepted
-returns-in-Accepted c =
+pub returns-in-Ok : goal.returns-in-Ok
+returns-in-Ok c =
     let a = c.args in
     let all = at_once a.format a.bytes.now a.ones (flat a.head.now a.macroblocks.now a.levels.now) a.count
     (c.smaller-first.ensures ∙ ap (λ (m : ℕ). min a.count m) (c.larger-most.ensures ∙ ap (λ (l : ℕ). max l a.ones) c.limit.ensures))
-    (c.read-read.ensures.verdict, c.read-read.ensures.buffers) (ap told_verdict c.in-Accepted.is) in
+    (c.read-read.ensures.verdict, c.read-read.ensures.buffers) (ap told_verdict c.in-Ok.is) in
     record { verdict = all.0; buffers = all.1 }
 
-pub returns-in-Refused : goal.returns-in-Refused
-returns-in-Refused c =
+pub returns-in-Err : goal.returns-in-Err
+returns-in-Err c =
     let a = c.args in
     let all = again a.format a.bytes.now a.ones (flat a.head.now a.macroblocks.now a.levels.now) a.count
     (c.smaller-first.ensures ∙ ap (λ (m : ℕ). min a.count m) (c.larger-most.ensures ∙ ap (λ (l : ℕ). max l a.ones) c.limit.ensures))
-    (c.read-read.ensures.verdict, c.read-read.ensures.buffers) (ap told_verdict c.in-Refused.is) (c.read_unfilled.ensures.verdict, c.read_unfilled.ensures.buffers) in
+    (c.read-read.ensures.verdict, c.read-read.ensures.buffers) (ap told_verdict c.in-Err.is) (c.read_unfilled.ensures.verdict, c.read_unfilled.ensures.buffers) in
     record { verdict = all.0; buffers = all.1 }
