@@ -9,6 +9,7 @@ use native.Mathlib.Nat.{le_antisymm}
 use native.Mathlib.Numerals.{add-one}
 use lib.Dec.{T, eqb}
 use lib.ListN.{length, get_or, set, drop, length-set}
+use Rattle.std.proofs.Common.{Option, Some, None}
 use Rattle.laws.specs.Choice.{alike}
 use Rattle.laws.proofs.Choice.{alike_same}
 use Rattle.laws.proofs.Rows.{lt-or-ge}
@@ -49,7 +50,6 @@ use Rattle.fields.proofs.Meaning.{was_got, onward}
 use Rattle.fields.proofs.Told.{within_next}
 use Rattle.h261_layers.proofs.MacroblockWhole.{vector_kept}
 use Rattle.h261_layers.proofs.MacroblockSteps.{opened}
-use Rattle.layout.specs.Valid.{Lengths}
 use Rattle.h261_reader.proofs.MacroblocksTurn.{MacroblocksSoFar, macroblocks_first, macroblocks_refused, macroblocks_ended, macroblocks_stuffed, macroblocks_inside, macroblocks_more}
 use Rattle.h261_reader.proofs.GroupsTurn.{macroblocks_at, quantised, GroupsSoFar, groups_done, groups_head, groups_inside, groups_more}
 
@@ -255,54 +255,9 @@ less_count g all c l e = omega arith
 pub last_found : (s : List ℕ) (n : ℕ) (r : MbaRead) (g all c address : ℕ) (bs : List Bit) (p : Place) → as_mba s n r ≡ mba (eqb (g + 1) all) address bs p → all ≡ c → as_mba s n r ≡ mba (eqb (g + 1) c) address bs p
 last_found s n r g all c address bs p w e = w ∙ ap (λ (k : ℕ). mba (eqb (g + 1) k) address bs p) e
 
--- where the ways out meet: a refusal with groups left, or all groups
-pub record Left (start : ReadIn counted Flat) (s : List ℕ) (n c g : ℕ) (head₀ ms₀ ls₀ head ms ls : List ℕ) (p : Place) (r : Stopped) : Type 0 where
-  pub head_long : length head ≡ length head₀
-  pub ms_long : length ms ≡ length ms₀
-  pub ls_long : length ls ≡ length ls₀
-  pub no : g < c → refused r ≡ start
-  pub yes : c ≤ g → got (flat head ms ls) (bits_left s n p.bit) p ≡ start
+-- ---- the ways out: a refusal is kept, or none is
+pub kept_refusal : {r : Option Stopped} {x y : Stopped} → r ≡ Some x → r ≡ Some y → ◌≡◌ {A = ReadIn counted Flat} (refused x) (refused y)
+kept_refusal a b = cc
 
--- the same, of equal buffers, place and refusal
-pub left_as : {start : ReadIn counted Flat} {s : List ℕ} {n c g : ℕ} {head₀ ms₀ ls₀ head ms ls head' ms' ls' : List ℕ} {p p' : Place} {r r' : Stopped} → Left start s n c g head₀ ms₀ ls₀ head ms ls p r
-    → head' ≡ head → ms' ≡ ms → ls' ≡ ls → p' ≡ p → r' ≡ r → Left start s n c g head₀ ms₀ ls₀ head' ms' ls' p' r'
-left_as {s = s} {n} h a b c d e = record {
-  head_long = ap length a ∙ h.head_long;
-  ms_long = ap length b ∙ h.ms_long;
-  ls_long = ap length c ∙ h.ls_long;
-  no = λ l. ap (λ (x : Stopped). refused x) e ∙ h.no l;
-  yes = λ l. (λ i. got (flat (a i) (b i) (c i)) (bits_left s n (d i).bit) (d i)) ∙ h.yes l;
-}
-
-module _ {start : ReadIn counted Flat} {s : List ℕ} {n : ℕ} {f : Format} {head₀ ms₀ ls₀ head ms ls : List ℕ} {g : ℕ} {p : Place} (lengths : Lengths (shape f) (flat head₀ ms₀ ls₀)) (h : PictureSoFar start s n f head ms ls g p) where
-  out_refused : (head' ms' ls' : List ℕ) (z : Place) (r : Stopped) → g < group_count f → length head' ≡ length head → length ms' ≡ length ms → length ls' ≡ length ls → refused r ≡ start
-      → Left start s n (group_count f) g head₀ ms₀ ls₀ head' ms' ls' z r
-  out_refused head' ms' ls' z r l a b c e = record {
-    head_long = a ∙ h.head_long ∙ sym lengths.head_length;
-    ms_long = b ∙ h.ms_long ∙ sym lengths.macroblocks_length;
-    ls_long = c ∙ h.ls_long ∙ sym lengths.levels_length;
-    no = λ m. e;
-    yes = λ m. absurd (omega arith);
-  }
-
-  -- at a group's head
-  pub out_head : (z : Place) (number : ℕ) (r : Stopped) → g < group_count f → number ≡ get_or (group_numbers f) g 0 → group_head {P = counted} number (bits_left s n p.bit) p ≡ refused r → Left start s n (group_count f) g head₀ ms₀ ls₀ head ms ls z r
-  out_head z number r l e d = out_refused head ms ls z r l refl refl refl (picture_no_head h l number r e d)
-
-  -- among its macroblocks
-  pub out_inside : (ms' ls' : List ℕ) (z : Place) (number gquant : ℕ) (q : Place) (r : Stopped) → g < group_count f → number ≡ get_or (group_numbers f) g 0 → group_head {P = counted} number (bits_left s n p.bit) p ≡ got gquant (bits_left s n q.bit) q
-      → length ms' ≡ length ms → length ls' ≡ length ls
-      → refused r ≡ map_read {P = counted} (put_macroblocks 33 g (flat (set head (3 + g) gquant) ms ls)) (macroblocks_at f (eqb (g + 1) (group_count f)) number (bits_left s n q.bit) q)
-      → Left start s n (group_count f) g head₀ ms₀ ls₀ (set head (3 + g) gquant) ms' ls' z r
-  out_inside ms' ls' z number gquant q r l e d b c w =
-      out_refused (set head (3 + g) gquant) ms' ls' z r l (length-set head (3 + g) gquant) b c (picture_inside h l number gquant q e d r w)
-
-  -- after the last group
-  pub out_done : (r : Stopped) → group_count f ≤ g → Left start s n (group_count f) g head₀ ms₀ ls₀ head ms ls p r
-  out_done r l = record {
-    head_long = h.head_long ∙ sym lengths.head_length;
-    ms_long = h.ms_long ∙ sym lengths.macroblocks_length;
-    ls_long = h.ls_long ∙ sym lengths.levels_length;
-    no = λ m. absurd (omega arith);
-    yes = λ m. picture_done h l;
-  }
+pub none_kept : {r : Option Stopped} {x : Stopped} → r ≡ None → r ≡ Some x → ⊥
+none_kept a b = cc

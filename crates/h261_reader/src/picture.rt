@@ -9,14 +9,13 @@ ghost use Rattle.h261_layers.specs.Ready.{Reading};
 ghost use Rattle.h261_layers.specs.Grammar.{groups_read};
 ghost use Rattle.layout.specs.Valid.{Lengths};
 
-use bits::{Place, Stopped};
+use bits::Place;
 use fields::CountedRead;
 use h261_groups::Format;
 use h261_layers::head::group_head;
 use h261_layers::macroblock::{macroblock, mba};
 use h261_layers::{Behind, MbaRead};
 use h261_words::WordTables;
-use refusals::{Reason, Refusal};
 
 // The groups of a picture from the first one's GN on. The first refusal ends the whole picture, from inside any group.
 pub fn groups(
@@ -33,20 +32,13 @@ pub fn groups(
     ensures { leaving bytes.now count result (flat head.new macroblocks.new levels.new) ≡ map_read (put_groups (shape format) 0 (flat head.old macroblocks.old levels.old)) (groups_read format (group_numbers format) (bits_left bytes.now count at.bit) at) }
 {
     let all = h261_groups::order::group_count(format);
-    let mut group: usize = 0;
     let mut place = at;
-    let mut stopped = Stopped {
-        refusal: Refusal {
-            reason: Reason::BitsEnd,
-            place: at.bit,
-        },
-        reads: at.reads,
-    };
-    'picture: while group < all {
+    let mut stopped = None;
+    'picture: for group in 0..all {
         let number = h261_groups::order::group_number(format, group);
         let opened = group_head(bytes, count, place, number as u32);
         let CountedRead::Got(gquant, after) = opened else {
-            stopped = opened.stopped();
+            stopped = Some(opened.stopped());
             break 'picture;
         };
         head[3 + group] = gquant as u8;
@@ -81,7 +73,7 @@ pub fn groups(
                         levels,
                     );
                     let CountedRead::Got(then, end) = read else {
-                        stopped = read.stopped();
+                        stopped = Some(read.stopped());
                         break 'picture;
                     };
                     behind = then;
@@ -95,15 +87,14 @@ pub fn groups(
                     break 'group;
                 }
                 MbaRead::Refused(first) => {
-                    stopped = first;
+                    stopped = Some(first);
                     break 'picture;
                 }
             }
         }
-        group += 1;
     }
-    if group < all {
-        return CountedRead::Refused(stopped);
+    match stopped {
+        Some(stopped) => CountedRead::Refused(stopped),
+        None => CountedRead::Got((), place),
     }
-    CountedRead::Got((), place)
 }
