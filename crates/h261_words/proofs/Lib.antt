@@ -5,3 +5,4 @@ pub mod Back
 pub mod Coefficients
 pub mod WordReads
 pub mod Addresses
+pub mod Stands

@@ -22,19 +22,13 @@ use refusals::{Reason, Refusal, Table};
 
 pub mod kind;
 mod lookup;
+mod table;
 
 use lookup::TABLES;
+use table::word;
 
 // The array that every function here looks up, and where its parts begin (see TABLES). Make it once, high up, and lend it down.
 pub type WordTables = [u16; 7153];
-
-const MBA_TREE: usize = 0;
-
-const MTYPE_TREE: usize = 46;
-
-const MVD_TREE: usize = 56;
-
-const CBP_TREE: usize = 90;
 
 const SMALL_NUMBERS: usize = 306;
 
@@ -51,14 +45,6 @@ const MVD_WORDS: usize = 993;
 const CBP_WORDS: usize = 1025;
 
 const PAIR_WORDS: usize = 1089;
-
-const MBA_ENTRIES: usize = 1521;
-
-const MTYPE_ENTRIES: usize = 3569;
-
-const MVD_ENTRIES: usize = 4593;
-
-const CBP_ENTRIES: usize = 6641;
 
 pub fn tables() -> WordTables
     ensures { Tables result }
@@ -79,12 +65,7 @@ pub fn mba(tables: &WordTables, bytes: &[u8], count: usize, at: usize) -> FieldR
     requires { (Tables tables.now) × (Within bytes.now count at) }
     ensures { as_field bytes.now count result ≡ word_read table1 (bits_left bytes.now count at) at }
 {
-    let e = bits::entry(tables, MBA_ENTRIES, 11, bytes, count, at);
-    let length = e % 32;
-    if length == 0 {
-        return bits::without_entry(tables, MBA_TREE, Table::Mba, e, bytes, count, at);
-    }
-    FieldRead::Got((e / 32) as u32, at + length as usize)
+    word::<table::Mba>(tables, bytes, count, at)
 }
 
 // MTYPE at `at`: 1 to 10, in the order of document 01's table.
@@ -92,12 +73,7 @@ pub fn mtype(tables: &WordTables, bytes: &[u8], count: usize, at: usize) -> Fiel
     requires { (Tables tables.now) × (Within bytes.now count at) }
     ensures { as_field bytes.now count result ≡ word_read table2 (bits_left bytes.now count at) at }
 {
-    let e = bits::entry(tables, MTYPE_ENTRIES, 10, bytes, count, at);
-    let length = e % 32;
-    if length == 0 {
-        return bits::without_entry(tables, MTYPE_TREE, Table::Mtype, e, bytes, count, at);
-    }
-    FieldRead::Got((e / 32) as u32, at + length as usize)
+    word::<table::Mtype>(tables, bytes, count, at)
 }
 
 // A component of MVD at `at`: 16 more than the difference that Table 3 prints first.
@@ -105,12 +81,7 @@ pub fn mvd(tables: &WordTables, bytes: &[u8], count: usize, at: usize) -> FieldR
     requires { (Tables tables.now) × (Within bytes.now count at) }
     ensures { as_field bytes.now count result ≡ word_read table3 (bits_left bytes.now count at) at }
 {
-    let e = bits::entry(tables, MVD_ENTRIES, 11, bytes, count, at);
-    let length = e % 32;
-    if length == 0 {
-        return bits::without_entry(tables, MVD_TREE, Table::Mvd, e, bytes, count, at);
-    }
-    FieldRead::Got((e / 32) as u32, at + length as usize)
+    word::<table::Mvd>(tables, bytes, count, at)
 }
 
 // CBP at `at`: 1 to 63.
@@ -118,12 +89,7 @@ pub fn cbp(tables: &WordTables, bytes: &[u8], count: usize, at: usize) -> FieldR
     requires { (Tables tables.now) × (Within bytes.now count at) }
     ensures { as_field bytes.now count result ≡ word_read table4 (bits_left bytes.now count at) at }
 {
-    let e = bits::entry(tables, CBP_ENTRIES, 9, bytes, count, at);
-    let length = e % 32;
-    if length == 0 {
-        return bits::without_entry(tables, CBP_TREE, Table::Cbp, e, bytes, count, at);
-    }
-    FieldRead::Got((e / 32) as u32, at + length as usize)
+    word::<table::Cbp>(tables, bytes, count, at)
 }
 
 // The entry of Table 5 for 13 bits of this number.
