@@ -16,7 +16,7 @@ pub struct Filled {
 }
 
 // The input's next block, its end inside a block, or its end.
-#[derive(Clone, Copy, PartialEq, Eq)]
+#[derive(Clone, Copy, PartialEq, Eq, Debug)]
 pub enum Next {
     Block,
     Short,
@@ -28,6 +28,7 @@ pub fn fill<R: Read>(from: &mut R, buffer: &mut [u8]) -> Filled
     ensures { IsPrefixLen result.count buffer.new }
 {
     let mut done: usize = 0;
+    // each turn goes on by as many bytes as a read gives
     while done < buffer.len() {
         match from.read(&mut buffer[done..]) {
             Ok(0) => break,

@@ -20,7 +20,7 @@ pub mod remarks;
 pub mod streams;
 
 // A run whose input came to its end: whether something was cut, and how many pictures, or data bits, came out.
-#[derive(Clone, Copy, PartialEq, Eq)]
+#[derive(Clone, Copy, PartialEq, Eq, Debug)]
 pub struct Ended {
     pub cut: bool,
     pub count: u64,

@@ -10,7 +10,7 @@ use text::same;
 use vault::Standard;
 
 // A vault's blocks: their size, and the clip where one is named.
-#[derive(Clone, Copy)]
+#[derive(Clone, Copy, PartialEq, Eq, Debug)]
 pub struct VaultWords {
     pub size: Size,
     pub clip: Option<u16>,

@@ -19,7 +19,7 @@ use std::io::{Read, Write};
 // ---- records
 
 // How many bytes of a description's slices were read.
-#[derive(Clone, Copy, PartialEq, Eq)]
+#[derive(Clone, Copy, PartialEq, Eq, Debug)]
 pub struct Lengths {
     pub head: usize,
     pub macroblocks: usize,

@@ -27,23 +27,6 @@ fn say_accepted<O: Write>(
     say_reads(stdout, reads);
 }
 
-fn same_refusal(a: Refusal, b: Refusal) -> bool {
-    let first = a.reason;
-    let second = b.reason;
-    refusals::number_of(first) == refusals::number_of(second)
-        && refusals::table_of(first) == refusals::table_of(second)
-        && a.place == b.place
-}
-
-// Whether two verdicts are the same.
-fn agree(a: Result<(), Refusal>, b: Result<(), Refusal>) -> bool {
-    match (a, b) {
-        (Ok(()), Ok(())) => true,
-        (Err(why), Err(other)) => same_refusal(why, other),
-        _ => false,
-    }
-}
-
 fn unchanged(head: &[u8], macroblocks: &[u8], levels: &[u8], store: &[u8]) -> bool {
     checks::is_filled(head, BEFORE)
         && checks::is_filled(macroblocks, BEFORE)
@@ -61,7 +44,7 @@ fn say_verdict<O: Write>(
     levels: &[u8],
     store: &[u8],
 ) {
-    if !agree(verdict, decoded) {
+    if verdict != decoded {
         checks::say(stdout, b"two verdicts\n");
         return;
     }

@@ -1,5 +1,4 @@
 -- What the check makes of the rest is what h makes of all bytes. Assumes nothing.
-use Rattle.std.proofs.Common.{length, ◌-◌}
 use Rattle.checks.proofs.Turns.{CheckedSoFar}
 use Rattle.checks.proofs.check_on.Given as goal
 

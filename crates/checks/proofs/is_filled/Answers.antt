@@ -7,11 +7,11 @@ use Rattle.checks.proofs.is_filled.Goals as goal
 pub loop-byte-init : goal.loop-byte-init
 loop-byte-init c = alike-none _ _ (sym (length-replicate _ _))
 
-pub returns-then-byte : goal.returns-then-byte
-returns-then-byte c = other_byte c.loop-byte.invariant c.loop-byte-test.true (λ e. c.if-byte.true (e ∙ get_or-replicate _ _ _ 0 c.loop-byte-test.true))
+pub returns-then-byte-value : goal.returns-then-byte-value
+returns-then-byte-value c = other_byte c.loop-byte.invariant c.loop-byte-test.true (λ e. c.if-byte-value.true (e ∙ get_or-replicate _ _ _ 0 c.loop-byte-test.true))
 
 pub loop-byte-preserved : goal.loop-byte-preserved
-loop-byte-preserved c = alike_more c.loop-byte.invariant c.loop-byte-test.true (c.if-byte.false ∙ sym (get_or-replicate _ _ _ 0 c.loop-byte-test.true))
+loop-byte-preserved c = alike_more c.loop-byte.invariant c.loop-byte-test.true (c.if-byte-value.false ∙ sym (get_or-replicate _ _ _ 0 c.loop-byte-test.true))
 
 pub returns : goal.returns
 returns c = alike_all c.loop-byte.invariant c.loop-byte-test.false

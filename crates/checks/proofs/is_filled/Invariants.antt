@@ -1,5 +1,5 @@
 -- The rest is filled where the whole is. Assumes nothing.
-use Rattle.std.proofs.Common.{length, ◌-◌}
+use Rattle.std.proofs.Common.{length}
 use lib.ListN.{replicate}
 use Rattle.text.proofs.Compared.{AlikeSoFar}
 use Rattle.checks.proofs.is_filled.Given as goal
