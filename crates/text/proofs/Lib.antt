@@ -1,4 +1,3 @@
 pub mod Digits
 pub mod Refused
 pub mod Puts
-pub mod Compared

@@ -15,19 +15,12 @@ pub mod remarks;
 pub fn same(a: &[u8], b: &[u8]) -> bool
     ensures { result ≡ alike a.now b.now }
 {
-    if a.len() != b.len() {
-        return false;
-    }
-    let mut i: usize = 0;
-    while i < a.len() {
-        if a[i] != b[i] {
-            return false;
-        }
-        i += 1;
-    }
-    true
+    a == b
 }
 
+// Words are put one after another, and not by `write!`: that says which bytes it writes where it answers Ok, and nothing says that it does, while what is put here is put on every call
+// (`value`, `out_after` of the remarks; `puts`).
+//
 // Puts words into `out` at a place, and answers the place after them.
 pub fn put(words: &[u8], at: usize, out: &mut [u8]) -> usize
     requires { at + length words.now ≤ length out.old }

@@ -1,17 +1,19 @@
--- `AlikeSoFar` a place further, and what it says at the end. Assumes nothing.
-use mathlib.Core.Path.{sym}
-use Rattle.laws.proofs.Lists.{alike_lengths}
-use Rattle.text.proofs.Compared.{alike_more, alike_all, other_byte}
+-- `text::same` meets its contract: two slices are equal where they are alike. Assumes nothing.
+use mathlib.Core.Path.{◌≡◌, refl, ap, ◌∙◌}
+use mathlib.Core.List.{List, [], ◌∷◌}
+use Prim.Native.Nat.{ℕ}
+use lib.Dec.{eqb}
+use lib.Pointwise.{pointwise}
+use Rattle.laws.specs.Choice.{both}
+use Rattle.laws.specs.Lists.{alike}
 use Rattle.text.proofs.same.Goals as goal
 
-pub returns-then-a-b : goal.returns-then-a-b
-returns-then-a-b c = sym (alike_lengths _ _ c.if-a-b.true)
-
-pub returns-then-a-i : goal.returns-then-a-i
-returns-then-a-i c = other_byte c.loop-i.invariant c.loop-i-test.true c.if-a-i.true
-
-pub loop-i-preserved : goal.loop-i-preserved
-loop-i-preserved c = alike_more c.loop-i.invariant c.loop-i-test.true c.if-a-i.false
+equal_alike : (a b : List ℕ) → pointwise eqb a b ≡ alike a b
+unfolding alike
+equal_alike [] [] = refl
+equal_alike [] (y ∷ ys) = refl
+equal_alike (x ∷ xs) [] = refl
+equal_alike (x ∷ xs) (y ∷ ys) = ap (both (eqb x y)) (equal_alike xs ys)
 
 pub returns : goal.returns
-returns c = alike_all c.loop-i.invariant c.loop-i-test.false
+returns c = c.eq.ensures ∙ equal_alike c.args.a.now c.args.b.now
