@@ -1,3 +1,4 @@
+pub mod Compared
 pub mod Digits
 pub mod Refused
 pub mod Puts

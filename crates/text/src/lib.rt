@@ -12,6 +12,7 @@ use refusals::Refusal;
 pub mod remarks;
 
 // Whether two slices hold the same bytes.
+#[tactic(auto, using(crate::proofs::Compared::equal_alike))]
 pub fn same(a: &[u8], b: &[u8]) -> bool
     ensures { result ≡ alike a.now b.now }
 {
