@@ -71,6 +71,10 @@ in_next {list} {at} p l = record { whole = p.whole; begins = omega (arith, p.beg
 pub record Call (r : Receiver) (block : List ℕ) (b : Buffers) (gave : Received) (left : Buffers) : Type 0 where
   pub does : ReceiveDoes r block b gave left
 
+-- of a block that is said otherwise
+pub call_of : {r : Receiver} {block block' : List ℕ} {b : Buffers} {gave : Received} {left : Buffers} → block ≡ block' → Call r block b gave left → Call r block' b gave left
+call_of {r} {block} {block'} {b} {gave} {left} e call = subst (λ (x : List ℕ). Call r x b gave left) e call
+
 module _ {r : Receiver} {block : List ℕ} {b : Buffers} {gave : Received} {left : Buffers} (call : Call r block b gave left) where
   answers_next : (rest : List (List ℕ)) → answers coding_of (world_of r b) (block ∷ rest) ≡ said gave.answer ∷ answers coding_of (world_of gave.next left) rest
   unfolding answers world_after
@@ -125,6 +129,9 @@ module _ {list : List ℕ} {r₀ : Receiver} {b₀ : Buffers} {at : ℕ} {r : Re
     all = g.all ∙ ap any_kept (from_next list at (next_inside g.place more) call) ∙ any_later (said gave.answer) (answers_from gave.next left list (at + 512)) e;
   }
 
+pub any_at : {list : List ℕ} {r₀ : Receiver} {b₀ : Buffers} {at at' : ℕ} {r : Receiver} {b : Buffers} → at ≡ at' → AnyGoing list r₀ b₀ at r b → AnyGoing list r₀ b₀ at' r b
+any_at {list} {r₀} {b₀} {at} {at'} {r} {b} e g = subst (λ (n : ℕ). AnyGoing list r₀ b₀ n r b) e g
+
 pub any_end : {list : List ℕ} {r₀ : Receiver} {b₀ : Buffers} {at : ℕ} {r : Receiver} {b : Buffers} → AnyGoing list r₀ b₀ at r b → length list ≤ at → false ≡ any_kept (answers_from r₀ b₀ list 0)
 unfolding kept_numbers
 any_end {list} {r₀} {b₀} {at} {r} {b} g l = sym (g.all ∙ ap any_kept (from_none r b list at l))
@@ -157,6 +164,9 @@ module _ {list : List ℕ} {n from : ℕ} {r₀ : Receiver} {b₀ : Buffers} {at
   looking_next e s =
       let on = subst (LookRight n (said gave.answer) gave.next.progress rest) e seen in
       record { place = in_next g.place more; same = lengths_same g.same s; collects = on.1; all = here ∙ on.0 }
+
+pub looking_at : {list : List ℕ} {n from : ℕ} {r₀ : Receiver} {b₀ : Buffers} {at at' : ℕ} {r : Receiver} {b : Buffers} → at ≡ at' → Looking list n from r₀ b₀ at r b → Looking list n from r₀ b₀ at' r b
+looking_at {list} {n} {from} {r₀} {b₀} {at} {at'} {r} {b} e g = subst (λ (m : ℕ). Looking list n from r₀ b₀ m r b) e g
 
 pub looking_end : {list : List ℕ} {n from : ℕ} {r₀ : Receiver} {b₀ : Buffers} {at : ℕ} {r : Receiver} {b : Buffers} → Looking list n from r₀ b₀ at r b → length list ≤ at
     → false ≡ one_of (kept_numbers (answers_from r₀ b₀ list from)) n
@@ -218,6 +228,12 @@ going_first clip list r b out log l = record {
   few_pictures = omega arith;
   next_wanted = omega arith;
 }
+
+-- the same, of a place that is said otherwise
+pub going_at : {clip : ℕ} {list : List ℕ} {r₀ : Receiver} {b₀ : Buffers} {out₀ log₀ : List ℕ} {at at' : ℕ} {r : Receiver} {b : Buffers} {fate : Option Fate} {tally : Tally} {written entered : ℕ} {out log : List ℕ} → at ≡ at'
+    → Going clip list r₀ b₀ out₀ log₀ at r b fate tally written entered out log → Going clip list r₀ b₀ out₀ log₀ at' r b fate tally written entered out log
+going_at {clip} {list} {r₀} {b₀} {out₀} {log₀} {at} {at'} {r} {b} {fate} {tally} {written} {entered} {out} {log} e g =
+    subst (λ (n : ℕ). Going clip list r₀ b₀ out₀ log₀ n r b fate tally written entered out log) e g
 
 -- a block that goes on has a number within the limit
 number_few : (p q : Progress) (answer : Said) (later : Bool) (new next : ℕ) → AnswerKnown coding_of p answer q → new ≤ next → next ≤ p.wanted.picture → goes_on answer later ≡ true → new < pictures

@@ -4,7 +4,7 @@
 // over a file, by the same steps.
 #![tactic(auto)]
 
-ghost use Rattle.std.specs.Prelude.{◌≡◌, true, Err, [], ◌∷◌, ◌++◌, ◌+◌, ◌*◌, ◌%◌, ◌≤◌, ◌<◌, length};
+ghost use Rattle.std.specs.Prelude.{◌≡◌, true, Err, [], ◌∷◌, ◌++◌, ◌+◌, ◌*◌, ◌%◌, ◌^◌, ◌≤◌, ◌<◌, length};
 ghost use Rattle.std.proofs.lemmas.List.Edits.{sets};
 ghost use Rattle.refusals.specs.Number.{refusal};
 ghost use Rattle.refusals.specs.Told.{numbers_of};
@@ -28,7 +28,7 @@ use ticks::Tick;
 // ---- a block
 
 // How many pictures are kept so far, and the number after the last one's.
-#[derive(Clone, Copy)]
+#[derive(Clone, Copy, PartialEq, Eq)]
 pub struct Tally {
     pub pictures: u64,
     pub next: u64,
@@ -47,12 +47,6 @@ pub fn goes_on(answer: Answer, later: bool) -> bool
     }
 }
 
-fn wide(n: u32) -> u64
-    ensures { result ≡ n }
-{
-    n as u64
-}
-
 // The pictures so far, this block included.
 pub fn count(tally: Tally, answer: Answer) -> Tally
     requires { tally.pictures < 18446744073709551615 }
@@ -61,7 +55,7 @@ pub fn count(tally: Tally, answer: Answer) -> Tally
     match answer {
         Answer::Picture(old, _) => Tally {
             pictures: tally.pictures + 1,
-            next: wide(old) + 1,
+            next: u64::from(old) + 1,
         },
         Answer::Taken(_, _) => tally,
         Answer::Old(_, _) => tally,
@@ -104,7 +98,7 @@ pub fn entries_for(block: u64, tally: Tally, answer: Answer, later: bool) -> Ent
     ensures { told_entries result ≡ entries_for block tally.pictures tally.next (said answer) later }
 {
     match answer {
-        Answer::Picture(old, _) => kept_entries(block, tally, wide(old)),
+        Answer::Picture(old, _) => kept_entries(block, tally, u64::from(old)),
         Answer::Taken(_, _) => {
             if later {
                 return Entries::Nothing;
@@ -119,24 +113,12 @@ pub fn entries_for(block: u64, tally: Tally, answer: Answer, later: bool) -> Ent
 
 // ---- entries as numbers
 
-fn small(n: u8) -> u64
-    ensures { result ≡ n }
-{
-    n as u64
-}
-
-fn long(n: usize) -> u64
-    ensures { result ≡ n }
-{
-    n as u64
-}
-
 fn laid_tick(block: u64, n: u32, tick: Tick) -> [u64; 5]
     ensures { result ≡ laid_tick block n tick }
 {
     match tick {
-        Tick::Exact(at) => [block, 6, wide(n), wide(at), 0],
-        Tick::Estimated(at) => [block, 6, wide(n), wide(at), 1],
+        Tick::Exact(at) => [block, 6, u64::from(n), u64::from(at), 0],
+        Tick::Estimated(at) => [block, 6, u64::from(n), u64::from(at), 1],
     }
 }
 
@@ -146,15 +128,21 @@ fn laid_refusal(block: u64, why: Refusal) -> [u64; 5]
     let reason = why.reason;
     let number = refusals::number_of(reason);
     let table = refusals::table_of(reason);
-    [block, 5, wide(number), long(why.place), wide(table)]
+    [
+        block,
+        5,
+        u64::from(number),
+        why.place as u64,
+        u64::from(table),
+    ]
 }
 
 fn laid_answer(block: u64, answer: Answer) -> [u64; 5]
     ensures { result ≡ laid_answer block (said answer) }
 {
     match answer {
-        Answer::Taken(n, part) => [block, 2, wide(n), small(part), 0],
-        Answer::Old(n, part) => [block, 3, wide(n), small(part), 0],
+        Answer::Taken(n, part) => [block, 2, u64::from(n), u64::from(part), 0],
+        Answer::Old(n, part) => [block, 3, u64::from(n), u64::from(part), 0],
         Answer::Lost => [block, 4, 0, 0, 0],
         Answer::Refused(why) => laid_refusal(block, why),
         Answer::Picture(n, tick) => laid_tick(block, n, tick),
@@ -231,7 +219,7 @@ pub fn still(fate: Option<Fate>, answer: Answer) -> Option<Fate>
 }
 
 // What a block ahead comes to for a picture that was collected.
-#[derive(Clone, Copy)]
+#[derive(Clone, Copy, PartialEq, Eq)]
 pub enum Sight {
     Finished,
     Gone,
@@ -364,16 +352,13 @@ fn any_kept(
     ensures { result ≡ any_kept (answers_from opened (buffers collection.old first.old second.old) blocks.now 0) }
 {
     let mut receiver = opened;
-    let mut at: usize = 0;
-    while at < blocks.len() {
-        let end = at + 512;
-        let received = receiver::receive(receiver, &blocks[at..end], collection, first, second);
+    for block in blocks.chunks_exact(512) {
+        let received = receiver::receive(receiver, block, collection, first, second);
         let answer = received.answer;
         if is_picture(answer) {
             return true;
         }
         receiver = received.next;
-        at = end;
     }
     false
 }
@@ -392,22 +377,12 @@ fn finishes(
     ensures { result ≡ one_of (kept_numbers (answers_from begun (buffers collection.old first.old second.old) blocks.now from)) picture }
 {
     let mut receiver = begun;
-    let mut at = from;
-    while at < blocks.len() {
-        let end = at + 512;
-        let received = receiver::receive(receiver, &blocks[at..end], collection, first, second);
-        let sight = look(picture, received);
-        match sight {
-            Sight::Finished => {
-                return true;
-            }
-            Sight::Gone => {
-                return false;
-            }
-            Sight::Collecting => {
-                receiver = received.next;
-                at = end;
-            }
+    for block in blocks[from..].chunks_exact(512) {
+        let received = receiver::receive(receiver, block, collection, first, second);
+        match look(picture, received) {
+            Sight::Finished => return true,
+            Sight::Gone => return false,
+            Sight::Collecting => receiver = received.next,
         }
     }
     false
@@ -484,8 +459,8 @@ fn rewrite(
     };
     let mut written: usize = 0;
     let mut entered: usize = 0;
-    let mut at: usize = 0;
-    while at < blocks.len() {
+    for n in 0..blocks.len() / 512 {
+        let at = 512 * n;
         let end = at + 512;
         let block = &blocks[at..end];
         let received = receiver::receive(receiver, block, collection, first, second);
@@ -505,11 +480,10 @@ fn rewrite(
         let later = is_kept(fate);
         let goes = goes_on(answer, later);
         written = write(goes, clip, tally.pictures, block, out, written);
-        let entries = entries_for(long(at / 512), tally, answer, later);
+        let entries = entries_for(n as u64, tally, answer, later);
         entered = enter(entries, log, entered);
         tally = count(tally, answer);
         receiver = received.next;
-        at = end;
     }
     Ok(Salvaged {
         pictures: tally.pictures,
@@ -542,79 +516,38 @@ fn salvage_in(
     requires { SalvageRoom kind blocks.now out.old log.old (buffers collection.old first.old second.old) (buffers collection_ahead.old first_ahead.old second_ahead.old) }
     ensures { SalvageDoes kind old new blocks.now out.old log.old result out.new log.new }
 {
-    match standing::open(old, kind) {
-        Err(why) => Err(why),
-        Ok(receiver) => {
-            if new == 0 {
-                return refused(Reason::BlockField);
-            }
-            if any_kept(
-                receiver,
-                blocks,
-                collection_ahead,
-                first_ahead,
-                second_ahead,
-            ) {
-                return rewrite(
-                    receiver,
-                    new,
-                    blocks,
-                    out,
-                    log,
-                    collection,
-                    first,
-                    second,
-                    collection_ahead,
-                    first_ahead,
-                    second_ahead,
-                );
-            }
-            refused(Reason::NoneKept)
-        }
+    let receiver = standing::open(old, kind)?;
+    if new == 0 {
+        return refused(Reason::BlockField);
     }
-}
-
-// ---- scratch by size
-
-// QCIF and smaller.
-fn salvage_small(
-    kind: Kind,
-    old: u16,
-    new: u16,
-    blocks: &[u8],
-    out: &mut [u8],
-    log: &mut [u64],
-) -> Result<Salvaged, Refusal>
-    requires { (lengths_named (length blocks.now) (length out.old) (length log.old) ≡ true) × (BuffersIn 8500 38016 (kind_size kind)) }
-    ensures { SalvageDoes kind old new blocks.now out.old log.old result out.new log.new }
-{
-    let mut collection = [0u8; 8500];
-    let mut first = [0u8; 38016];
-    let mut second = [0u8; 38016];
-    let mut collection_ahead = [0u8; 8500];
-    let mut first_ahead = [0u8; 38016];
-    let mut second_ahead = [0u8; 38016];
-    let size = coding::size_of(kind);
-    let parts = size::collection_length(size);
-    let samples = size::store_length(size);
-    salvage_in(
-        kind,
-        old,
+    if !any_kept(
+        receiver,
+        blocks,
+        collection_ahead,
+        first_ahead,
+        second_ahead,
+    ) {
+        return refused(Reason::NoneKept);
+    }
+    rewrite(
+        receiver,
         new,
         blocks,
         out,
         log,
-        &mut collection[..parts],
-        &mut first[..samples],
-        &mut second[..samples],
-        &mut collection_ahead[..parts],
-        &mut first_ahead[..samples],
-        &mut second_ahead[..samples],
+        collection,
+        first,
+        second,
+        collection_ahead,
+        first_ahead,
+        second_ahead,
     )
 }
 
-// CIF, which has room for any size.
-fn salvage_large(
+// ---- scratch by size
+
+// With scratch of these lengths.
+fn salvage_within<const COLLECTION: usize, const STORE: usize>(
     kind: Kind,
     old: u16,
     new: u16,
@@ -622,15 +555,18 @@ fn salvage_large(
     out: &mut [u8],
     log: &mut [u64],
 ) -> Result<Salvaged, Refusal>
-    requires { lengths_named (length blocks.now) (length out.old) (length log.old) ≡ true }
+    requires named { lengths_named (length blocks.now) (length out.old) (length log.old) ≡ true }
+    requires room { BuffersIn COLLECTION STORE (kind_size kind) }
+    // An array of a parameter's length has to have a size.
+    requires sizes { (COLLECTION < 2 ^ 20) × (STORE < 2 ^ 20) }
     ensures { SalvageDoes kind old new blocks.now out.old log.old result out.new log.new }
 {
-    let mut collection = [0u8; 33000];
-    let mut first = [0u8; 152064];
-    let mut second = [0u8; 152064];
-    let mut collection_ahead = [0u8; 33000];
-    let mut first_ahead = [0u8; 152064];
-    let mut second_ahead = [0u8; 152064];
+    let mut collection = [0u8; COLLECTION];
+    let mut first = [0u8; STORE];
+    let mut second = [0u8; STORE];
+    let mut collection_ahead = [0u8; COLLECTION];
+    let mut first_ahead = [0u8; STORE];
+    let mut second_ahead = [0u8; STORE];
     let size = coding::size_of(kind);
     let parts = size::collection_length(size);
     let samples = size::store_length(size);
@@ -673,8 +609,8 @@ pub fn salvage(
         return refused(Reason::Length);
     }
     match coding::size_of(kind) {
-        Size::SubQcif => salvage_small(kind, old, new, blocks, out, log),
-        Size::Qcif => salvage_small(kind, old, new, blocks, out, log),
-        Size::Cif => salvage_large(kind, old, new, blocks, out, log),
+        Size::SubQcif => salvage_within::<8500, 38016>(kind, old, new, blocks, out, log),
+        Size::Qcif => salvage_within::<8500, 38016>(kind, old, new, blocks, out, log),
+        Size::Cif => salvage_within::<33000, 152064>(kind, old, new, blocks, out, log),
     }
 }

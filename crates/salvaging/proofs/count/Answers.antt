@@ -11,4 +11,4 @@ abbrev counted : ℕ → ℕ → Tally
 counted pictures n = record { pictures = pictures + 1; next = n + 1 }
 
 pub returns-in-Picture : goal.returns-in-Picture
-returns-in-Picture c = ap (counted c.args.tally.pictures) c.wide.ensures ∙ sym (ap (λ (a : Answer). tally_after c.args.tally (said a)) c.in-Picture.is)
+returns-in-Picture c = ap (counted c.args.tally.pictures) c.from.ensures ∙ sym (ap (λ (a : Answer). tally_after c.args.tally (said a)) c.in-Picture.is)

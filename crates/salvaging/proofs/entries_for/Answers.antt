@@ -11,7 +11,7 @@ abbrev ended : ℕ → ℕ → ℕ → ℕ → List LogEntry
 ended block new next n = run_before block next n ++ (kept block n new ∷ [])
 
 pub returns-in-Picture : goal.returns-in-Picture
-returns-in-Picture c = c.kept_entries.ensures ∙ ap (ended c.args.block c.args.tally.pictures c.args.tally.next) c.wide.ensures ∙ sym (ap (λ (a : Answer). entries_for c.args.block c.args.tally.pictures c.args.tally.next (said a) c.args.later) c.in-Picture.is)
+returns-in-Picture c = c.kept_entries.ensures ∙ ap (ended c.args.block c.args.tally.pictures c.args.tally.next) c.from.ensures ∙ sym (ap (λ (a : Answer). entries_for c.args.block c.args.tally.pictures c.args.tally.next (said a) c.args.later) c.in-Picture.is)
 
 pub returns-else-later : goal.returns-else-later
 returns-else-later c = rw (c.in-Taken.is, c.if-later.false)

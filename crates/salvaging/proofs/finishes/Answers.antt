@@ -1,37 +1,58 @@
 -- `salvaging::finishes` meets its contract: block after block, until the picture is finished or can't be any more. Assumes nothing.
-use mathlib.Core.Path.{refl}
+use mathlib.Core.Path.{◌≡◌, refl, ap, ◌∙◌}
+use mathlib.Core.List.{List}
+use Prim.Native.Nat.{ℕ, ◌-◌}
 use native.Mathlib.Omega.{arith}
-use Rattle.salvaging.proofs.Going.{next_inside, looking_finished, looking_gone, looking_next, looking_end}
+use lib.ListN.{length, take, drop, length-drop}
+use Rattle.std.proofs.lemmas.List.{take_all}
+use Rattle.std.specs.Slice.Iter.{chunks_exact_rest, chunks_exact_size}
+use Rattle.core.specs.declared.iter.slices.ChunksExact.{ChunksExact}
+use Rattle.salvaging.proofs.Going.{call_of, looking_finished, looking_gone, looking_next, looking_at, looking_end}
+use Rattle.salvaging.proofs.Blocks.{cut_of, short_of, place_of, left_first, rest_less, block_more, block_is, at_next, left_next, left_none}
 use Rattle.salvaging.proofs.finishes.Goals as goal
 
-pub loop-at-init : goal.loop-at-init
-loop-at-init c = record { place = c.requires.0; same = record { collection = refl; first = refl; second = refl }; collects = c.requires.1; all = refl }
+rest_all : (list : List ℕ) (from : ℕ) → take (length list - from) (drop from list) ≡ drop from list
+rest_all list from = take_all (length list - from) (drop from list) (omega (arith, length-drop from list))
 
-pub overflow_add-end : goal.overflow_add-end
-overflow_add-end c = omega (arith, next_inside c.loop-at.invariant.place c.loop-at-test.true)
+pub loop-block-init : goal.loop-block-init
+loop-block-init c =
+    let s = c.into_iter-block-iterator.result in
+    let from = c.args.from in
+    let blocks = c.args.blocks.now in
+    let same = c.into_iter-block-iterator.ensures.into_iter_gives in
+    let size = ap (λ (s : ChunksExact ℕ). chunks_exact_size s) same ∙ c.chunks_exact-block-items.ensures.size in
+    let rest = ap (λ (s : ChunksExact ℕ). chunks_exact_rest s) same ∙ c.chunks_exact-block-items.ensures.rest ∙ rest_all blocks from in
+    let inside = c.requires.0.inside in (
+      left_first s from size rest inside,
+      looking_at (place_of blocks s from rest inside) (record { place = c.requires.0; same = record { collection = refl; first = refl; second = refl }; collects = c.requires.1; all = refl }),
+    )
 
-pub slice_bounds-receive-count : goal.slice_bounds-receive-count
-slice_bounds-receive-count c = omega arith
-
-pub slice_bounds-receive-start : goal.slice_bounds-receive-start
-slice_bounds-receive-start c = omega (arith, next_inside c.loop-at.invariant.place c.loop-at-test.true)
-
-pub slice_bounds-receive-end : goal.slice_bounds-receive-end
-slice_bounds-receive-end c = omega (arith, next_inside c.loop-at.invariant.place c.loop-at-test.true)
+pub loop-block-smaller : goal.loop-block-smaller
+loop-block-smaller c = rest_less c.loop-block.invariant.0 (cut_of c.loop-block.block-iterator c.next.new.self c.next.result c.in-Some.block c.next.ensures.steps c.in-Some.is)
 
 pub returns-in-Finished : goal.returns-in-Finished
-returns-in-Finished c = looking_finished c.loop-at.invariant c.loop-at-test.true c.receive-received.result (record { does = c.receive-received.ensures }) c.look-sight.ensures c.in-Finished.is
+returns-in-Finished c =
+    let left = c.loop-block.invariant.0 in
+    let cut = cut_of c.loop-block.block-iterator c.next.new.self c.next.result c.in-Some.block c.next.ensures.steps c.in-Some.is in
+    looking_finished c.loop-block.invariant.1 (block_more left cut) c.receive-received.result (call_of (block_is left cut) (record { does = c.receive-received.ensures })) c.look.ensures c.in-Finished.is
 
 pub returns-in-Gone : goal.returns-in-Gone
-returns-in-Gone c = looking_gone c.loop-at.invariant c.loop-at-test.true c.receive-received.result (record { does = c.receive-received.ensures }) c.look-sight.ensures c.in-Gone.is
+returns-in-Gone c =
+    let left = c.loop-block.invariant.0 in
+    let cut = cut_of c.loop-block.block-iterator c.next.new.self c.next.result c.in-Some.block c.next.ensures.steps c.in-Some.is in
+    looking_gone c.loop-block.invariant.1 (block_more left cut) c.receive-received.result (call_of (block_is left cut) (record { does = c.receive-received.ensures })) c.look.ensures c.in-Gone.is
 
-pub loop-at-smaller : goal.loop-at-smaller
-loop-at-smaller c = omega (arith, c.loop-at-test.true)
-
-pub loop-at-preserved : goal.loop-at-preserved
-loop-at-preserved c =
-    looking_next c.loop-at.invariant c.loop-at-test.true c.receive-received.result (record { does = c.receive-received.ensures }) c.look-sight.ensures c.in-Collecting.is
-    (record { collection = c.collection-1.given; first = c.first-1.given; second = c.second-1.given })
+pub loop-block-preserved : goal.loop-block-preserved
+loop-block-preserved c =
+    let left = c.loop-block.invariant.0 in
+    let cut = cut_of c.loop-block.block-iterator c.next.new.self c.next.result c.in-Some.block c.next.ensures.steps c.in-Some.is in (
+      left_next left cut,
+      looking_at (at_next left cut)
+          (looking_next c.loop-block.invariant.1 (block_more left cut) c.receive-received.result (call_of (block_is left cut) (record { does = c.receive-received.ensures })) c.look.ensures c.in-Collecting.is
+          (record { collection = c.receive-received.auto.collection; first = c.receive-received.auto.first; second = c.receive-received.auto.second })),
+    )
 
 pub returns : goal.returns
-returns c = looking_end c.loop-at.invariant c.loop-at-test.false
+returns c =
+    let g = c.loop-block.invariant.1 in
+    looking_end g (left_none c.loop-block.invariant.0 g.place (short_of c.loop-block.block-iterator c.next.new.self c.next.result c.next.ensures.steps c.in-None.is))

@@ -1,12 +1,15 @@
 -- `salvaging::finishes` meets its contract: block after block, until the picture is finished or can't be any more. Assumes nothing.
-use Prim.Native.Nat.{◌-◌}
 use lib.ListN.{length}
+use Rattle.std.specs.Slice.Iter.{chunks_exact_rest}
 use Rattle.standing.specs.Receive.{buffers}
 use Rattle.salvaging.proofs.Going.{Looking}
+use Rattle.salvaging.proofs.Blocks.{BlocksLeft, at_of}
 use Rattle.salvaging.proofs.finishes.Given as goal
 
-abbrev pub invariant-loop-at : goal.invariant-loop-at
-invariant-loop-at l = Looking l.blocks l.picture l.from l.initial.receiver (buffers l.initial.collection l.initial.first l.initial.second) l.at l.receiver (buffers l.collection l.first l.second)
+abbrev pub invariant-loop-block : goal.invariant-loop-block
+invariant-loop-block l =
+    BlocksLeft l.blocks l.block-iterator
+    × Looking l.blocks l.picture l.from l.initial.receiver (buffers l.initial.collection l.initial.first l.initial.second) (at_of l.blocks l.block-iterator) l.receiver (buffers l.collection l.first l.second)
 
-abbrev pub decreases-loop-at : goal.decreases-loop-at
-decreases-loop-at l = length l.blocks - l.at
+abbrev pub decreases-loop-block : goal.decreases-loop-block
+decreases-loop-block l = length (chunks_exact_rest l.block-iterator)

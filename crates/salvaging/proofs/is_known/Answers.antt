@@ -2,5 +2,5 @@
 use mathlib.Core.Path.{sym}
 use Rattle.salvaging.proofs.is_known.Goals as goal
 
-pub returns-in-Known : goal.returns-in-Known
-returns-in-Known c = sym (rw c.in-Known.is)
+pub returns-in-Some : goal.returns-in-Some
+returns-in-Some c = sym (rw c.in-Some.is)

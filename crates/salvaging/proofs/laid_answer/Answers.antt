@@ -7,10 +7,10 @@ use mathlib.Core.Path.{sym, ap, ◌∙◌}
 use Rattle.salvaging.proofs.laid_answer.Goals as goal
 
 pub returns-in-Taken : goal.returns-in-Taken
-returns-in-Taken c = (λ i. c.args.block ∷ 2 ∷ c.wide.ensures i ∷ c.small.ensures i ∷ 0 ∷ []) ∙ sym (ap (λ (a : Answer). laid_answer c.args.block (said a)) c.in-Taken.is)
+returns-in-Taken c = (λ i. c.args.block ∷ 2 ∷ c.from.ensures i ∷ c.from-in-Taken.ensures i ∷ 0 ∷ []) ∙ sym (ap (λ (a : Answer). laid_answer c.args.block (said a)) c.in-Taken.is)
 
 pub returns-in-Old : goal.returns-in-Old
-returns-in-Old c = (λ i. c.args.block ∷ 3 ∷ c.wide-in-Old.ensures i ∷ c.small-in-Old.ensures i ∷ 0 ∷ []) ∙ sym (ap (λ (a : Answer). laid_answer c.args.block (said a)) c.in-Old.is)
+returns-in-Old c = (λ i. c.args.block ∷ 3 ∷ c.from-in-Old.ensures i ∷ c.from-in-Old-2.ensures i ∷ 0 ∷ []) ∙ sym (ap (λ (a : Answer). laid_answer c.args.block (said a)) c.in-Old.is)
 
 pub returns-in-Lost : goal.returns-in-Lost
 returns-in-Lost c = sym (ap (λ (a : Answer). laid_answer c.args.block (said a)) c.in-Lost.is)

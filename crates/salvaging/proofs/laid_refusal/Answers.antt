@@ -4,4 +4,4 @@ use mathlib.Core.Path.{◌∙◌}
 use Rattle.salvaging.proofs.laid_refusal.Goals as goal
 
 pub returns : goal.returns
-returns c = λ i. c.args.block ∷ 5 ∷ (c.wide.ensures ∙ c.number_of-number.ensures) i ∷ c.long.ensures i ∷ (c.wide-2.ensures ∙ c.table_of-table.ensures) i ∷ []
+returns c = λ i. c.args.block ∷ 5 ∷ (c.from.ensures ∙ c.number_of-number.ensures) i ∷ c.args.why.place ∷ (c.from-2.ensures ∙ c.table_of-table.ensures) i ∷ []

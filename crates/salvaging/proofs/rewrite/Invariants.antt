@@ -1,15 +1,11 @@
 -- `salvaging::rewrite` meets its contract: block after block, what is written and entered so far and what the answers to come give are all. Assumes nothing.
-use Prim.Native.Nat.{◌-◌}
-use lib.ListN.{length}
+use Prim.Native.Nat.{◌*◌}
 use Rattle.standing.specs.Receive.{buffers}
 use Rattle.salvaging.specs.Going.{SameLengths}
 use Rattle.salvaging.proofs.Going.{Going}
 use Rattle.salvaging.proofs.rewrite.Given as goal
 
-abbrev pub invariant-loop-at : goal.invariant-loop-at
-invariant-loop-at l =
-    (Going l.clip l.blocks l.initial.receiver (buffers l.initial.collection l.initial.first l.initial.second) l.initial.out l.initial.log l.at l.receiver (buffers l.collection l.first l.second) l.fate l.tally l.written l.entered l.out l.log)
+abbrev pub invariant-loop-n : goal.invariant-loop-n
+invariant-loop-n l =
+    (Going l.clip l.blocks l.initial.receiver (buffers l.initial.collection l.initial.first l.initial.second) l.initial.out l.initial.log (512 * l.n) l.receiver (buffers l.collection l.first l.second) l.fate l.tally l.written l.entered l.out l.log)
     × (SameLengths (buffers l.initial.collection_ahead l.initial.first_ahead l.initial.second_ahead) (buffers l.collection_ahead l.first_ahead l.second_ahead))
-
-abbrev pub decreases-loop-at : goal.decreases-loop-at
-decreases-loop-at l = length l.blocks - l.at
