@@ -64,25 +64,6 @@ module _ (bytes : List ℕ) (all at : ℕ) {left : ℕ} (l : left ≡ all - at) 
           ap (λ (n : ℕ). eqb n 63) (ap (λ (n : ℕ). v / 2 ^ n) rest ∙ window_first bytes (at + 16) v (zeros + 6) f (omega (arith, s)))
           ∙ sym (λ i. both (room i) (both (eq-eqb (value bytes at 16) 0 (sym sixteen ∙ z) i) (eqb (value bytes (at + 16) (zeros + 6)) 63)))
 
--- after k - 1 zeros, or after less
-within_by : (bytes : List ℕ) (all at k : ℕ) {here : Bool} → 0 < k → here ≡ ends_after bytes all at (k - 1) → ends_within bytes all at k ≡ either here (ends_within bytes all at (k - 1))
-within_by bytes all at zero m e = absurd (not-suc-le-zero m)
-within_by bytes all at (suc k) m e =
-    let same : k ≡ suc k - 1 = omega arith in
-    ap (λ (n : ℕ). either (ends_after bytes all at n) (ends_within bytes all at n)) same ∙ sym (ap (λ (t : Bool). either t (ends_within bytes all at (suc k - 1))) e)
-
-module _ (bytes : List ℕ) (all at k : ℕ) {here : Bool} (m : 0 < k) (e : here ≡ ends_after bytes all at (k - 1)) where
-  pub within_here : here ≡ true → ends_within bytes all at k ≡ true
-  within_here y = within_by bytes all at k m e ∙ ap (λ (t : Bool). either t (ends_within bytes all at (k - 1))) y
-
-  pub within_less : here ≡ false → ends_within bytes all at k ≡ ends_within bytes all at (k - 1)
-  within_less n = within_by bytes all at k m e ∙ ap (λ (t : Bool). either t (ends_within bytes all at (k - 1))) n
-
-pub within_none : (bytes : List ℕ) (all at k : ℕ) → k ≤ 0 → ends_within bytes all at k ≡ false
-within_none bytes all at k l =
-    let none : k ≡ 0 = omega (arith, l) in
-    ap (λ (n : ℕ). ends_within bytes all at n) none
-
 -- ---- N
 room_few : (size : Size) → room_of size ≤ 32776
 room_few SubQcif = omega arith

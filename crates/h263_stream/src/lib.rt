@@ -1,11 +1,11 @@
 // A raw H.263 stream, byte by byte: its pictures begin at bytes, at their start codes, and end before the next start code or end code at a byte.
 #![tactic(auto)]
 
-ghost use Rattle.std.specs.Prelude.{◌≡◌, ◌+◌, ◌-◌, ◌<◌, min, length, drop, set};
+ghost use Rattle.std.specs.Prelude.{◌≡◌, ◌+◌, ◌-◌, ◌^◌, ◌<◌, min, length, drop, set};
 ghost use Rattle.refusals.specs.Told.{numbers_of, told_verdict, verdict_on, found_or};
 ghost use Rattle.fields.specs.Answer.{found};
-ghost use Rattle.size.specs.declared.Size.TheVariants.{SubQcif, Qcif, Cif};
 ghost use Rattle.layout.specs.Flat.{flat};
+ghost use Rattle.h263_description.specs.Value.{head_length, macroblocks_length, levels_length};
 ghost use Rattle.h263_reader.specs.Described.{described};
 ghost use Rattle.h263_stream.specs.Stream.{one_more, fresh_stream, is_code, starts_at, ends_at, code_at, begun_by, ended_by, longer_by, stream_after, beginning, kept_after};
 ghost use Rattle.h263_stream.specs.Passed.{ran_from, kept_from, before_code};
@@ -253,7 +253,7 @@ fn ends_after(bytes: &[u8], all: usize, at: usize, zeros: usize) -> bool
 fn ends_within(bytes: &[u8], all: usize, at: usize) -> bool
     ensures { result ≡ ends_within bytes.now all at 8 }
 {
-    (0..8).rev().any(|zeros| ends_after(bytes, all, at, zeros))
+    (0..8).any(|zeros| ends_after(bytes, all, at, zeros))
 }
 
 fn is_dropped(bytes: &[u8], all: usize, at: usize) -> bool
@@ -305,50 +305,23 @@ fn bits_refused(bytes: &[u8], all: usize, why: Refusal) -> usize
 
 // ---- the verdict alone, with scratch in the size's own lengths
 
-fn judge_sub_qcif(bytes: &[u8], count: usize) -> Result<(), Refusal>
-    ensures { told_verdict result ≡ verdict_on (found (described SubQcif bytes.now count)) }
+fn judge_in<const HEAD: usize, const MACROBLOCKS: usize, const LEVELS: usize>(
+    size: Size,
+    bytes: &[u8],
+    count: usize,
+) -> Result<(), Refusal>
+    requires lengths { (HEAD ≡ head_length size) × (MACROBLOCKS ≡ macroblocks_length size) × (LEVELS ≡ levels_length size) }
+    // An array of a parameter's length has to have a size.
+    requires sizes { (HEAD < 2 ^ 20) × (MACROBLOCKS < 2 ^ 20) × (LEVELS < 2 ^ 20) }
+    ensures { told_verdict result ≡ verdict_on (found (described size bytes.now count)) }
 {
-    let mut head = [0u8; 11];
-    let mut macroblocks = [0u8; 192];
-    let mut levels = [0u8; 18432];
+    let mut head = [0u8; HEAD];
+    let mut macroblocks = [0u8; MACROBLOCKS];
+    let mut levels = [0u8; LEVELS];
     let read = h263_reader::parse_counted(
         bytes,
         count,
-        Size::SubQcif,
-        &mut head,
-        &mut macroblocks,
-        &mut levels,
-    );
-    read.verdict
-}
-
-fn judge_qcif(bytes: &[u8], count: usize) -> Result<(), Refusal>
-    ensures { told_verdict result ≡ verdict_on (found (described Qcif bytes.now count)) }
-{
-    let mut head = [0u8; 14];
-    let mut macroblocks = [0u8; 396];
-    let mut levels = [0u8; 38016];
-    let read = h263_reader::parse_counted(
-        bytes,
-        count,
-        Size::Qcif,
-        &mut head,
-        &mut macroblocks,
-        &mut levels,
-    );
-    read.verdict
-}
-
-fn judge_cif(bytes: &[u8], count: usize) -> Result<(), Refusal>
-    ensures { told_verdict result ≡ verdict_on (found (described Cif bytes.now count)) }
-{
-    let mut head = [0u8; 23];
-    let mut macroblocks = [0u8; 1584];
-    let mut levels = [0u8; 152064];
-    let read = h263_reader::parse_counted(
-        bytes,
-        count,
-        Size::Cif,
+        size,
         &mut head,
         &mut macroblocks,
         &mut levels,
@@ -360,9 +333,9 @@ fn judge(size: Size, bytes: &[u8], count: usize) -> Result<(), Refusal>
     ensures { told_verdict result ≡ verdict_on (found (described size bytes.now count)) }
 {
     match size {
-        Size::SubQcif => judge_sub_qcif(bytes, count),
-        Size::Qcif => judge_qcif(bytes, count),
-        Size::Cif => judge_cif(bytes, count),
+        Size::SubQcif => judge_in::<11, 192, 18432>(Size::SubQcif, bytes, count),
+        Size::Qcif => judge_in::<14, 396, 38016>(Size::Qcif, bytes, count),
+        Size::Cif => judge_in::<23, 1584, 152064>(Size::Cif, bytes, count),
     }
 }
 

@@ -4,16 +4,16 @@ use Rattle.refusals.specs.Told.{told_verdict}
 use Rattle.h263_stream.proofs.Dropped.{bits_by_lem}
 use Rattle.h263_stream.proofs.picture_bits.Goals as goal
 
-pub returns-in-Accepted : goal.returns-in-Accepted
-returns-in-Accepted c =
+pub returns-in-Ok : goal.returns-in-Ok
+returns-in-Ok c =
     let a = c.args in
     c.bits_to.ensures
-    ∙ bits_by_lem a.size a.bytes.now a.count c.all_bits-all.ensures c.limit.ensures c.smaller-seen.ensures
-    (sym (ap told_verdict c.in-Accepted.is) ∙ c.judge-verdict.ensures)
+    ∙ bits_by_lem a.size a.bytes.now a.count c.all_bits-all.ensures c.limit.ensures c.min-seen.ensures
+    (sym (ap told_verdict c.in-Ok.is) ∙ c.judge-verdict.ensures)
 
-pub returns-in-Refused : goal.returns-in-Refused
-returns-in-Refused c =
+pub returns-in-Err : goal.returns-in-Err
+returns-in-Err c =
     let a = c.args in
     c.bits_refused.ensures
-    ∙ bits_by_lem a.size a.bytes.now a.count c.all_bits-all.ensures c.limit.ensures c.smaller-seen.ensures
-    (sym (ap told_verdict c.in-Refused.is) ∙ c.judge-verdict.ensures)
+    ∙ bits_by_lem a.size a.bytes.now a.count c.all_bits-all.ensures c.limit.ensures c.min-seen.ensures
+    (sym (ap told_verdict c.in-Err.is) ∙ c.judge-verdict.ensures)
