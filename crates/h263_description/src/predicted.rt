@@ -6,7 +6,7 @@ ghost use Rattle.h263_description.specs.Landing.{residue_of};
 ghost use Rattle.h263_description.specs.Kept.{kept_vector, median_kept, vectors_in, BytesNear, PredictorAsked};
 
 // A vector, each component kept as 32 more than it is.
-#[derive(Clone, Copy)]
+#[derive(Clone, Copy, PartialEq, Eq)]
 pub struct Kept {
     pub horizontal: usize,
     pub vertical: usize,
@@ -22,28 +22,10 @@ pub fn residue(byte: u8) -> usize
 
 // ---- the median
 
-fn larger(a: usize, b: usize) -> usize
-    ensures { result ≡ max a b }
-{
-    if a < b {
-        return b;
-    }
-    a
-}
-
-fn smaller(a: usize, b: usize) -> usize
-    ensures { result ≡ min a b }
-{
-    if a < b {
-        return a;
-    }
-    b
-}
-
 fn median(a: usize, b: usize, c: usize) -> usize
     ensures { result ≡ max (min a b) (min (max a b) c) }
 {
-    larger(smaller(a, b), smaller(larger(a, b), c))
+    a.min(b).max(a.max(b).min(c))
 }
 
 fn median_vector(a: Kept, b: Kept, c: Kept) -> Kept

@@ -45,6 +45,7 @@ fn events(
 {
     let mut place = at;
     let mut k = from;
+    // No plainer as a `for`: a turn goes on by a run and one, up to an event that says it is the last.
     loop {
         let read = h263_words::event(tables, bytes, count, place.bit);
         let reads = place.reads + 1;

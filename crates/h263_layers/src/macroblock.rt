@@ -131,6 +131,7 @@ pub fn opened(
 {
     let mut place = at;
     let mut standing = gquant;
+    // No plainer as a `for`: nothing is counted, and each turn begins where stuffing ended.
     loop {
         let head = headed(bytes, count, place, number, address, standing);
         let CountedRead::Got(quantiser, after) = head else {

@@ -6,7 +6,7 @@ ghost use Rattle.h263_layers.specs.Start.{zeros_ahead, ahead as ahead_of};
 ghost use Rattle.h263_layers.specs.Answer.{as_ahead};
 
 // A start code after so many bits of GSTUF, none, or bits that end inside one.
-#[derive(Clone, Copy)]
+#[derive(Clone, Copy, PartialEq, Eq)]
 pub enum Ahead {
     Stands(usize),
     Absent,

@@ -1,7 +1,7 @@
 // A raw H.263 stream, byte by byte: its pictures begin at bytes, at their start codes, and end before the next start code or end code at a byte.
 #![tactic(auto)]
 
-ghost use Rattle.std.specs.Prelude.{◌≡◌, ◌+◌, ◌-◌, ◌^◌, ◌<◌, min, length, drop, set};
+ghost use Rattle.std.specs.Prelude.{◌≡◌, ◌+◌, ◌-◌, ◌^◌, ◌<◌, length, drop, set};
 ghost use Rattle.refusals.specs.Told.{numbers_of, told_verdict, verdict_on, found_or};
 ghost use Rattle.fields.specs.Answer.{found};
 ghost use Rattle.layout.specs.Flat.{flat};
@@ -16,7 +16,7 @@ use refusals::Refusal;
 use size::Size;
 
 // What has gone by of a stream.
-#[derive(Clone, Copy)]
+#[derive(Clone, Copy, PartialEq, Eq)]
 pub struct Stream {
     // How many bytes, and the last two of them.
     pub place: usize,
@@ -183,7 +183,7 @@ pub fn completes(stream: Stream, byte: u8) -> bool
 }
 
 // What has gone by, and the place in the lent bytes of the next one.
-#[derive(Clone, Copy)]
+#[derive(Clone, Copy, PartialEq, Eq)]
 pub struct Passed {
     pub stream: Stream,
     pub at: usize,
@@ -214,15 +214,6 @@ pub fn pass(stream: Stream, bytes: &[u8], from: usize, picture: &mut [u8]) -> Pa
 }
 
 // ---- a picture
-
-fn smaller(a: usize, b: usize) -> usize
-    ensures { result ≡ min a b }
-{
-    if a < b {
-        return a;
-    }
-    b
-}
 
 // Whether less than eight zeros are left.
 fn fills(bytes: &[u8], all: usize, at: usize) -> bool
@@ -280,7 +271,7 @@ fn all_bits(size: Size, count: usize) -> usize
     ensures { result ≡ all_bits size count }
 {
     let most = room(size);
-    8 * smaller(count, most)
+    8 * count.min(most)
 }
 
 fn bits_to(bytes: &[u8], all: usize, end: usize) -> usize
@@ -344,7 +335,7 @@ pub fn picture_bits(size: Size, bytes: &[u8], count: usize) -> usize
     ensures { result ≡ picture_bits size bytes.now count }
 {
     let all = all_bits(size, count);
-    let seen = smaller(all, size::limit(size));
+    let seen = all.min(size::limit(size));
     let verdict = judge(size, bytes, seen);
     match verdict {
         Ok(()) => bits_to(bytes, all, seen),
