@@ -7,7 +7,7 @@ ghost use Rattle.account.specs.Said.{idle_text, missing_text, rest_text, chosen_
 use text::{put, put_number};
 
 // A number between words.
-fn one_number(first: &[u8], n: u64, last: &[u8], out: &mut [u8; 128]) -> usize
+pub fn one_number(first: &[u8], n: u64, last: &[u8], out: &mut [u8; 128]) -> usize
     requires { (length first.now ≤ 20) × (length last.now ≤ 40) }
     ensures prefix_len { IsPrefixLen result out.new }
     ensures value { result ≡ length (first.now ++ decimal n ++ last.now) }
@@ -19,7 +19,7 @@ fn one_number(first: &[u8], n: u64, last: &[u8], out: &mut [u8; 128]) -> usize
 }
 
 // Two numbers between words.
-fn two_numbers(
+pub fn two_numbers(
     first: &[u8],
     a: u64,
     between: &[u8],

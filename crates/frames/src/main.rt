@@ -17,6 +17,7 @@ ghost use Rattle.frames.specs.Timing.{timing_text};
 use account::blocks::Met;
 use account::idle::Idle;
 use account::input::Next;
+use account::remarks::two_numbers;
 use account::streams::Streams;
 use account::{Ended, Failure};
 use listing::{Clip, Listed};
@@ -45,16 +46,16 @@ struct State {
 
 // ---- what is written
 
+#[tactic(auto, unfolding(crate::specs::Header::header_text))]
 fn header(size: Size, out: &mut [u8; 128]) -> usize
     ensures prefix_len { IsPrefixLen result out.new }
     ensures value { result ≡ length (header_text size) }
     ensures out_after { out.new ≡ over (header_text size) out.old }
 {
-    let named = text::put(b"YUV4MPEG2 W", 0, out);
-    let wide = text::put_number(size::width(size) as u64, named, out);
-    let parted = text::put(b" H", wide, out);
-    let high = text::put_number(size::height(size) as u64, parted, out);
-    text::put(b" F30000:1001 Ip A12:11 C420jpeg\n", high, out)
+    let width = size::width(size) as u64;
+    let height = size::height(size) as u64;
+    let rest = b" F30000:1001 Ip A12:11 C420jpeg\n";
+    two_numbers(b"YUV4MPEG2 W", width, b" H", height, rest, out)
 }
 
 fn begin<I, O: Write, E>(streams: &mut Streams<I, O, E>, size: Size) -> Result<(), Failure> {
@@ -203,15 +204,13 @@ fn say_rest<I, O, E: Write>(streams: &mut Streams<I, O, E>, idle: Idle) {
 }
 
 // "9 repeated, 31 grey"
+#[tactic(auto, unfolding(crate::specs::Timing::timing_text))]
 fn timing_line(repeated: u64, grey: u64, out: &mut [u8; 128]) -> usize
     ensures prefix_len { IsPrefixLen result out.new }
     ensures value { result ≡ length (timing_text repeated grey) }
     ensures out_after { out.new ≡ over (timing_text repeated grey) out.old }
 {
-    let repeats = text::put_number(repeated, 0, out);
-    let parted = text::put(b" repeated, ", repeats, out);
-    let greys = text::put_number(grey, parted, out);
-    text::put(b" grey\n", greys, out)
+    two_numbers(b"", repeated, b" repeated, ", grey, b" grey\n", out)
 }
 
 fn say_timing<I, O, E: Write>(streams: &mut Streams<I, O, E>, timing: Timing) {
