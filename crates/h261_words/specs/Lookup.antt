@@ -1,12 +1,9 @@
 -- What the array of tables holds. Its layout is the code's own affair: callers pass the fact `Tables` on, and each read's promise speaks of H.261's
 -- tables alone. Every part is a test that antt computes. Assumes nothing.
-use Rattle.std.specs.Prelude.{ℕ, ◌≡◌, refl, ◌+◌, ◌^◌, ◌≤◌, ◌<◌, List, T, eqb}
-use lib.Dec.{lit<, lit≤}
+use Rattle.std.specs.Prelude.{ℕ, ◌+◌, ◌^◌, ◌≤◌, ◌<◌, List, T, eqb}
 use Rattle.laws.specs.Choice.{pick}
 use Rattle.bits.specs.Tree.{right}
 use Rattle.bits.specs.Entries.{entries_right}
-use Rattle.refusals.specs.declared.Table.{Table}
-use Rattle.refusals.specs.declared.Table.TheVariants.{Mba, Mtype, Mvd, Cbp}
 use Rattle.bits.specs.Code.{CodeTable}
 use Rattle.bits.specs.Settled.{TwoParts, settle_parts}
 use Rattle.bits.specs.Codewords.{spelt}
@@ -91,27 +88,10 @@ pub record Tables (t : List ℕ) : Type 0 where
   pub mvd_entries : T (entries_right t mvd_entries_at 11 table3.entries)
   pub cbp_entries : T (entries_right t cbp_entries_at 9 table4.entries)
 
--- ---- a table's name, and where its tree and its entries by `width` bits stand
-pub record Stands (table : CodeTable) (name : Table) (tree from width : ℕ) : Type 0 where
-  pub named : table.name ≡ name
+-- ---- where a table's tree and its entries by `width` bits stand
+pub record Stands (table : CodeTable) (tree from width : ℕ) : Type 0 where
   pub low : tree < 256
   pub short : width ≤ 24
   pub room : from + 2 ^ width ≤ 7153
   pub walked : (t : List ℕ) → Tables t → T (right 16 t tree table.entries)
   pub entered : (t : List ℕ) → Tables t → T (entries_right t from width table.entries)
-
-pub mba_stands : Stands table1 Mba mba_tree mba_entries_at 11
-unfolding table1
-mba_stands = record { named = refl; low = lit< tt; short = lit≤ tt; room = lit≤ tt; walked = λ t ok. ok.mba; entered = λ t ok. ok.mba_entries }
-
-pub mtype_stands : Stands table2 Mtype mtype_tree mtype_entries_at 10
-unfolding table2
-mtype_stands = record { named = refl; low = lit< tt; short = lit≤ tt; room = lit≤ tt; walked = λ t ok. ok.mtype; entered = λ t ok. ok.mtype_entries }
-
-pub mvd_stands : Stands table3 Mvd mvd_tree mvd_entries_at 11
-unfolding table3
-mvd_stands = record { named = refl; low = lit< tt; short = lit≤ tt; room = lit≤ tt; walked = λ t ok. ok.mvd; entered = λ t ok. ok.mvd_entries }
-
-pub cbp_stands : Stands table4 Cbp cbp_tree cbp_entries_at 9
-unfolding table4
-cbp_stands = record { named = refl; low = lit< tt; short = lit≤ tt; room = lit≤ tt; walked = λ t ok. ok.cbp; entered = λ t ok. ok.cbp_entries }

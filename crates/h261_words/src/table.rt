@@ -1,12 +1,11 @@
 // Tables 1 to 4, each read in the same way: by the entry for its first bits, and by its tree where that doesn't decide.
 ghost use Rattle.std.specs.Prelude.{◌≡◌, ℕ};
-ghost use Rattle.refusals.specs.declared.Table.{Table};
-ghost use Rattle.refusals.specs.declared.Table.TheVariants.{Mba, Mtype, Mvd, Cbp};
+ghost use lib.Dec.{lit<, lit≤};
 ghost use Rattle.bits.specs.Bits.{bits_left};
 ghost use Rattle.bits.specs.Code.{CodeTable, word as word_read};
 ghost use Rattle.bits.specs.Answer.{Within, as_field};
 ghost use Rattle.h261_words.specs.Tables.{table1, table2, table3, table4};
-ghost use Rattle.h261_words.specs.Lookup.{Tables, Stands, mba_tree, mtype_tree, mvd_tree, cbp_tree, mba_entries_at, mtype_entries_at, mvd_entries_at, cbp_entries_at, mba_stands, mtype_stands, mvd_stands, cbp_stands};
+ghost use Rattle.h261_words.specs.Lookup.{Tables, Stands, mba_tree, mtype_tree, mvd_tree, cbp_tree, mba_entries_at, mtype_entries_at, mvd_entries_at, cbp_entries_at};
 
 use crate::WordTables;
 use bits::FieldRead;
@@ -16,15 +15,11 @@ use refusals::Table;
 pub trait Codewords {
     ghost table: { CodeTable };
 
-    ghost NAME: { Table };
-
     ghost TREE: { ℕ };
 
     ghost ENTRIES: { ℕ };
 
     ghost WIDTH: { ℕ };
-
-    const NAME: Table;
 
     const TREE: usize;
 
@@ -32,7 +27,10 @@ pub trait Codewords {
 
     const WIDTH: usize;
 
-    ghost stands: { Stands table NAME TREE ENTRIES WIDTH };
+    fn name() -> Table
+        ensures { result ≡ table.name };
+
+    ghost stands: { Stands table TREE ENTRIES WIDTH };
 }
 
 // The codeword at `at`. It is compiled for each table by itself: in one function for all of them the compiler puts the walk into it, which costs each read 29
@@ -49,7 +47,7 @@ pub fn word<W: Codewords>(
     let e = bits::entry(tables, W::ENTRIES, W::WIDTH, bytes, count, at);
     let length = e % 32;
     if length == 0 {
-        return bits::without_entry(tables, W::TREE, W::NAME, e, bytes, count, at);
+        return bits::without_entry(tables, W::TREE, W::name(), e, bytes, count, at);
     }
     FieldRead::Got((e / 32) as u32, at + length as usize)
 }
@@ -57,8 +55,6 @@ pub fn word<W: Codewords>(
 pub struct Mba;
 
 impl Codewords for Mba {
-    ghost NAME = { Mba };
-
     ghost table = { table1 };
 
     ghost TREE = { mba_tree };
@@ -67,22 +63,23 @@ impl Codewords for Mba {
 
     ghost WIDTH = { 11 };
 
-    const NAME: Table = Table::Mba;
-
     const TREE: usize = 0;
 
     const ENTRIES: usize = 1521;
 
     const WIDTH: usize = 11;
 
-    ghost stands = { mba_stands };
+    ghost stands = { record { low = lit< tt; short = lit≤ tt; room = lit≤ tt; walked = λ t ok. ok.mba; entered = λ t ok. ok.mba_entries } };
+
+    #[tactic(auto, unfolding(crate::specs::Tables::table1))]
+    fn name() -> Table {
+        Table::Mba
+    }
 }
 
 pub struct Mtype;
 
 impl Codewords for Mtype {
-    ghost NAME = { Mtype };
-
     ghost table = { table2 };
 
     ghost TREE = { mtype_tree };
@@ -91,22 +88,23 @@ impl Codewords for Mtype {
 
     ghost WIDTH = { 10 };
 
-    const NAME: Table = Table::Mtype;
-
     const TREE: usize = 46;
 
     const ENTRIES: usize = 3569;
 
     const WIDTH: usize = 10;
 
-    ghost stands = { mtype_stands };
+    ghost stands = { record { low = lit< tt; short = lit≤ tt; room = lit≤ tt; walked = λ t ok. ok.mtype; entered = λ t ok. ok.mtype_entries } };
+
+    #[tactic(auto, unfolding(crate::specs::Tables::table2))]
+    fn name() -> Table {
+        Table::Mtype
+    }
 }
 
 pub struct Mvd;
 
 impl Codewords for Mvd {
-    ghost NAME = { Mvd };
-
     ghost table = { table3 };
 
     ghost TREE = { mvd_tree };
@@ -115,22 +113,23 @@ impl Codewords for Mvd {
 
     ghost WIDTH = { 11 };
 
-    const NAME: Table = Table::Mvd;
-
     const TREE: usize = 56;
 
     const ENTRIES: usize = 4593;
 
     const WIDTH: usize = 11;
 
-    ghost stands = { mvd_stands };
+    ghost stands = { record { low = lit< tt; short = lit≤ tt; room = lit≤ tt; walked = λ t ok. ok.mvd; entered = λ t ok. ok.mvd_entries } };
+
+    #[tactic(auto, unfolding(crate::specs::Tables::table3))]
+    fn name() -> Table {
+        Table::Mvd
+    }
 }
 
 pub struct Cbp;
 
 impl Codewords for Cbp {
-    ghost NAME = { Cbp };
-
     ghost table = { table4 };
 
     ghost TREE = { cbp_tree };
@@ -139,13 +138,16 @@ impl Codewords for Cbp {
 
     ghost WIDTH = { 9 };
 
-    const NAME: Table = Table::Cbp;
-
     const TREE: usize = 90;
 
     const ENTRIES: usize = 6641;
 
     const WIDTH: usize = 9;
 
-    ghost stands = { cbp_stands };
+    ghost stands = { record { low = lit< tt; short = lit≤ tt; room = lit≤ tt; walked = λ t ok. ok.cbp; entered = λ t ok. ok.cbp_entries } };
+
+    #[tactic(auto, unfolding(crate::specs::Tables::table4))]
+    fn name() -> Table {
+        Table::Cbp
+    }
 }
