@@ -41,6 +41,7 @@ pub fn lock(capture: &[u8], count: usize, from: usize) -> Option<usize>
     requires { count ≤ 8 * length capture.now }
     ensures { as_lock result ≡ lock_from (bits_left capture.now count from) from }
 {
+    // Not `find` over the places with room: its closure needs a `requires` and an `ensures` of its own, and is no plainer.
     for at in from..count {
         if count - at <= 11776 {
             return None;

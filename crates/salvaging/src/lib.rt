@@ -74,6 +74,7 @@ pub enum Entry {
     Dropped(u64, Answer),
 }
 
+// What a block adds to the log: none, one or two. Not two `Option`s, of which the second could stand alone: entries that are told alike are the same (`EntriesToldOnce`).
 #[derive(Clone, Copy)]
 pub enum Entries {
     Nothing,
