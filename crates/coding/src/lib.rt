@@ -1,7 +1,7 @@
 // What a clip is opened with, and what is done by it: a picture read, judged, written and drawn.
 #![tactic(auto)]
 
-ghost use Rattle.std.specs.Prelude.{◌≡◌, true, length};
+ghost use Rattle.std.specs.Prelude.{◌≡◌, ◌^◌, ◌<◌, true, length};
 ghost use Rattle.refusals.specs.Told.{told_verdict, verdict_on, found_or};
 ghost use Rattle.bits.specs.Appended.{WroteBits};
 ghost use Rattle.layout.specs.Flat.{flat, zeros};
@@ -157,8 +157,8 @@ fn read_in(
     }
 }
 
-// Scratch for QCIF and smaller.
-fn read_small(
+// Scratch of these lengths, which have room for the kind.
+fn read_with<const HEAD: usize, const MACROBLOCKS: usize, const LEVELS: usize>(
     kind: Kind,
     bytes: &[u8],
     count: usize,
@@ -166,47 +166,17 @@ fn read_small(
     macroblocks: &mut [u8],
     levels: &mut [u8],
 ) -> PictureRead
-    requires { (RoomIn 14 396 38016 kind) × (Lengths (shape_of kind) (flat head.old macroblocks.old levels.old)) }
+    requires room { RoomIn HEAD MACROBLOCKS LEVELS kind }
+    requires lengths { Lengths (shape_of kind) (flat head.old macroblocks.old levels.old) }
+    // An array of a parameter's length has to have a size.
+    requires sizes { (HEAD < 2 ^ 20) × (MACROBLOCKS < 2 ^ 20) × (LEVELS < 2 ^ 20) }
     ensures verdict { told_verdict result.verdict ≡ verdict_on ((coding_of kind).read bytes.now count) }
     ensures buffers { flat head.new macroblocks.new levels.new ≡ found_or (flat head.old macroblocks.old levels.old) ((coding_of kind).read bytes.now count) }
     ensures reads { result.reads ≡ reads_of kind bytes.now count }
 {
-    let mut header = [0u8; 14];
-    let mut fields = [0u8; 396];
-    let mut coefficients = [0u8; 38016];
-    let heads = head_length(kind);
-    let fours = macroblocks_length(kind);
-    let numbers = levels_length(kind);
-    read_in(
-        kind,
-        bytes,
-        count,
-        &mut header[..heads],
-        &mut fields[..fours],
-        &mut coefficients[..numbers],
-        head,
-        macroblocks,
-        levels,
-    )
-}
-
-// And for CIF, which has room for any size.
-fn read_large(
-    kind: Kind,
-    bytes: &[u8],
-    count: usize,
-    head: &mut [u8],
-    macroblocks: &mut [u8],
-    levels: &mut [u8],
-) -> PictureRead
-    requires { (RoomIn 23 1584 152064 kind) × (Lengths (shape_of kind) (flat head.old macroblocks.old levels.old)) }
-    ensures verdict { told_verdict result.verdict ≡ verdict_on ((coding_of kind).read bytes.now count) }
-    ensures buffers { flat head.new macroblocks.new levels.new ≡ found_or (flat head.old macroblocks.old levels.old) ((coding_of kind).read bytes.now count) }
-    ensures reads { result.reads ≡ reads_of kind bytes.now count }
-{
-    let mut header = [0u8; 23];
-    let mut fields = [0u8; 1584];
-    let mut coefficients = [0u8; 152064];
+    let mut header = [0u8; HEAD];
+    let mut fields = [0u8; MACROBLOCKS];
+    let mut coefficients = [0u8; LEVELS];
     let heads = head_length(kind);
     let fours = macroblocks_length(kind);
     let numbers = levels_length(kind);
@@ -257,9 +227,11 @@ pub fn read(
     }
     let size = size_of(kind);
     match size {
-        Size::SubQcif => read_small(kind, bytes, count, head, macroblocks, levels),
-        Size::Qcif => read_small(kind, bytes, count, head, macroblocks, levels),
-        Size::Cif => read_large(kind, bytes, count, head, macroblocks, levels),
+        Size::SubQcif => {
+            read_with::<14, 396, 38016>(kind, bytes, count, head, macroblocks, levels)
+        }
+        Size::Qcif => read_with::<14, 396, 38016>(kind, bytes, count, head, macroblocks, levels),
+        Size::Cif => read_with::<23, 1584, 152064>(kind, bytes, count, head, macroblocks, levels),
     }
 }
 
@@ -361,23 +333,21 @@ fn write_in(
     count
 }
 
-// Scratch for QCIF and smaller.
-fn write_small(kind: Kind, head: &[u8], macroblocks: &[u8], levels: &[u8], out: &mut [u8]) -> usize
-    requires { Writing kind (flat head.now macroblocks.now levels.now) 8192 (length out.old) }
+// Scratch of this length, which is that of the output.
+fn write_with<const BYTES: usize>(
+    kind: Kind,
+    head: &[u8],
+    macroblocks: &[u8],
+    levels: &[u8],
+    out: &mut [u8],
+) -> usize
+    requires writing { Writing kind (flat head.now macroblocks.now levels.now) BYTES (length out.old) }
+    // An array of a parameter's length has to have a size.
+    requires sized { BYTES < 2 ^ 20 }
     ensures count { result ≡ length ((coding_of kind).written (flat head.now macroblocks.now levels.now)) }
     ensures bytes { out.new ≡ output_with (kind_size kind) ((coding_of kind).written (flat head.now macroblocks.now levels.now)) out.old }
 {
-    let mut scratch = [0u8; 8192];
-    write_in(kind, head, macroblocks, levels, &mut scratch, out)
-}
-
-// And for CIF.
-fn write_large(kind: Kind, head: &[u8], macroblocks: &[u8], levels: &[u8], out: &mut [u8]) -> usize
-    requires { Writing kind (flat head.now macroblocks.now levels.now) 32768 (length out.old) }
-    ensures count { result ≡ length ((coding_of kind).written (flat head.now macroblocks.now levels.now)) }
-    ensures bytes { out.new ≡ output_with (kind_size kind) ((coding_of kind).written (flat head.now macroblocks.now levels.now)) out.old }
-{
-    let mut scratch = [0u8; 32768];
+    let mut scratch = [0u8; BYTES];
     write_in(kind, head, macroblocks, levels, &mut scratch, out)
 }
 
@@ -389,9 +359,9 @@ fn write_valid(kind: Kind, head: &[u8], macroblocks: &[u8], levels: &[u8], out: 
 {
     let size = size_of(kind);
     match size {
-        Size::SubQcif => write_small(kind, head, macroblocks, levels, out),
-        Size::Qcif => write_small(kind, head, macroblocks, levels, out),
-        Size::Cif => write_large(kind, head, macroblocks, levels, out),
+        Size::SubQcif => write_with::<8192>(kind, head, macroblocks, levels, out),
+        Size::Qcif => write_with::<8192>(kind, head, macroblocks, levels, out),
+        Size::Cif => write_with::<32768>(kind, head, macroblocks, levels, out),
     }
 }
 

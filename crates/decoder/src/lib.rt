@@ -1,7 +1,7 @@
 // Bits and a reference to a store: reading, then the mark, then rendering. Acceptance is settled before the first sample is written.
 #![tactic(auto)]
 
-ghost use Rattle.std.specs.Prelude.{◌≡◌, true};
+ghost use Rattle.std.specs.Prelude.{◌≡◌, ◌^◌, ◌<◌, true};
 ghost use Rattle.laws.specs.Choice.{alike};
 ghost use Rattle.refusals.specs.Told.{found_or};
 ghost use Rattle.layout.specs.Flat.{flat};
@@ -74,8 +74,8 @@ fn draw_in(
 
 // ---- scratch by size: a picture clears no more than its own size needs
 
-// QCIF and smaller.
-fn draw_small(
+// Scratch of these lengths, which have room for the kind.
+fn draw_with<const HEAD: usize, const MACROBLOCKS: usize, const LEVELS: usize>(
     bytes: &[u8],
     count: usize,
     kind: Kind,
@@ -83,45 +83,16 @@ fn draw_small(
     reference: &[u8],
     store: &mut [u8],
 ) -> Result<u32, Refusal>
-    requires { (RoomIn 14 396 38016 kind) × (Drawing kind reference.now store.old) }
+    requires room { RoomIn HEAD MACROBLOCKS LEVELS kind }
+    requires drawing { Drawing kind reference.now store.old }
+    // An array of a parameter's length has to have a size.
+    requires sizes { (HEAD < 2 ^ 20) × (MACROBLOCKS < 2 ^ 20) × (LEVELS < 2 ^ 20) }
     ensures answer { told_drawn result ≡ marked_tr kind mark bytes.now count }
     ensures samples { store.new ≡ found_or store.old (marked_store kind mark bytes.now count reference.now) }
 {
-    let mut head = [0u8; 14];
-    let mut macroblocks = [0u8; 396];
-    let mut levels = [0u8; 38016];
-    let heads = coding::head_length(kind);
-    let fields = coding::macroblocks_length(kind);
-    let coefficients = coding::levels_length(kind);
-    draw_in(
-        bytes,
-        count,
-        kind,
-        mark,
-        &mut head[..heads],
-        &mut macroblocks[..fields],
-        &mut levels[..coefficients],
-        reference,
-        store,
-    )
-}
-
-// CIF, which has room for any size.
-fn draw_large(
-    bytes: &[u8],
-    count: usize,
-    kind: Kind,
-    mark: Option<bool>,
-    reference: &[u8],
-    store: &mut [u8],
-) -> Result<u32, Refusal>
-    requires { (RoomIn 23 1584 152064 kind) × (Drawing kind reference.now store.old) }
-    ensures answer { told_drawn result ≡ marked_tr kind mark bytes.now count }
-    ensures samples { store.new ≡ found_or store.old (marked_store kind mark bytes.now count reference.now) }
-{
-    let mut head = [0u8; 23];
-    let mut macroblocks = [0u8; 1584];
-    let mut levels = [0u8; 152064];
+    let mut head = [0u8; HEAD];
+    let mut macroblocks = [0u8; MACROBLOCKS];
+    let mut levels = [0u8; LEVELS];
     let heads = coding::head_length(kind);
     let fields = coding::macroblocks_length(kind);
     let coefficients = coding::levels_length(kind);
@@ -153,9 +124,9 @@ pub fn draw(
 {
     let size = coding::size_of(kind);
     match size {
-        Size::SubQcif => draw_small(bytes, count, kind, mark, reference, store),
-        Size::Qcif => draw_small(bytes, count, kind, mark, reference, store),
-        Size::Cif => draw_large(bytes, count, kind, mark, reference, store),
+        Size::SubQcif => draw_with::<14, 396, 38016>(bytes, count, kind, mark, reference, store),
+        Size::Qcif => draw_with::<14, 396, 38016>(bytes, count, kind, mark, reference, store),
+        Size::Cif => draw_with::<23, 1584, 152064>(bytes, count, kind, mark, reference, store),
     }
 }
 

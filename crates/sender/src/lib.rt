@@ -1,7 +1,7 @@
 // A sender of one clip: state by value, in and out.
 #![tactic(auto)]
 
-ghost use Rattle.std.specs.Prelude.{◌≡◌, ◌<◌, eqb, length};
+ghost use Rattle.std.specs.Prelude.{◌≡◌, ◌^◌, ◌<◌, eqb, length};
 ghost use Rattle.laws.specs.Choice.{both, either, opposite};
 ghost use Rattle.refusals.specs.Number.{refusal};
 ghost use Rattle.refusals.specs.Told.{numbers_of, refused_by};
@@ -179,8 +179,8 @@ fn send_in(
 
 // ---- scratch by size
 
-// QCIF and smaller.
-fn send_small(
+// Scratch of this length, which is that of the output.
+fn send_with<const BYTES: usize>(
     sender: Sender,
     refreshed: bool,
     head: &[u8],
@@ -190,38 +190,13 @@ fn send_small(
     first: &mut [u8],
     second: &mut [u8],
 ) -> Sent
-    requires { (Passed coding_of sender refreshed (flat head.now macroblocks.now levels.now) (buffers out.old first.old second.old)) × (output_length (kind_size sender.kind) ≡ 8192) }
+    requires passed { Passed coding_of sender refreshed (flat head.now macroblocks.now levels.now) (buffers out.old first.old second.old) }
+    requires long { output_length (kind_size sender.kind) ≡ BYTES }
+    // An array of a parameter's length has to have a size.
+    requires sized { BYTES < 2 ^ 20 }
     ensures { SendDoes sender (flat head.now macroblocks.now levels.now) (buffers out.old first.old second.old) result (buffers out.new first.new second.new) }
 {
-    let mut scratch = [0u8; 8192];
-    send_in(
-        sender,
-        refreshed,
-        head,
-        macroblocks,
-        levels,
-        &mut scratch,
-        out,
-        first,
-        second,
-    )
-}
-
-// CIF.
-fn send_large(
-    sender: Sender,
-    refreshed: bool,
-    head: &[u8],
-    macroblocks: &[u8],
-    levels: &[u8],
-    out: &mut [u8],
-    first: &mut [u8],
-    second: &mut [u8],
-) -> Sent
-    requires { (Passed coding_of sender refreshed (flat head.now macroblocks.now levels.now) (buffers out.old first.old second.old)) × (output_length (kind_size sender.kind) ≡ 32768) }
-    ensures { SendDoes sender (flat head.now macroblocks.now levels.now) (buffers out.old first.old second.old) result (buffers out.new first.new second.new) }
-{
-    let mut scratch = [0u8; 32768];
+    let mut scratch = [0u8; BYTES];
     send_in(
         sender,
         refreshed,
@@ -263,7 +238,7 @@ pub fn send(
     }
     let size = coding::size_of(kind);
     match size {
-        Size::SubQcif => send_small(
+        Size::SubQcif => send_with::<8192>(
             sender,
             refreshed,
             head,
@@ -273,7 +248,7 @@ pub fn send(
             first,
             second,
         ),
-        Size::Qcif => send_small(
+        Size::Qcif => send_with::<8192>(
             sender,
             refreshed,
             head,
@@ -283,7 +258,7 @@ pub fn send(
             first,
             second,
         ),
-        Size::Cif => send_large(
+        Size::Cif => send_with::<32768>(
             sender,
             refreshed,
             head,

@@ -1,4 +1,5 @@
 -- `coding::read` meets its contract: by the lengths, then by the size, whose scratch has room for the kind. Assumes nothing.
+use borrow.Author.Rules.{rules}
 use borrow.Author.Tests.{not-true, not-false}
 use mathlib.Core.Path.{ap}
 use native.Mathlib.Omega.{arith}
@@ -34,31 +35,31 @@ returns-then-not-has_lengths c =
     let all = unfit c.args.kind c.args.bytes.now c.args.count (buffers c) c.has_lengths.ensures (not-true _ c.if-not-has_lengths.true-raw) in
     record { verdict = all.0; buffers = all.1.0; reads = all.1.1 }
 
-pub read_small-requires : goal.read_small-requires
-read_small-requires c =
-    (room_small c.args.kind c.size_of-size.ensures (omega (arith, ap limit c.in-SubQcif.is)), lengths (goal.at.read_small-requires c).Else-not-has_lengths)
+pub read_with-requires : goal.read_with-requires
+read_with-requires c =
+    record { room = room_small c.args.kind c.size_of-size.ensures (omega (arith, ap limit c.in-SubQcif.is)); lengths = lengths (goal.at.read_with-requires c).Else-not-has_lengths; sizes = search rules }
 
-pub read_small-requires-in-Qcif : goal.read_small-requires-in-Qcif
-read_small-requires-in-Qcif c =
-    (room_small c.args.kind c.size_of-size.ensures (omega (arith, ap limit c.in-Qcif.is)), lengths (goal.at.read_small-requires-in-Qcif c).Else-not-has_lengths)
+pub read_with-requires-in-Qcif : goal.read_with-requires-in-Qcif
+read_with-requires-in-Qcif c =
+    record { room = room_small c.args.kind c.size_of-size.ensures (omega (arith, ap limit c.in-Qcif.is)); lengths = lengths (goal.at.read_with-requires-in-Qcif c).Else-not-has_lengths; sizes = search rules }
 
-pub read_large-requires : goal.read_large-requires
-read_large-requires c = (room_large c.args.kind, lengths (goal.at.read_large-requires c).Else-not-has_lengths)
+pub read_with-requires-in-Cif : goal.read_with-requires-in-Cif
+read_with-requires-in-Cif c = record { room = room_large c.args.kind; lengths = lengths (goal.at.read_with-requires-in-Cif c).Else-not-has_lengths; sizes = search rules }
 
 pub returns-in-SubQcif : goal.returns-in-SubQcif
 returns-in-SubQcif c =
-    let call = c.read_small in
+    let call = c.read_with in
     let all = fit c.args.kind c.args.bytes.now c.args.count (buffers-at3 c) c.has_lengths.ensures (not-false _ c.if-not-has_lengths.false-raw) call.result.verdict call.ensures.verdict call.ensures.buffers call.ensures.reads in
     record { verdict = all.0; buffers = all.1.0; reads = all.1.1 }
 
 pub returns-in-Qcif : goal.returns-in-Qcif
 returns-in-Qcif c =
-    let call = c.read_small-in-Qcif in
+    let call = c.read_with-in-Qcif in
     let all = fit c.args.kind c.args.bytes.now c.args.count (buffers-at4 c) c.has_lengths.ensures (not-false _ c.if-not-has_lengths.false-raw) call.result.verdict call.ensures.verdict call.ensures.buffers call.ensures.reads in
     record { verdict = all.0; buffers = all.1.0; reads = all.1.1 }
 
 pub returns-in-Cif : goal.returns-in-Cif
 returns-in-Cif c =
-    let call = c.read_large in
+    let call = c.read_with-in-Cif in
     let all = fit c.args.kind c.args.bytes.now c.args.count (buffers-at5 c) c.has_lengths.ensures (not-false _ c.if-not-has_lengths.false-raw) call.result.verdict call.ensures.verdict call.ensures.buffers call.ensures.reads in
     record { verdict = all.0; buffers = all.1.0; reads = all.1.1 }

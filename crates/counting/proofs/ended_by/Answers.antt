@@ -1,6 +1,6 @@
 -- `counting::ended_by` meets its contract: by the line. Assumes nothing.
 use mathlib.Core.Path.{◌≡◌, refl, sym, ap, ◌∙◌}
-use Rattle.std.specs.Prelude.{Option}
+use Rattle.std.specs.Prelude.{ℕ, Option}
 use Rattle.vault.specs.declared.Header.{Header}
 use Rattle.standing.specs.declared.Line.{Line}
 use Rattle.counting.specs.Ending.{ended_by}

@@ -1,7 +1,7 @@
 -- `decoder::decode` meets its contract: the lengths are judged first, and there is no mark. Assumes nothing.
 use mathlib.Core.Path.{sym, ap, ◌∙◌}
 use lib.ListN.{length}
-use Rattle.std.specs.Prelude.{Ok, Err, Result}
+use Rattle.std.specs.Prelude.{ℕ, Ok, Err, Result}
 use Rattle.size.specs.Size.{store_length}
 use Rattle.refusals.specs.Number.{number, read_table}
 use Rattle.refusals.specs.Told.{verdict_on, found_or}

@@ -1,4 +1,5 @@
 -- `sender::send` meets its contract: by the judgements in their order. Assumes nothing.
+use borrow.Author.Rules.{rules}
 use mathlib.Core.Path.{sym, ap, ◌∙◌}
 use lib.Dec.{eqb}
 use Rattle.laws.specs.Choice.{either, opposite}
@@ -61,14 +62,14 @@ returns-then-not-begins c =
     (not_refresh coding_of c.args.sender d lent (sym c.named.ensures ∙ c.if-not-named.false) c.if-sender-ge-PICTURES.false (sym c.valid.ensures ∙ c.if-not-valid.false)
     (sym (c.begins.ensures ∙ ap (either (opposite (eqb c.args.sender.picture 0))) c.is_refresh-refreshed.ensures) ∙ c.if-not-begins.true))
 
-pub send_small-requires : goal.send_small-requires
-send_small-requires c =
-    (passed (goal.at.send_small-requires c).Else-not-begins, ap output_length (sym c.size_of-size.ensures ∙ c.in-SubQcif.is))
+pub send_with-requires : goal.send_with-requires
+send_with-requires c =
+    record { passed = passed (goal.at.send_with-requires c).Else-not-begins; long = ap output_length (sym c.size_of-size.ensures ∙ c.in-SubQcif.is); sized = search rules }
 
-pub send_small-requires-in-Qcif : goal.send_small-requires-in-Qcif
-send_small-requires-in-Qcif c =
-    (passed (goal.at.send_small-requires-in-Qcif c).Else-not-begins, ap output_length (sym c.size_of-size.ensures ∙ c.in-Qcif.is))
+pub send_with-requires-in-Qcif : goal.send_with-requires-in-Qcif
+send_with-requires-in-Qcif c =
+    record { passed = passed (goal.at.send_with-requires-in-Qcif c).Else-not-begins; long = ap output_length (sym c.size_of-size.ensures ∙ c.in-Qcif.is); sized = search rules }
 
-pub send_large-requires : goal.send_large-requires
-send_large-requires c =
-    (passed (goal.at.send_large-requires c).Else-not-begins, ap output_length (sym c.size_of-size.ensures ∙ c.in-Cif.is))
+pub send_with-requires-in-Cif : goal.send_with-requires-in-Cif
+send_with-requires-in-Cif c =
+    record { passed = passed (goal.at.send_with-requires-in-Cif c).Else-not-begins; long = ap output_length (sym c.size_of-size.ensures ∙ c.in-Cif.is); sized = search rules }

@@ -2,7 +2,7 @@
 use mathlib.Core.Path.{◌≡◌, refl, sym, ap, subst, ◌∙◌}
 use mathlib.Core.List.{List}
 use Prim.Native.Nat.{ℕ}
-use Rattle.std.specs.Prelude.{Option}
+use Rattle.std.specs.Prelude.{Bool, Option}
 use Rattle.refusals.specs.Told.{Told, accepted, refused_by, found_or}
 use Rattle.coding.specs.declared.Kind.{Kind}
 use Rattle.decoder.specs.Decoded.{marked_store}
