@@ -5,8 +5,6 @@ use mathlib.Core.Path.{◌≡◌, refl, sym, ap, ◌∙◌}
 use mathlib.Core.Bool.{Bool, true, false}
 use mathlib.Core.List.{List}
 use Prim.Native.Nat.{ℕ}
-use native.Mathlib.Omega.{arith}
-use denote.Enum.Declared.{tag_of}
 use Rattle.laws.specs.Choice.{pick}
 use Rattle.laws.proofs.Choice.{true-T}
 use Rattle.refusals.specs.declared.Reason.TheVariants.{Length}
@@ -21,10 +19,6 @@ use Rattle.coding.specs.Kind.{shape_of, coding_of, reads_of}
 use Rattle.coding.specs.Described.{read_of, read_count, ReadSays, ReadLeaves, ReadCounts}
 
 -- ---- what the three buffers are in the end
-pub accepted_tag : (v : Result (Unit {0}) Refusal) → tag_of verdict_type v ≡ 0 → v ≡ Ok tt
-accepted_tag (Ok u) t = refl
-accepted_tag (Err r) t = absurd (omega arith)
-
 module _ (v : Result (Unit {0}) Refusal) (x : Told Flat) (w : told_verdict v ≡ verdict_on x) where
   -- what the scratch holds, once it is copied
   pub accepted_buffers : v ≡ Ok tt → (scratch : Flat) {header fields coefficients : List ℕ} → flat header fields coefficients ≡ found_or scratch x
@@ -35,13 +29,12 @@ module _ (v : Result (Unit {0}) Refusal) (x : Told Flat) (w : told_verdict v ≡
       by (accepted d) w b = b
       by (refused_by numbers) w b = absurd (told_apart (sym (ap told_verdict a) ∙ w))
 
-  pub refused_buffers : tag_of verdict_type v ≡ 1 → (before : Flat) → before ≡ found_or before x
-  refused_buffers t before = by v t refl x w
+  pub refused_buffers : {why : Refusal} → v ≡ Err why → (before : Flat) → before ≡ found_or before x
+  refused_buffers a before = by x w
     where
-      by : (u : Result (Unit {0}) Refusal) → tag_of verdict_type u ≡ 1 → v ≡ u → (x : Told Flat) → told_verdict v ≡ verdict_on x → before ≡ found_or before x
-      by (Ok u) t a x w = absurd (omega arith)
-      by (Err r) t a (accepted d) w = absurd (told_apart (sym w ∙ ap told_verdict a))
-      by (Err r) t a (refused_by numbers) w = refl
+      by : (x : Told Flat) → told_verdict v ≡ verdict_on x → before ≡ found_or before x
+      by (accepted d) w = absurd (told_apart (sym w ∙ ap told_verdict a))
+      by (refused_by numbers) w = refl
 
 -- ---- by the lengths
 module _ (k : Kind) (bytes : List ℕ) (n : ℕ) (before : Flat) {o : Bool} (e : o ≡ has_lengths (shape_of k) before) where

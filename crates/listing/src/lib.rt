@@ -52,10 +52,8 @@ fn open_by(size: Size, header: Header) -> Result<Receiver, Refusal>
 fn open_checked(size: Size, checked: Result<Header, Refusal>) -> Result<Receiver, Refusal>
     ensures { told_opened result ≡ opened_by size (told_checked checked) }
 {
-    match checked {
-        Ok(header) => open_by(size, header),
-        Err(why) => Err(why),
-    }
+    let header = checked?;
+    open_by(size, header)
 }
 
 // The receiver that a block comes to: the clip's, or one for the block's clip; or 1, 21, 22, then 23 where another clip was asked for, then 5.

@@ -19,7 +19,7 @@ use ticks::Tick;
 use vault::Header;
 
 // Which store holds the last finished picture.
-#[derive(Clone, Copy)]
+#[derive(Clone, Copy, PartialEq, Eq, Debug)]
 pub enum Holder {
     Neither,
     First,
@@ -27,14 +27,14 @@ pub enum Holder {
 }
 
 // The part of a picture.
-#[derive(Clone, Copy)]
+#[derive(Clone, Copy, PartialEq, Eq, PartialOrd, Ord, Debug)]
 pub struct Place {
     pub picture: u32,
     pub part: u8,
 }
 
 // How a receiver stands.
-#[derive(Clone, Copy)]
+#[derive(Clone, Copy, PartialEq, Eq, Debug)]
 pub enum Standing {
     Lost,
     Catching,
@@ -42,7 +42,7 @@ pub enum Standing {
 }
 
 // What a block changes.
-#[derive(Clone, Copy)]
+#[derive(Clone, Copy, PartialEq, Eq, Debug)]
 pub struct Progress {
     pub wanted: Place,
     pub standing: Standing,
@@ -51,7 +51,7 @@ pub struct Progress {
 }
 
 // What only a finished picture changes.
-#[derive(Clone, Copy)]
+#[derive(Clone, Copy, PartialEq, Eq, Debug)]
 pub struct Last {
     pub holder: Holder,
     pub picture: u32,
@@ -67,7 +67,7 @@ pub struct Receiver {
 }
 
 // With the picture and the part; with the picture's number and its tick.
-#[derive(Clone, Copy)]
+#[derive(Clone, Copy, PartialEq, Eq, Debug)]
 pub enum Answer {
     Old(u32, u8),
     Taken(u32, u8),
@@ -83,7 +83,7 @@ pub struct Received {
 }
 
 // The first matching line of four.
-#[derive(Clone, Copy)]
+#[derive(Clone, Copy, PartialEq, Eq, Debug)]
 pub enum Line {
     Earlier,
     Next,
@@ -175,13 +175,7 @@ pub fn open(clip: u16, kind: Kind) -> Result<Receiver, Refusal>
 fn earlier(a: Place, b: Place) -> bool
     ensures { result ≡ earlier_of a b }
 {
-    if a.picture < b.picture {
-        return true;
-    }
-    if a.picture == b.picture {
-        return a.part < b.part;
-    }
-    false
+    a < b
 }
 
 fn not_lost(standing: Standing) -> bool
@@ -206,10 +200,7 @@ fn place_of(header: Header) -> Place
 fn same(a: Place, b: Place) -> bool
     ensures { result ≡ same_of a b }
 {
-    if a.picture == b.picture {
-        return a.part == b.part;
-    }
-    false
+    a == b
 }
 
 fn continues(here: Place, wanted: Place, standing: Standing) -> bool

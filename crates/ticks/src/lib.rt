@@ -7,14 +7,14 @@ ghost use Rattle.ticks.specs.Tick.{tick_number, is_exact, tick_as, tr_difference
 ghost use Rattle.ticks.specs.Due.{seconds_of, due_of};
 
 // The tick that all pictures give, or the least that it can be.
-#[derive(Clone, Copy)]
+#[derive(Clone, Copy, PartialEq, Eq, Debug)]
 pub enum Tick {
     Exact(u32),
     Estimated(u32),
 }
 
 // Seconds.
-#[derive(Clone, Copy)]
+#[derive(Clone, Copy, PartialEq, Debug)]
 pub enum DueTime {
     Exact(f64),
     Estimated(f64),

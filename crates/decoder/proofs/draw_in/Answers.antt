@@ -14,14 +14,14 @@ pub is_true-requires : goal.is_true-requires
 is_true-requires c =
     let lent = flat c.args.head.now c.args.macroblocks.now c.args.levels.now in
     (coding_lawful.each c.args.kind).reads_valid c.args.bytes.now c.args.count _
-    (was_accepted lent _ c.parse-verdict.ensures.verdict c.parse-verdict.ensures.buffers c.in-Accepted.is)
+    (was_accepted lent _ c.parse-verdict.ensures.verdict c.parse-verdict.ensures.buffers c.in-Ok.is)
 
 pub render-requires : goal.render-requires
 render-requires c =
     let lent = flat c.args.head.now c.args.macroblocks.now c.args.levels.now in
     record {
       valid_is = (coding_lawful.each c.args.kind).reads_valid c.args.bytes.now c.args.count _
-          (was_accepted lent _ c.parse-verdict.ensures.verdict c.parse-verdict.ensures.buffers c.in-Accepted.is);
+          (was_accepted lent _ c.parse-verdict.ensures.verdict c.parse-verdict.ensures.buffers c.in-Ok.is);
       reference_long = c.requires.drawing.reference_long;
       store_long = c.requires.drawing.store_long;
     }
@@ -30,15 +30,15 @@ pub returns-then-is_true : goal.returns-then-is_true
 returns-then-is_true c =
     let lent = flat c.args.head.now c.args.macroblocks.now c.args.levels.now in
     let all = drawn c.args.kind c.args.mark c.args.bytes.now c.args.count c.args.reference.now
-    (was_accepted lent _ c.parse-verdict.ensures.verdict c.parse-verdict.ensures.buffers c.in-Accepted.is) c.is_true.ensures c.if-is_true.true
+    (was_accepted lent _ c.parse-verdict.ensures.verdict c.parse-verdict.ensures.buffers c.in-Ok.is) c.is_true.ensures c.if-is_true.true
     c.tr_of-tr.result c.tr_of-tr.ensures c.args.store.now _ c.render.ensures in
     record { answer = all.0; samples = all.1 }
 
-pub returns-in-Refused : goal.returns-in-Refused
-returns-in-Refused c =
+pub returns-in-Err : goal.returns-in-Err
+returns-in-Err c =
     let lent = flat c.args.head.now c.args.macroblocks.now c.args.levels.now in
     let all = unread c.args.kind c.args.mark c.args.bytes.now c.args.count c.args.reference.now
-    (was_refused lent _ c.parse-verdict.ensures.verdict c.parse-verdict.ensures.buffers c.in-Refused.is) c.args.store.now in
+    (was_refused lent _ c.parse-verdict.ensures.verdict c.parse-verdict.ensures.buffers c.in-Err.is) c.args.store.now in
     record { answer = all.0; samples = all.1 }
 
 pub returns-else-is_true : goal.returns-else-is_true
@@ -46,6 +46,6 @@ unfolding number read_table
 returns-else-is_true c =
     let lent = flat c.args.head.now c.args.macroblocks.now c.args.levels.now in
     let all = untrue c.args.kind c.args.mark c.args.bytes.now c.args.count c.args.reference.now
-    (was_accepted lent _ c.parse-verdict.ensures.verdict c.parse-verdict.ensures.buffers c.in-Accepted.is) c.is_true.ensures c.if-is_true.false
+    (was_accepted lent _ c.parse-verdict.ensures.verdict c.parse-verdict.ensures.buffers c.in-Ok.is) c.is_true.ensures c.if-is_true.false
     c.args.store.now in
     record { answer = all.0; samples = all.1 }
