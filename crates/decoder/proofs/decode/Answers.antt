@@ -3,6 +3,7 @@ use mathlib.Core.Path.{sym, ap, ◌∙◌}
 use lib.ListN.{length}
 use Rattle.std.specs.Prelude.{ℕ, Ok, Err, Result}
 use Rattle.size.specs.Size.{store_length}
+use Rattle.refusals.specs.declared.Refusal.{Refusal}
 use Rattle.refusals.specs.Number.{number, read_table}
 use Rattle.refusals.specs.Told.{verdict_on, found_or}
 use Rattle.decoder.specs.Decoded.{told_drawn}
