@@ -1,4 +1,5 @@
 // The pictures of a stream recorded as a clip, and what is said of them: the same for both standards.
+ghost use Rattle.std.specs.Prelude.{◌^◌, ◌<◌};
 ghost use Rattle.coding.specs.Described.{RoomIn};
 
 use account::streams::Streams;
@@ -202,8 +203,16 @@ fn finish_in<I, O: Write, E: Write>(
 
 // ---- scratch by size: a picture clears no more than its own size needs
 
-// QCIF and smaller.
-fn finish_small<I, O: Write, E: Write>(
+// Scratch of these lengths, which have room for the kind.
+fn finish_with<
+    I,
+    O: Write,
+    E: Write,
+    const HEAD: usize,
+    const MACROBLOCKS: usize,
+    const LEVELS: usize,
+    const OUT: usize,
+>(
     streams: &mut Streams<I, O, E>,
     recording: Recording,
     kind: Kind,
@@ -213,47 +222,14 @@ fn finish_small<I, O: Write, E: Write>(
     first: &mut [u8],
     second: &mut [u8],
 ) -> Result<Recording, Failure>
-    requires { RoomIn 14 396 38016 kind }
+    requires room { RoomIn HEAD MACROBLOCKS LEVELS kind }
+    // An array of a parameter's length has to have a size.
+    requires sizes { (HEAD < 2 ^ 20) × (MACROBLOCKS < 2 ^ 20) × (LEVELS < 2 ^ 20) × (OUT < 2 ^ 20) }
 {
-    let mut head = [0u8; 14];
-    let mut macroblocks = [0u8; 396];
-    let mut levels = [0u8; 38016];
-    let mut out = [0u8; 8704];
-    let heads = coding::head_length(kind);
-    let fields = coding::macroblocks_length(kind);
-    let coefficients = coding::levels_length(kind);
-    finish_in(
-        streams,
-        recording,
-        whole,
-        offset,
-        picture,
-        &mut head[..heads],
-        &mut macroblocks[..fields],
-        &mut levels[..coefficients],
-        &mut out,
-        first,
-        second,
-    )
-}
-
-// CIF, which has room for any size.
-fn finish_large<I, O: Write, E: Write>(
-    streams: &mut Streams<I, O, E>,
-    recording: Recording,
-    kind: Kind,
-    whole: Whole,
-    offset: usize,
-    picture: &[u8],
-    first: &mut [u8],
-    second: &mut [u8],
-) -> Result<Recording, Failure>
-    requires { RoomIn 23 1584 152064 kind }
-{
-    let mut head = [0u8; 23];
-    let mut macroblocks = [0u8; 1584];
-    let mut levels = [0u8; 152064];
-    let mut out = [0u8; 33792];
+    let mut head = [0u8; HEAD];
+    let mut macroblocks = [0u8; MACROBLOCKS];
+    let mut levels = [0u8; LEVELS];
+    let mut out = [0u8; OUT];
     let heads = coding::head_length(kind);
     let fields = coding::macroblocks_length(kind);
     let coefficients = coding::levels_length(kind);
@@ -282,17 +258,12 @@ pub fn finish<I, O: Write, E: Write>(
     first: &mut [u8],
     second: &mut [u8],
 ) -> Result<Recording, Failure> {
-    let sender = recording.sender;
-    let kind = sender.kind;
-    let size = coding::size_of(kind);
-    match size {
-        Size::SubQcif => finish_small(
+    let kind = recording.sender.kind;
+    match coding::size_of(kind) {
+        Size::SubQcif | Size::Qcif => finish_with::<I, O, E, 14, 396, 38016, 8704>(
             streams, recording, kind, whole, offset, picture, first, second,
         ),
-        Size::Qcif => finish_small(
-            streams, recording, kind, whole, offset, picture, first, second,
-        ),
-        Size::Cif => finish_large(
+        Size::Cif => finish_with::<I, O, E, 23, 1584, 152064, 33792>(
             streams, recording, kind, whole, offset, picture, first, second,
         ),
     }

@@ -25,12 +25,11 @@ returns-then-n-gt65535 c =
     c.lengthen-n.ensures c.if-n-gt65535.true)
 
 pub loop-c-preserved : goal.loop-c-preserved
-loop-c-preserved c =
-    (
-      search rules,
-      c.loop-c.invariant.1 ∙ clip_more c.args.word.now c.loop-c.n c.loop-c.c-index (search rules) c.is_digit.ensures (not-false _ c.if-not-is_digit.false-raw)
-          c.lengthen-n.ensures c.if-n-gt65535.false,
-    )
+loop-c-preserved c = (
+  search rules,
+  c.loop-c.invariant.1 ∙ clip_more c.args.word.now c.loop-c.n c.loop-c.c-index (search rules) c.is_digit.ensures (not-false _ c.if-not-is_digit.false-raw)
+      c.lengthen-n.ensures c.if-n-gt65535.false,
+)
 
 pub returns : goal.returns
 returns c = sym (c.loop-c.invariant.1 ∙ clip_end c.args.word.now c.loop-c.n c.loop-c.c-index (search rules))
