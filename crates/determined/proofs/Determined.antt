@@ -41,12 +41,12 @@ use Rattle.h261_description.specs.Vector.{Before}
 use Rattle.h261_layers.specs.Answer.{as_mba, as_header, as_vector, as_macroblock, component_of, before_of, Sent}
 use Rattle.fields.specs.Answer.{leaving, as_number}
 use Rattle.fields.specs.declared.CountedRead.{CountedRead}
-use Rattle.h261_layers.specs.declared.MbaRead.{MbaRead}
+use Rattle.h261_layers.specs.declared.Mba as code
 use Rattle.h261_layers.specs.declared.Behind.{Behind}
 use Rattle.bits.specs.declared.FieldRead.TheVariants as F
 use Rattle.h261_words.specs.declared.CoefficientRead.TheVariants as C
 use Rattle.h263_words.specs.declared.EventRead.TheVariants as E
-use Rattle.h261_layers.specs.declared.MbaRead.TheVariants as M
+use Rattle.h261_layers.specs.declared.Mba.TheVariants as M
 use Rattle.fields.specs.declared.CountedRead.TheVariants as K
 use Rattle.determined.specs.Determined.{EquationOnce, ReadSaysOnce, ReadLeavesOnce, DecodeSaysOnce, DecodeLeavesOnce, WriteSaysOnce, WriteLeavesOnce, ReceiveOnce, SendOnce, HandsBackOnce, FieldOnce, NumberReadOnce, CoefficientOnce, HeaderOnce, MbaOnce, VectorOnce, MacroblockReadOnce, MacroblockLeftOnce, PlaceOnce, LeftOnce, BlockOnce, CodewordOnce, BitsWroteOnce, BlockWroteOnce, MacroblockOnce, RowsOnce, TextOnce, EventOnce}
 use Rattle.standing.specs.Receive as R
@@ -155,19 +155,19 @@ module _ (s : List ℕ) (n : ℕ) where
   header_of_lem (K.Got (tr, ptype) p) = refl
   header_of_lem (K.Refused why) = refl
 
-  mba_of : ReadIn counted Mba → MbaRead
-  mba_of (got (step k) left p) = M.Step k p
-  mba_of (got stuffed left p) = M.Stuffing p
-  mba_of (got ended left p) = M.Ended p
-  mba_of (refused why) = M.Refused why
-  mba_of endless = M.Refused none
+  mba_of : ReadIn counted Mba → CountedRead code.Mba
+  mba_of (got (step k) left p) = K.Got (M.Step k) p
+  mba_of (got stuffed left p) = K.Got M.Stuffing p
+  mba_of (got ended left p) = K.Got M.Ended p
+  mba_of (refused why) = K.Refused why
+  mba_of endless = K.Refused none
 
-  mba_of_lem : (x : MbaRead) → mba_of (as_mba s n x) ≡ x
+  mba_of_lem : (x : CountedRead code.Mba) → mba_of (as_mba s n x) ≡ x
   unfolding mba_of
-  mba_of_lem (M.Step k p) = refl
-  mba_of_lem (M.Stuffing p) = refl
-  mba_of_lem (M.Ended p) = refl
-  mba_of_lem (M.Refused why) = refl
+  mba_of_lem (K.Got (M.Step k) p) = refl
+  mba_of_lem (K.Got M.Stuffing p) = refl
+  mba_of_lem (K.Got M.Ended p) = refl
+  mba_of_lem (K.Refused why) = refl
 
   -- the code keeps a component as 16 more than it is
   kept : ℤ → ℕ

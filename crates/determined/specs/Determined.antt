@@ -31,7 +31,7 @@ use Rattle.h261_layers.specs.Answer.{as_mba, as_header, as_vector, as_macroblock
 use Rattle.fields.specs.Answer.{leaving, as_number}
 use Rattle.fields.specs.declared.CountedRead.{CountedRead}
 use Rattle.fields.specs.declared.PictureRead.{PictureRead}
-use Rattle.h261_layers.specs.declared.MbaRead.{MbaRead}
+use Rattle.h261_layers.specs.declared.Mba as code
 use Rattle.h261_layers.specs.declared.Behind.{Behind}
 use Rattle.fields.specs.declared.CountedRead.TheVariants.{Got}
 use Rattle.samples.specs.Content.{Values}
@@ -110,7 +110,7 @@ abbrev pub HeaderOnce : Type 0
 HeaderOnce = (s : List ℕ) (n : ℕ) (b : ReadIn counted Header) → Once (λ (x : CountedRead (ℕ × ℕ)). as_header s n x ≡ b)
 
 abbrev pub MbaOnce : Type 0
-MbaOnce = (s : List ℕ) (n : ℕ) (b : ReadIn counted Mba) → Once (λ (x : MbaRead). as_mba s n x ≡ b)
+MbaOnce = (s : List ℕ) (n : ℕ) (b : ReadIn counted Mba) → Once (λ (x : CountedRead code.Mba). as_mba s n x ≡ b)
 
 abbrev pub VectorOnce : Type 0
 VectorOnce = (s : List ℕ) (n : ℕ) (b : ReadIn counted Vector) → Once (λ (x : CountedRead (ℕ × ℕ)). as_vector s n x ≡ b)

@@ -9,7 +9,7 @@ use size::Size;
 
 pub mod order;
 
-#[derive(Clone, Copy)]
+#[derive(Clone, Copy, PartialEq, Eq, Debug)]
 pub enum Format {
     Qcif,
     Cif,

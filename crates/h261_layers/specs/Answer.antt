@@ -15,13 +15,13 @@ use Rattle.layout.specs.Value.{Vector, Macroblock}
 use Rattle.h261_description.specs.Vector.{Before}
 use Rattle.h261_description.specs.Value.{before_next}
 use Rattle.layout.specs.Flat.{index, fields_of, put_blocks}
-use Rattle.fields.specs.Answer.{place_of, bits_end_at, as_meant, as_meant_pair}
+use Rattle.fields.specs.Answer.{place_of, as_meant, as_meant_pair}
 use Rattle.fields.specs.Header.{and_then, ruled, after_spare}
 use Rattle.fields.specs.declared.CountedRead.{CountedRead}
 use Rattle.fields.specs.declared.CountedRead.TheVariants.{Got, Refused}
 use Rattle.h261_layers.specs.Grammar.{Mba, step, stuffed, ended, ptype_of, Header}
-use Rattle.h261_layers.specs.declared.MbaRead.{MbaRead}
-use Rattle.h261_layers.specs.declared.MbaRead.TheVariants.{Step, Stuffing, Ended, Refused as NoMba}
+use Rattle.h261_layers.specs.declared.Mba as code
+use Rattle.h261_layers.specs.declared.Mba.TheVariants.{Step, Stuffing, Ended}
 use Rattle.h261_layers.specs.declared.Behind.{Behind}
 
 -- where a block ended, after so many reads: at EOB, or by the refusal; of a coefficient it is never asked
@@ -60,11 +60,15 @@ before_of b = record { address = b.address; vector = vector_of b.horizontal b.ve
 abbrev pub KeptBehind : Behind → Type 0
 KeptBehind b = KeptVector b.horizontal b.vertical
 
-abbrev pub as_mba : List ℕ → ℕ → MbaRead → ReadIn counted Mba
-as_mba s n (Step k p) = got (step k) (bits_left s n p.bit) p
-as_mba s n (Stuffing p) = got stuffed (bits_left s n p.bit) p
-as_mba s n (Ended p) = got ended (bits_left s n p.bit) p
-as_mba s n (NoMba r) = refused r
+-- what stands at an MBA place
+abbrev pub mba_meant : code.Mba → Mba
+mba_meant (Step k) = step k
+mba_meant Stuffing = stuffed
+mba_meant Ended = ended
+
+abbrev pub as_mba : List ℕ → ℕ → CountedRead code.Mba → ReadIn counted Mba
+as_mba s n (Got m p) = got (mba_meant m) (bits_left s n p.bit) p
+as_mba s n (Refused r) = refused r
 
 -- the two buffers with a macroblock of group g laid out in them, and what it leaves behind
 pub record Sent : Type 0 where
@@ -82,10 +86,6 @@ put_sent g macroblocks levels m = record {
 abbrev pub as_macroblock : List ℕ → ℕ → CountedRead Behind → List ℕ → List ℕ → ReadIn counted Sent
 as_macroblock s n (Got b p) macroblocks levels = got (record { macroblocks = macroblocks; levels = levels; before = before_of b }) (bits_left s n p.bit) p
 as_macroblock s n (Refused r) macroblocks levels = refused r
-
-abbrev pub stopped_of : CountedRead Behind → Stopped
-stopped_of (Got b p) = bits_end_at p
-stopped_of (Refused r) = r
 
 -- ---- the picture
 abbrev pub as_header : List ℕ → ℕ → CountedRead (ℕ × ℕ) → ReadIn counted Header

@@ -19,7 +19,7 @@ ghost use Rattle.fields.specs.Rules.{optional, quantiser as quantiser_read};
 
 use crate::block::blocks;
 use crate::vector::vector;
-use crate::{Behind, MbaRead};
+use crate::{Behind, Mba};
 use bits::{Place, Stopped};
 use fields::{CountedRead, once, quantiser};
 use h261_description::restarts;
@@ -36,20 +36,20 @@ fn mba_word(
     at: Place,
     last: bool,
     address: usize,
-) -> MbaRead
+) -> CountedRead<Mba>
     requires { (Reading tables.now bytes.now count at) × (address ≤ 33) }
     ensures { as_mba bytes.now count result ≡ judged_read (word table1) (mba_of last address) (bits_left bytes.now count at.bit) at }
 {
     let read = once(at, h261_words::mba(tables, bytes, count, at.bit));
     let CountedRead::Got(meaning, next) = read else {
-        return MbaRead::Refused(read.stopped());
+        return CountedRead::Refused(read.stopped());
     };
     if meaning == 34 {
-        return MbaRead::Stuffing(next);
+        return CountedRead::Got(Mba::Stuffing, next);
     }
     if meaning == 35 {
         if last {
-            return MbaRead::Refused(Stopped {
+            return CountedRead::Refused(Stopped {
                 refusal: Refusal {
                     reason: Reason::AfterLast,
                     place: at.bit,
@@ -57,11 +57,11 @@ fn mba_word(
                 reads: next.reads,
             });
         }
-        return MbaRead::Ended(next);
+        return CountedRead::Got(Mba::Ended, next);
     }
     let step = meaning as usize;
     if 33 < address + step {
-        return MbaRead::Refused(Stopped {
+        return CountedRead::Refused(Stopped {
             refusal: Refusal {
                 reason: Reason::AddressPast,
                 place: at.bit,
@@ -69,16 +69,22 @@ fn mba_word(
             reads: next.reads,
         });
     }
-    MbaRead::Step(step, next)
+    CountedRead::Got(Mba::Step(step), next)
 }
 
 // In the last group, no bits left at an MBA place end the picture.
-fn last_mba(tables: &WordTables, bytes: &[u8], count: usize, at: Place, address: usize) -> MbaRead
+fn last_mba(
+    tables: &WordTables,
+    bytes: &[u8],
+    count: usize,
+    at: Place,
+    address: usize,
+) -> CountedRead<Mba>
     requires { (Reading tables.now bytes.now count at) × (address ≤ 33) }
     ensures { as_mba bytes.now count result ≡ mba_read true address (bits_left bytes.now count at.bit) at }
 {
     if count <= at.bit {
-        return MbaRead::Ended(at);
+        return CountedRead::Got(Mba::Ended, at);
     }
     mba_word(tables, bytes, count, at, true, address)
 }
@@ -90,7 +96,7 @@ pub fn mba(
     at: Place,
     last: bool,
     address: usize,
-) -> MbaRead
+) -> CountedRead<Mba>
     requires { (Reading tables.now bytes.now count at) × (address ≤ 33) }
     ensures { as_mba bytes.now count result ≡ mba_read last address (bits_left bytes.now count at.bit) at }
 {

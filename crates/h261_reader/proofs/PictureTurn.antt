@@ -37,11 +37,11 @@ use Rattle.layout.specs.Flat.{Flat, put_macroblocks, put_groups, flat}
 use Rattle.layout.specs.Proper.{If}
 use Rattle.h261_description.specs.Proper.{ProperVector}
 use Rattle.layout.specs.Numbers.{is_quantiser}
-use Rattle.h261_layers.specs.Answer.{KeptBehind, before_of, as_mba, as_macroblock, Sent, put_sent, stopped_of}
-use Rattle.fields.specs.Answer.{map_read}
+use Rattle.h261_layers.specs.Answer.{KeptBehind, before_of, as_mba, as_macroblock, Sent, put_sent}
+use Rattle.fields.specs.Answer.{map_read, stopped_of}
 use Rattle.h261_layers.specs.declared.Behind.{Behind}
-use Rattle.h261_layers.specs.declared.MbaRead.{MbaRead}
-use Rattle.h261_layers.specs.declared.MbaRead.TheVariants.{Step, Stuffing, Ended, Refused as NoMba}
+use Rattle.h261_layers.specs.declared.Mba as code
+use Rattle.h261_layers.specs.declared.Mba.TheVariants.{Step, Stuffing, Ended}
 use Rattle.fields.specs.declared.CountedRead.{CountedRead}
 use Rattle.fields.specs.declared.CountedRead.TheVariants.{Got, Refused}
 use Rattle.h261_layers.proofs.Layers.{Met, mba_reads, macroblock_reads, group_head_reads}
@@ -130,21 +130,21 @@ group_first s n f last number g head ms ls p l = record {
 }
 
 module _ {s : List ℕ} {n : ℕ} {f : Format} {last : Bool} {number g : ℕ} {head ms₀ ls₀ : List ℕ} {from : Place} {ms ls : List ℕ} {b : Behind} {p : Place} (h : InGroup s n f last number g head ms₀ ls₀ from ms ls b p) where
-  is_found : (r x : MbaRead) → as_mba s n r ≡ mba last b.address (bits_left s n p.bit) p → r ≡ x → as_mba s n x ≡ mba last b.address (bits_left s n p.bit) p
+  is_found : (r x : CountedRead code.Mba) → as_mba s n r ≡ mba last b.address (bits_left s n p.bit) p → r ≡ x → as_mba s n x ≡ mba last b.address (bits_left s n p.bit) p
   is_found r x w e = sym (ap (as_mba s n) e) ∙ w
 
-  pub stuffing_led : (r : MbaRead) (q : Place) → as_mba s n r ≡ mba last b.address (bits_left s n p.bit) p → r ≡ Stuffing q → (p.bit < q.bit) × Placed s n q
-  stuffing_led r q w e = let o = mba-led b.address s n p h.placed stuffed q last (sym (is_found r (Stuffing q) w e)) (λ z. let y : ◌≡◌ {A = ℕ} 0 1 = cc in omega arith) in (o.ahead, o.placed)
+  pub stuffing_led : (r : CountedRead code.Mba) (q : Place) → as_mba s n r ≡ mba last b.address (bits_left s n p.bit) p → r ≡ Got Stuffing q → (p.bit < q.bit) × Placed s n q
+  stuffing_led r q w e = let o = mba-led b.address s n p h.placed stuffed q last (sym (is_found r (Got Stuffing q) w e)) (λ z. let y : ◌≡◌ {A = ℕ} 0 1 = cc in omega arith) in (o.ahead, o.placed)
 
-  pub group_stuffed : (r : MbaRead) (q : Place) → as_mba s n r ≡ mba last b.address (bits_left s n p.bit) p → r ≡ Stuffing q → InGroup s n f last number g head ms₀ ls₀ from ms ls b q
+  pub group_stuffed : (r : CountedRead code.Mba) (q : Place) → as_mba s n r ≡ mba last b.address (bits_left s n p.bit) p → r ≡ Got Stuffing q → InGroup s n f last number g head ms₀ ls₀ from ms ls b q
   group_stuffed r q w e =
       let o = stuffing_led r q w e in
-      record { placed = o.1; address = h.address; kept = h.kept; ms_long = h.ms_long; ls_long = h.ls_long; so_far = macroblocks_stuffed h.so_far q (is_found r (Stuffing q) w e) o.0 o.1.within.inside }
+      record { placed = o.1; address = h.address; kept = h.kept; ms_long = h.ms_long; ls_long = h.ls_long; so_far = macroblocks_stuffed h.so_far q (is_found r (Got Stuffing q) w e) o.0 o.1.within.inside }
 
-  pub step-led : (r : MbaRead) (k : ℕ) (q : Place) → as_mba s n r ≡ mba last b.address (bits_left s n p.bit) p → r ≡ Step k q → Led last b.address s n p (step k) q
-  step-led r k q w e = mba-led b.address s n p h.placed (step k) q last (sym (is_found r (Step k q) w e)) (λ z. let y : ◌≡◌ {A = ℕ} 0 1 = cc in omega arith)
+  pub step-led : (r : CountedRead code.Mba) (k : ℕ) (q : Place) → as_mba s n r ≡ mba last b.address (bits_left s n p.bit) p → r ≡ Got (Step k) q → Led last b.address s n p (step k) q
+  step-led r k q w e = mba-led b.address s n p h.placed (step k) q last (sym (is_found r (Got (Step k) q) w e)) (λ z. let y : ◌≡◌ {A = ℕ} 0 1 = cc in omega arith)
 
-  module _ (r : MbaRead) (k : ℕ) (q : Place) (w : as_mba s n r ≡ mba last b.address (bits_left s n p.bit) p) (e : r ≡ Step k q) (t : CountedRead Behind) (ms' ls' : List ℕ)
+  module _ (r : CountedRead code.Mba) (k : ℕ) (q : Place) (w : as_mba s n r ≡ mba last b.address (bits_left s n p.bit) p) (e : r ≡ Got (Step k) q) (t : CountedRead Behind) (ms' ls' : List ℕ)
       (v : as_macroblock s n t ms' ls' ≡ map_read (put_sent g ms ls) (macroblock f number (before_of b) k (bits_left s n q.bit) q)) where
     sent_is : (c : Behind) (z : Place) → t ≡ Got c z → got (record { macroblocks = ms'; levels = ls'; before = before_of c }) (bits_left s n z.bit) z ≡ map_read {P = counted} (put_sent g ms ls) (macroblock f number (before_of b) k (bits_left s n q.bit) q)
     sent_is c z d = sym (ap (λ (y : CountedRead Behind). as_macroblock s n y ms' ls') d) ∙ v
@@ -176,23 +176,23 @@ module _ {s : List ℕ} {n : ℕ} {f : Format} {last : Bool} {number g : ℕ} {h
             kept = record { horizontally = kv.0; vertically = kv.1 };
             ms_long = lm ∙ h.ms_long;
             ls_long = ll ∙ h.ls_long;
-            so_far = macroblocks_more h.so_far (is_found r (Step k q) w e) (record { macroblocks = ms'; levels = ls'; before = before_of c }) z (sent_is c z d) macroblock-led.0 macroblock-led.1.within.inside;
+            so_far = macroblocks_more h.so_far (is_found r (Got (Step k) q) w e) (record { macroblocks = ms'; levels = ls'; before = before_of c }) z (sent_is c z d) macroblock-led.0 macroblock-led.1.within.inside;
           }
 
     pub group_no_macroblock : {why : Stopped} → t ≡ Refused why → refused (stopped_of t) ≡ map_read {P = counted} (put_macroblocks 33 g (flat head ms₀ ls₀)) (macroblocks_at f last number (bits_left s n from.bit) from)
-    group_no_macroblock y = macroblocks_inside h.so_far (is_found r (Step k q) w e) (stopped_of t) (no t y ∙ v)
+    group_no_macroblock y = macroblocks_inside h.so_far (is_found r (Got (Step k) q) w e) (stopped_of t) (no t y ∙ v)
       where
         no : {why : Stopped} (t : CountedRead Behind) → t ≡ Refused why → refused (stopped_of t) ≡ as_macroblock s n t ms' ls'
         no (Got c z) y = cc
         no (Refused r) y = refl
 
-  pub group_no_mba : (r : MbaRead) (y : Stopped) → as_mba s n r ≡ mba last b.address (bits_left s n p.bit) p → r ≡ NoMba y → refused y ≡ map_read {P = counted} (put_macroblocks 33 g (flat head ms₀ ls₀)) (macroblocks_at f last number (bits_left s n from.bit) from)
-  group_no_mba r y w e = macroblocks_refused h.so_far y (is_found r (NoMba y) w e)
+  pub group_no_mba : (r : CountedRead code.Mba) {why : Stopped} → as_mba s n r ≡ mba last b.address (bits_left s n p.bit) p → r ≡ Refused why → refused (stopped_of r) ≡ map_read {P = counted} (put_macroblocks 33 g (flat head ms₀ ls₀)) (macroblocks_at f last number (bits_left s n from.bit) from)
+  group_no_mba r {why} w e = ap (λ (z : CountedRead code.Mba). refused (stopped_of z)) e ∙ macroblocks_refused h.so_far why (is_found r (Refused why) w e)
 
-  pub group_ended : (r : MbaRead) (q : Place) → as_mba s n r ≡ mba last b.address (bits_left s n p.bit) p → r ≡ Ended q
+  pub group_ended : (r : CountedRead code.Mba) (q : Place) → as_mba s n r ≡ mba last b.address (bits_left s n p.bit) p → r ≡ Got Ended q
       → (got (flat head ms ls) (bits_left s n q.bit) q ≡ map_read {P = counted} (put_macroblocks 33 g (flat head ms₀ ls₀)) (macroblocks_at f last number (bits_left s n from.bit) from)) × Placed s n q
   group_ended r q w e =
-      (macroblocks_ended h.so_far q (is_found r (Ended q) w e), mba_placed b.address s n p h.placed ended q last (sym (is_found r (Ended q) w e)))
+      (macroblocks_ended h.so_far q (is_found r (Got Ended q) w e), mba_placed b.address s n p h.placed ended q last (sym (is_found r (Got Ended q) w e)))
 
 -- ---- between groups
 -- all groups, laid out over what the buffers hold
@@ -252,8 +252,12 @@ module _ {start : ReadIn counted Flat} {s : List ℕ} {n : ℕ} {f : Format} {he
 pub less_count : (g all c : ℕ) → g < all → all ≡ c → g < c
 less_count g all c l e = omega arith
 
-pub last_found : (s : List ℕ) (n : ℕ) (r : MbaRead) (g all c address : ℕ) (bs : List Bit) (p : Place) → as_mba s n r ≡ mba (eqb (g + 1) all) address bs p → all ≡ c → as_mba s n r ≡ mba (eqb (g + 1) c) address bs p
+pub last_found : (s : List ℕ) (n : ℕ) (r : CountedRead code.Mba) (g all c address : ℕ) (bs : List Bit) (p : Place) → as_mba s n r ≡ mba (eqb (g + 1) all) address bs p → all ≡ c → as_mba s n r ≡ mba (eqb (g + 1) c) address bs p
 last_found s n r g all c address bs p w e = w ∙ ap (λ (k : ℕ). mba (eqb (g + 1) k) address bs p) e
+
+-- what stands at an MBA place, by its case
+pub meant_is : {r : CountedRead code.Mba} {m x : code.Mba} {q : Place} → r ≡ Got m q → m ≡ x → r ≡ Got x q
+meant_is {q = q} a b = a ∙ ap (λ (y : code.Mba). Got y q) b
 
 -- ---- the ways out: a refusal is kept, or none is
 pub kept_refusal : {r : Option Stopped} {x y : Stopped} → r ≡ Some x → r ≡ Some y → ◌≡◌ {A = ReadIn counted Flat} (refused x) (refused y)

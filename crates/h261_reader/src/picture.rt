@@ -14,7 +14,7 @@ use fields::CountedRead;
 use h261_groups::Format;
 use h261_layers::head::group_head;
 use h261_layers::macroblock::{macroblock, mba};
-use h261_layers::{Behind, MbaRead};
+use h261_layers::{Behind, Mba};
 use h261_words::WordTables;
 
 // The groups of a picture from the first one's GN on. The first refusal ends the whole picture, from inside any group.
@@ -57,8 +57,12 @@ pub fn groups(
                 group + 1 == all,
                 behind.address,
             );
-            match found {
-                MbaRead::Step(step, next) => {
+            let CountedRead::Got(meant, next) = found else {
+                stopped = Some(found.stopped());
+                break 'picture;
+            };
+            match meant {
+                Mba::Step(step) => {
                     let read = macroblock(
                         tables,
                         bytes,
@@ -79,16 +83,12 @@ pub fn groups(
                     behind = then;
                     place = end;
                 }
-                MbaRead::Stuffing(next) => {
+                Mba::Stuffing => {
                     place = next;
                 }
-                MbaRead::Ended(next) => {
+                Mba::Ended => {
                     place = next;
                     break 'group;
-                }
-                MbaRead::Refused(first) => {
-                    stopped = Some(first);
-                    break 'picture;
                 }
             }
         }

@@ -19,7 +19,7 @@ mod block;
 mod macroblock;
 
 // What a macroblock that is sent is predicted from: nothing, the reference, or the reference filtered.
-#[derive(Clone, Copy)]
+#[derive(Clone, Copy, PartialEq, Eq, Debug)]
 pub enum Prediction {
     Intra,
     Inter,

@@ -18,7 +18,7 @@ use h261_groups::Format;
 use refusals::Refusal;
 
 // What has gone by of a stream.
-#[derive(Clone, Copy)]
+#[derive(Clone, Copy, PartialEq, Eq, Debug)]
 pub struct Stream {
     // How many bits.
     pub place: usize,
@@ -250,7 +250,7 @@ fn smaller(a: usize, b: usize) -> usize
 }
 
 // What has gone by, and the place in the lent bytes of the next bit.
-#[derive(Clone, Copy)]
+#[derive(Clone, Copy, PartialEq, Eq, Debug)]
 pub struct Passed {
     pub stream: Stream,
     pub at: usize,

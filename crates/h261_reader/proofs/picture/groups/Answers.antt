@@ -14,10 +14,10 @@ use Rattle.bits.specs.Places.{counted}
 use Rattle.bits.specs.Answer.{Placed}
 use Rattle.fields.proofs.Told.{no_number, is_number}
 use Rattle.h261_layers.proofs.MacroblockWhole.{quantiser_small, small_byte}
-use Rattle.h261_reader.proofs.PictureTurn.{less_count, last_found, head_led, step-led, stuffing_led, macroblock-led, group_first, group_stuffed, group_more, group_no_macroblock, group_no_mba, group_ended, picture_first, picture_done, picture_no_head, picture_inside, picture_more, kept_refusal, none_kept}
+use Rattle.h261_reader.proofs.PictureTurn.{less_count, last_found, head_led, step-led, stuffing_led, macroblock-led, group_first, group_stuffed, group_more, group_no_macroblock, group_no_mba, group_ended, picture_first, picture_done, picture_no_head, picture_inside, picture_more, meant_is, kept_refusal, none_kept}
 use Rattle.h261_groups.proofs.Room.{groups_most, number_most, number_within}
 use Rattle.h261_reader.proofs.picture.groups.Goals as goal
-use Rattle.h261_reader.proofs.picture.groups.Goals.{else-picture-test, then-picture-test+in_default, then-picture-test+in-Got+in-Step+in_default-read, then-picture-test+in-Got+in-Refused}
+use Rattle.h261_reader.proofs.picture.groups.Goals.{else-picture-test, then-picture-test+in_default, then-picture-test+in-Got+in-Got-found+in-Step+in_default-read, then-picture-test+in-Got+in_default-found}
 use Rattle.h261_reader.proofs.picture.groups.Goals.{After-mba-found, In-Got, In-picture}
 
 to_come : (c : In-picture) → c.picture.group < group_count c.args.format
@@ -72,7 +72,7 @@ pub macroblock-read-requires : goal.macroblock-read-requires
 macroblock-read-requires c =
     let at_in_picture = (goal.at.macroblock-read-requires c).In-picture in
     let number = c.group_number-number.ensures in
-    let found = step-led c.group.invariant.1 c.mba-found.result _ _ (found_is (goal.at.macroblock-read-requires c).After-mba-found) c.in-Step.is in
+    let found = step-led c.group.invariant.1 c.mba-found.result _ _ (found_is (goal.at.macroblock-read-requires c).After-mba-found) (meant_is c.in-Got-found.is c.in-Step.is) in
     let within = number_within c.args.format c.picture.group (to_come at_in_picture) in (
       record { tabled = c.requires.0.tabled; placed = found.placed },
       record {
@@ -91,30 +91,30 @@ macroblock-read-requires c =
 
 pub group-smaller-in-Step : goal.group-smaller-in-Step
 group-smaller-in-Step c =
-    let ahead = macroblock-led c.group.invariant.1 c.mba-found.result _ _ (found_is (goal.at.group-smaller-in-Step c).After-mba-found) c.in-Step.is c.macroblock-read.result _ _
+    let ahead = macroblock-led c.group.invariant.1 c.mba-found.result _ _ (found_is (goal.at.group-smaller-in-Step c).After-mba-found) (meant_is c.in-Got-found.is c.in-Step.is) c.macroblock-read.result _ _
     c.macroblock-read.ensures _ _ c.in-Got-read.is in
     omega (arith, ahead.0, ahead.1.within.inside)
 
 pub group-preserved-in-Step : goal.group-preserved-in-Step
 group-preserved-in-Step c = (
   c.group.invariant.0,
-  group_more c.group.invariant.1 c.mba-found.result _ _ (found_is (goal.at.group-preserved-in-Step c).After-mba-found) c.in-Step.is c.macroblock-read.result _ _
+  group_more c.group.invariant.1 c.mba-found.result _ _ (found_is (goal.at.group-preserved-in-Step c).After-mba-found) (meant_is c.in-Got-found.is c.in-Step.is) c.macroblock-read.result _ _
       c.macroblock-read.ensures _ _ c.in-Got-read.is
       c.macroblock-read.auto.macroblocks c.macroblock-read.auto.levels,
 )
 
 pub group-smaller : goal.group-smaller
 group-smaller c =
-    let ahead = stuffing_led c.group.invariant.1 c.mba-found.result _ (found_is (goal.at.group-smaller c).After-mba-found) c.in-Stuffing.is in
+    let ahead = stuffing_led c.group.invariant.1 c.mba-found.result _ (found_is (goal.at.group-smaller c).After-mba-found) (meant_is c.in-Got-found.is c.in-Stuffing.is) in
     omega (arith, ahead.0, ahead.1.within.inside)
 
 pub group-preserved : goal.group-preserved
 group-preserved c =
-    (c.group.invariant.0, group_stuffed c.group.invariant.1 c.mba-found.result _ (found_is (goal.at.group-preserved c).After-mba-found) c.in-Stuffing.is)
+    (c.group.invariant.0, group_stuffed c.group.invariant.1 c.mba-found.result _ (found_is (goal.at.group-preserved c).After-mba-found) (meant_is c.in-Got-found.is c.in-Stuffing.is))
 
 pub picture-preserved : goal.picture-preserved
 picture-preserved c =
-    let end = group_ended c.group.invariant.1 c.mba-found.result _ (found_is (goal.at.picture-preserved c).After-mba-found) c.in-Ended.is in (
+    let end = group_ended c.group.invariant.1 c.mba-found.result _ (found_is (goal.at.picture-preserved c).After-mba-found) (meant_is c.in-Got-found.is c.in-Ended.is) in (
       c.group.invariant.0,
       picture_more c.picture.invariant.1 (to_come (goal.at.picture-preserved c).In-picture) _ _ _ c.group_number-number.ensures
           (is_number _ _ _ _ _ c.group_head-opened.ensures c.in-Got.is) _ _ _ c.group.invariant.1.ms_long c.group.invariant.1.ls_long end.1 end.0,
@@ -130,17 +130,17 @@ returns-in-Some c =
           kept_refusal c.in-Some.is (w.stopped-is ∙ ap Some w.stopped.ensures)
           ∙ picture_no_head picture.invariant.1 (less_count picture.group _ _ w.picture-test.true counted) _ _ w.group_number-number.ensures
           (no_number _ _ w.group_head-opened.result w.in_default.is w.group_head-opened.ensures)
-      | then-picture-test+in-Got+in-Step+in_default-read w ↦
+      | then-picture-test+in-Got+in-Got-found+in-Step+in_default-read w ↦
           kept_refusal c.in-Some.is (w.stopped-is ∙ ap Some w.stopped-in_default-read.ensures)
           ∙ picture_inside picture.invariant.1 (less_count picture.group _ _ w.picture-test.true counted) _ _ _ w.group_number-number.ensures
           (is_number _ _ _ _ _ w.group_head-opened.ensures w.in-Got.is) _
           (group_no_macroblock w.group.invariant.1 w.mba-found.result _ _ (last_found _ _ w.mba-found.result picture.group _ _ _ _ _ w.mba-found.ensures counted)
-          w.in-Step.is w.macroblock-read.result _ _ w.macroblock-read.ensures w.in_default-read.is)
-      | then-picture-test+in-Got+in-Refused w ↦
-          kept_refusal c.in-Some.is w.stopped-is
+          (meant_is w.in-Got-found.is w.in-Step.is) w.macroblock-read.result _ _ w.macroblock-read.ensures w.in_default-read.is)
+      | then-picture-test+in-Got+in_default-found w ↦
+          kept_refusal c.in-Some.is (w.stopped-is ∙ ap Some w.stopped-in_default-found.ensures)
           ∙ picture_inside picture.invariant.1 (less_count picture.group _ _ w.picture-test.true counted) _ _ _ w.group_number-number.ensures
           (is_number _ _ _ _ _ w.group_head-opened.ensures w.in-Got.is) _
-          (group_no_mba w.group.invariant.1 w.mba-found.result _ (last_found _ _ w.mba-found.result picture.group _ _ _ _ _ w.mba-found.ensures counted) w.in-Refused.is)
+          (group_no_mba w.group.invariant.1 w.mba-found.result (last_found _ _ w.mba-found.result picture.group _ _ _ _ _ w.mba-found.ensures counted) w.in_default-found.is)
     ]
 
 pub returns-in-None : goal.returns-in-None
@@ -149,6 +149,6 @@ returns-in-None c =
       | else-picture-test w ↦
           rw (w.head-is, w.macroblocks-is, w.levels-is, w.place-is) (picture_done c.picture.invariant.1 (omega (arith, w.picture-test.false, c.group_count-all.ensures)))
       | then-picture-test+in_default w ↦ absurd (none_kept c.in-None.is w.stopped-is)
-      | then-picture-test+in-Got+in-Step+in_default-read w ↦ absurd (none_kept c.in-None.is w.stopped-is)
-      | then-picture-test+in-Got+in-Refused w ↦ absurd (none_kept c.in-None.is w.stopped-is)
+      | then-picture-test+in-Got+in-Got-found+in-Step+in_default-read w ↦ absurd (none_kept c.in-None.is w.stopped-is)
+      | then-picture-test+in-Got+in_default-found w ↦ absurd (none_kept c.in-None.is w.stopped-is)
     ]
