@@ -1,6 +1,5 @@
 pub mod Outcomes
 pub mod Codewords
-pub mod TypeSays
 pub mod Back
 pub mod Coefficients
 pub mod WordReads

@@ -5,35 +5,23 @@ ghost use Rattle.h261_words.specs.Words.{is_intra, is_mc, has_mquant, has_cbp};
 pub fn is_intra(kind: u16) -> bool
     ensures { result ≡ is_intra kind }
 {
-    match kind {
-        1 | 2 => true,
-        _ => false,
-    }
+    matches!(kind, 1 | 2)
 }
 
 pub fn is_mc(kind: u16) -> bool
     ensures { result ≡ is_mc kind }
 {
-    match kind {
-        5 | 6 | 7 | 8 | 9 | 10 => true,
-        _ => false,
-    }
+    matches!(kind, 5 | 6 | 7 | 8 | 9 | 10)
 }
 
 pub fn has_mquant(kind: u16) -> bool
     ensures { result ≡ has_mquant kind }
 {
-    match kind {
-        2 | 4 | 7 | 10 => true,
-        _ => false,
-    }
+    matches!(kind, 2 | 4 | 7 | 10)
 }
 
 pub fn has_cbp(kind: u16) -> bool
     ensures { result ≡ has_cbp kind }
 {
-    match kind {
-        3 | 4 | 6 | 7 | 9 | 10 => true,
-        _ => false,
-    }
+    matches!(kind, 3 | 4 | 6 | 7 | 9 | 10)
 }
