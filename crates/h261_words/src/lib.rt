@@ -159,7 +159,8 @@ pub fn coefficient(
     }
 }
 
-// The codeword of MBA: a step of 1 to 33, 34 for stuffing, 35 for a start code.
+// The codeword of MBA: a step of 1 to 33, 34 for stuffing, 35 for a start code. It and the next three are one call each of what they share: a function over
+// `Codewords` would be no plainer.
 pub fn mba_codeword(tables: &WordTables, step: usize) -> Codeword
     requires { MeaningAsked tables.now 35 step }
     ensures { Writes (word_of table1 step) result }

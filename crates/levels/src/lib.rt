@@ -7,7 +7,7 @@ ghost use Rattle.layout.specs.Pattern.{presence_of};
 ghost use Rattle.layout.specs.Numbers.{all, is_zero, is_level, is_quantiser, codes_first};
 ghost use Rattle.levels.specs.Zeros.{zeros_from};
 
-// Whether every byte is 0: then the largest is. No byte ends the loop, so that it goes over many at once.
+// Whether every byte is 0: then the largest is. No byte ends the loop, as one would end `all`, so that it goes over many at once.
 pub fn all_zero(bytes: &[u8]) -> bool
     ensures { result ≡ all is_zero bytes.now }
 {

@@ -60,7 +60,7 @@ pub fn not_written(reason: Reason) -> Result<usize, Refusal>
     Err(Refusal { reason, place: 0 })
 }
 
-// A refusal's number in the table, for programs that print it.
+// A refusal's number in the table, for programs that print it. It and `table_of` are no `From`: each alone drops a part of the reason.
 #[tactic(auto, unfolding(crate::specs::Number::number))]
 pub fn number_of(reason: Reason) -> u32
     ensures { result ≡ number reason }
