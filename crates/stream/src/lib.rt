@@ -2,7 +2,7 @@
 // the next eight, they are taken at once.
 #![tactic(auto)]
 
-ghost use Rattle.std.specs.Prelude.{◌≡◌, true, ◌+◌, ◌*◌, ◌<◌, ◌≤◌, min, max, length};
+ghost use Rattle.std.specs.Prelude.{◌≡◌, true, ◌+◌, ◌*◌, ◌<◌, ◌≤◌, length};
 ghost use Rattle.layout.specs.Flat.{flat};
 ghost use Rattle.refusals.specs.Number.{number};
 ghost use Rattle.refusals.specs.Told.{numbers_of, told_verdict, verdict_on, found_or};
@@ -240,15 +240,6 @@ fn calm(stream: Stream, room: usize) -> bool
     stream.place < 9223372036854775808
 }
 
-fn smaller(a: usize, b: usize) -> usize
-    ensures { result ≡ min a b }
-{
-    if a < b {
-        return a;
-    }
-    b
-}
-
 // What has gone by, and the place in the lent bytes of the next bit.
 #[derive(Clone, Copy, PartialEq, Eq, Debug)]
 pub struct Passed {
@@ -261,7 +252,7 @@ fn pass_bytes(stream: Stream, bytes: &[u8], from: usize, picture: &mut [u8]) -> 
     requires { (length bytes.now < 2305843009213693952) × (from ≤ length bytes.now) }
     ensures { Reaches bytes.now stream (from * 8) picture.old result.stream result.at picture.new }
 {
-    let room = smaller(picture.len(), 1152921504606846976);
+    let room = picture.len().min(1152921504606846976);
     let mut next = stream;
     for i in from..bytes.len() {
         if !calm(next, room) {
@@ -337,15 +328,6 @@ pub fn pass(stream: Stream, bytes: &[u8], at: usize, picture: &mut [u8]) -> Pass
 
 // ---- a picture
 
-fn larger(a: usize, b: usize) -> usize
-    ensures { result ≡ max a b }
-{
-    if a < b {
-        return b;
-    }
-    a
-}
-
 fn among_zeros(why: Refusal, ones: usize) -> bool
     ensures { result ≡ among_zeros (number why.reason) why.place ones }
 {
@@ -398,8 +380,8 @@ fn read_whole(
     ensures verdict { told_verdict result ≡ verdict_on (filled_read format bytes.now count ones (flat head.old macroblocks.old levels.old)) }
     ensures buffers { flat head.new macroblocks.new levels.new ≡ found_or (flat head.old macroblocks.old levels.old) (filled_read format bytes.now count ones (flat head.old macroblocks.old levels.old)) }
 {
-    let most = larger(h261_groups::limit(format), ones);
-    let first = smaller(count, most);
+    let most = h261_groups::limit(format).max(ones);
+    let first = count.min(most);
     let kind = Kind::H261(format);
     let read = coding::read(kind, bytes, first, head, macroblocks, levels);
     let verdict = read.verdict;

@@ -18,18 +18,18 @@ returns-then-not-calm c = c.loop-i.invariant.1
 
 pub put_byte-requires : goal.put_byte-requires
 put_byte-requires c =
-    omega (arith, (c.calm.ensures (not-false _ c.if-not-calm.false-raw)).fits, c.smaller-room.ensures, c.loop-i.invariant.1.long)
+    omega (arith, (c.calm.ensures (not-false _ c.if-not-calm.false-raw)).fits, c.min-room.ensures, c.loop-i.invariant.1.long)
 
 pub longer_by_byte-next-requires : goal.longer_by_byte-next-requires
 longer_by_byte-next-requires c =
-    (c.calm.ensures (not-false _ c.if-not-calm.false-raw), omega (arith, c.smaller-room.ensures))
+    (c.calm.ensures (not-false _ c.if-not-calm.false-raw), omega (arith, c.min-room.ensures))
 
 pub loop-i-preserved : goal.loop-i-preserved
 loop-i-preserved c = (
   omega (arith, c.loop-i-test.true),
   reaches_more c.loop-i.invariant.1
-      (reaches_byte (c.calm.ensures (not-false _ c.if-not-calm.false-raw)) (omega (arith, c.smaller-room.ensures)) (c.type_inv.bytes c.loop-i.i).fits
-      c.args.bytes.now c.loop-i.i c.loop-i-test.true refl (omega (arith, c.smaller-room.ensures, c.loop-i.invariant.1.long)) c.longer_by_byte-next.ensures c.put_byte.ensures),
+      (reaches_byte (c.calm.ensures (not-false _ c.if-not-calm.false-raw)) (omega (arith, c.min-room.ensures)) (c.type_inv.bytes c.loop-i.i).fits
+      c.args.bytes.now c.loop-i.i c.loop-i-test.true refl (omega (arith, c.min-room.ensures, c.loop-i.invariant.1.long)) c.longer_by_byte-next.ensures c.put_byte.ensures),
 )
 
 pub overflow_mul-result-2 : goal.overflow_mul-result-2

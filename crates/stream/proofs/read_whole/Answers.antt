@@ -10,7 +10,7 @@ pub returns-in-Ok : goal.returns-in-Ok
 returns-in-Ok c =
     let a = c.args in
     let all = at_once a.format a.bytes.now a.ones (flat a.head.now a.macroblocks.now a.levels.now) a.count
-    (c.smaller-first.ensures ∙ ap (λ (m : ℕ). min a.count m) (c.larger-most.ensures ∙ ap (λ (l : ℕ). max l a.ones) c.limit.ensures))
+    (c.min-first.ensures ∙ ap (λ (m : ℕ). min a.count m) (c.max-most.ensures ∙ ap (λ (l : ℕ). max l a.ones) c.limit.ensures))
     (c.read-read.ensures.verdict, c.read-read.ensures.buffers) (ap told_verdict c.in-Ok.is) in
     record { verdict = all.0; buffers = all.1 }
 
@@ -18,6 +18,6 @@ pub returns-in-Err : goal.returns-in-Err
 returns-in-Err c =
     let a = c.args in
     let all = again a.format a.bytes.now a.ones (flat a.head.now a.macroblocks.now a.levels.now) a.count
-    (c.smaller-first.ensures ∙ ap (λ (m : ℕ). min a.count m) (c.larger-most.ensures ∙ ap (λ (l : ℕ). max l a.ones) c.limit.ensures))
+    (c.min-first.ensures ∙ ap (λ (m : ℕ). min a.count m) (c.max-most.ensures ∙ ap (λ (l : ℕ). max l a.ones) c.limit.ensures))
     (c.read-read.ensures.verdict, c.read-read.ensures.buffers) (ap told_verdict c.in-Err.is) (c.read_unfilled.ensures.verdict, c.read_unfilled.ensures.buffers) in
     record { verdict = all.0; buffers = all.1 }
