@@ -92,7 +92,7 @@ fn grey_frames<I, O: Write, E>(
     frames(streams, &grey[..samples], count)
 }
 
-// Counts stop near the greatest number of 64 bits.
+// Counts stop near the greatest number of 64 bits: not at it, as `saturating_add` would have it, since what is printed stays what it was.
 fn more(n: u64, count: u32) -> u64 {
     if n < 18446744069414584320 {
         return n + count as u64;

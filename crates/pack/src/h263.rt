@@ -7,7 +7,7 @@ use h263_stream::Stream;
 use size::Size;
 use std::io::Write;
 
-// What has gone by of the stream, and the recording so far.
+// What has gone by of the stream, and the recording so far. h261.rt goes by bits and by start codes alone: a trait for the two streams would have a method for each step that differs, and be no plainer.
 #[derive(Clone, Copy)]
 pub struct H263Pack {
     pub size: Size,

@@ -95,7 +95,7 @@ fn short<I, O: Write, E>(
     })
 }
 
-// ---- from the first block to the last
+// ---- from the first block to the last, as the lister goes: a crate for the two would take their state, the line of a block and each of their words, and be no plainer
 
 fn end<I, O: Write, E>(streams: &mut Streams<I, O, E>, state: State) -> Result<Ended, Failure> {
     let mut text = [0u8; 128];
