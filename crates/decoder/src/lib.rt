@@ -2,7 +2,6 @@
 #![tactic(auto)]
 
 ghost use Rattle.std.specs.Prelude.{◌≡◌, ◌^◌, ◌<◌, true};
-ghost use Rattle.laws.specs.Choice.{alike};
 ghost use Rattle.refusals.specs.Told.{found_or};
 ghost use Rattle.layout.specs.Flat.{flat};
 ghost use Rattle.coding.specs.Kind.{coding_of};
@@ -13,18 +12,6 @@ use coding::Kind;
 use refusals::{Reason, Refusal};
 use size::Size;
 
-fn agree(a: bool, b: bool) -> bool
-    ensures { result ≡ alike a b }
-{
-    if a {
-        return b;
-    }
-    if b {
-        return false;
-    }
-    true
-}
-
 // Whether the refresh mark that the picture came with, if it came with one, stands exactly on a refresh.
 fn is_true(kind: Kind, mark: Option<bool>, head: &[u8], macroblocks: &[u8], levels: &[u8]) -> bool
     requires { (coding_of kind).valid (flat head.now macroblocks.now levels.now) ≡ true }
@@ -34,7 +21,7 @@ fn is_true(kind: Kind, mark: Option<bool>, head: &[u8], macroblocks: &[u8], leve
         None => true,
         Some(marked) => {
             let refreshed = coding::is_refresh(kind, head, macroblocks, levels);
-            agree(refreshed, marked)
+            refreshed == marked
         }
     }
 }
