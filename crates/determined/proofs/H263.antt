@@ -41,6 +41,7 @@ module _ (s : List ℕ) (n : ℕ) where
   mcbpc_of (coded kind) = Some kind
 
   mcbpc_back : (m : Option ℕ) → mcbpc_of (slot_in m) ≡ m
+  unfolding mcbpc_of
   mcbpc_back None = refl
   mcbpc_back (Some kind) = refl
 
