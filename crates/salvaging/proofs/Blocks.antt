@@ -8,7 +8,7 @@ use lib.Seq.{drop-drop, take-append_seam, drop-append_seam}
 use denote.Ref.{Bor}
 use Rattle.std.specs.Prelude.{Option, Some, None}
 use Rattle.std.specs.Slice.Iter.{chunks_exact_rest, chunks_exact_size, chunks_exact_steps}
-use Rattle.core.specs.declared.iter.slices.ChunksExact.{ChunksExact}
+use Rattle.std.specs.declared.slice.ChunksExact.{ChunksExact}
 use Rattle.salvaging.specs.Going.{InList}
 use Rattle.salvaging.proofs.Going.{block_from}
 

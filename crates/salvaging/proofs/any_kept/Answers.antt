@@ -3,7 +3,7 @@ use mathlib.Core.Path.{refl, sym, ap, ◌∙◌}
 use Prim.Native.Nat.{ℕ}
 use native.Mathlib.Omega.{arith}
 use Rattle.std.specs.Slice.Iter.{chunks_exact_rest, chunks_exact_size}
-use Rattle.core.specs.declared.iter.slices.ChunksExact.{ChunksExact}
+use Rattle.std.specs.declared.slice.ChunksExact.{ChunksExact}
 use Rattle.salvaging.proofs.Going.{call_of, any_done, any_next, any_at, any_end}
 use Rattle.salvaging.proofs.Blocks.{cut_of, short_of, place_of, left_first, rest_less, block_more, block_is, at_next, left_next, left_none}
 use Rattle.salvaging.proofs.any_kept.Goals as goal

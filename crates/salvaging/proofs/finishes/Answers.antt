@@ -6,7 +6,7 @@ use native.Mathlib.Omega.{arith}
 use lib.ListN.{length, take, drop, length-drop}
 use Rattle.std.proofs.lemmas.List.{take_all}
 use Rattle.std.specs.Slice.Iter.{chunks_exact_rest, chunks_exact_size}
-use Rattle.core.specs.declared.iter.slices.ChunksExact.{ChunksExact}
+use Rattle.std.specs.declared.slice.ChunksExact.{ChunksExact}
 use Rattle.salvaging.proofs.Going.{call_of, looking_finished, looking_gone, looking_next, looking_at, looking_end}
 use Rattle.salvaging.proofs.Blocks.{cut_of, short_of, place_of, left_first, rest_less, block_more, block_is, at_next, left_next, left_none}
 use Rattle.salvaging.proofs.finishes.Goals as goal
