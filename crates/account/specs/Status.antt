@@ -15,3 +15,9 @@ status_of (Ok run) = done_status run.cut run.count
 status_of (Err F.Misnamed) = 2
 status_of (Err (F.Unread why)) = 2
 status_of (Err (F.Unwritten why)) = 3
+
+-- a run whose output could not be written
+abbrev pub IsUnwritten : Failure → Type 0
+IsUnwritten F.Misnamed = ⊥
+IsUnwritten (F.Unread why) = ⊥
+IsUnwritten (F.Unwritten why) = Unit {0}

@@ -28,7 +28,7 @@ pub fn fill<R: Read>(from: &mut R, buffer: &mut [u8]) -> Filled
     ensures { IsPrefixLen result.count buffer.new }
 {
     let mut done: usize = 0;
-    // each turn goes on by as many bytes as a read gives
+    // No `for`: a turn goes on by as many bytes as a read gives.
     while done < buffer.len() {
         match from.read(&mut buffer[done..]) {
             Ok(0) => break,

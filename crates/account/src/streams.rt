@@ -1,7 +1,8 @@
 // A program's streams. After a write that nobody reads (EPIPE) nothing more is written: a program that SIGPIPE ends would stop there, and start-up code ignores that signal here.
-ghost use Rattle.std.specs.Prelude.{◌≡◌, true, false, OnOk, IsErr};
+ghost use Rattle.std.specs.Prelude.{◌≡◌, true, false, OnOk, IsErr, IfErr};
 ghost use Rattle.std.specs.Io.KnownBytes.{Appends};
 ghost use Rattle.text.specs.Text.{decimal};
+ghost use Rattle.account.specs.Status.{IsUnwritten};
 
 use crate::{Failure, going};
 use std::io;
@@ -49,6 +50,7 @@ fn write<W: Write>(to: &mut W, broken: &mut bool, bytes: &[u8]) -> io::Result<()
 // To standard output: what isn't written ends the run.
 pub fn put<I, O: Write, E>(streams: &mut Streams<I, O, E>, bytes: &[u8]) -> Result<(), Failure>
     ensures written { OnOk result (Appends (O.contents streams.old.stdout) (O.contents streams.new.stdout) bytes.now) }
+    ensures unwritten { IfErr result IsUnwritten }
     ensures broken { streams.old.broken ≡ true → IsErr result }
     ensures stdin { streams.new.stdin ≡ streams.old.stdin }
     ensures stderr { streams.new.stderr ≡ streams.old.stderr }

@@ -107,7 +107,7 @@ pub fn chunk<I, O: Write, E: Write>(
 {
     let mut pack = before;
     let mut at: usize = 0;
-    // each turn goes on to the bit after the next start code
+    // No `for`: a turn goes on to the bit after the next start code.
     while at / 8 < bytes.len() {
         let stream = pack.stream;
         let passed = stream::pass(stream, bytes, at, picture);

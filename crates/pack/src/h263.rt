@@ -97,7 +97,7 @@ pub fn chunk<I, O: Write, E: Write>(
 ) -> Result<H263Pack, Failure> {
     let mut pack = before;
     let mut at: usize = 0;
-    // each turn goes on to the byte after the next code
+    // No `for`: a turn goes on to the byte after the next code.
     while at < bytes.len() {
         let stream = pack.stream;
         let passed = h263_stream::pass(stream, bytes, at, picture);

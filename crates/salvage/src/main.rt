@@ -451,6 +451,13 @@ fn opened<R: Files>(rt: &R, path: &[u8]) -> io::Result<R::File> {
     }
 }
 
+// The list twice, to be read in two places.
+fn twice<R: Files>(rt: &R, path: &[u8]) -> io::Result<(R::File, R::File)> {
+    let file = opened(rt, path)?;
+    let ahead = opened(rt, path)?;
+    Ok((file, ahead))
+}
+
 // A file that can't be opened is named by its path.
 fn of_file<R: Files, I, O: Write, E: Write>(
     rt: &R,
@@ -460,15 +467,15 @@ fn of_file<R: Files, I, O: Write, E: Write>(
     new: u16,
     path: &[u8],
 ) -> Result<Ended, Failure> {
-    match (opened(rt, path), opened(rt, path)) {
-        (Ok(mut file), Ok(mut ahead)) => {
+    match twice(rt, path) {
+        Ok((mut file, mut ahead)) => {
             let end = over(streams, kind, old, new, &mut file, &mut ahead);
             if let Err(failure) = end {
                 say_failure(streams, failure);
             }
             end
         }
-        (Err(why), _) | (_, Err(why)) => {
+        Err(why) => {
             account::streams::fail(streams, path, Some(why));
             Err(Failure::Unread(why))
         }
