@@ -1,5 +1,6 @@
 // How a program's run goes on after a write.
-ghost use Rattle.std.specs.Prelude.{◌≡◌, Ok, Err, MatchResult};
+ghost use Rattle.std.specs.Prelude.{◌≡◌};
+ghost use Rattle.account.specs.Going.{going_after_write};
 ghost use Rattle.account.specs.declared.Failure.TheVariants.{Unwritten};
 
 use crate::Failure;
@@ -7,7 +8,7 @@ use std::io;
 
 // It goes on where all was written, and else ends.
 pub fn written(all: io::Result<()>) -> Result<(), Failure>
-    ensures { MatchResult all (λ done. result ≡ Ok done) (λ why. result ≡ Err (Unwritten why)) }
+    ensures { result ≡ going_after_write Unwritten all }
 {
     match all {
         Ok(()) => Ok(()),

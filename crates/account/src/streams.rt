@@ -32,6 +32,14 @@ pub fn over<I, O, E>(stdin: I, stdout: O, stderr: E) -> Streams<I, O, E>
     }
 }
 
+// Why a write failed is handed on as it is; whether nobody reads what is written is kept.
+fn note(broken: &mut bool, why: io::Error) -> io::Error
+    ensures { result ≡ why }
+{
+    *broken = why.kind() == ErrorKind::BrokenPipe;
+    why
+}
+
 // Writes all of the bytes, or says why not; after a write that nobody reads nothing is written.
 fn write<W: Write>(to: &mut W, broken: &mut bool, bytes: &[u8]) -> io::Result<()>
     ensures written { OnOk result (Appends (W.contents to.old) (W.contents to.new) bytes.now) }
@@ -40,11 +48,10 @@ fn write<W: Write>(to: &mut W, broken: &mut bool, bytes: &[u8]) -> io::Result<()
     if *broken {
         return Err(io::Error::from(ErrorKind::BrokenPipe));
     }
-    let written = to.write_all(bytes);
-    if let Err(why) = written {
-        *broken = why.kind() == ErrorKind::BrokenPipe;
+    match to.write_all(bytes) {
+        Ok(()) => Ok(()),
+        Err(why) => Err(note(broken, why)),
     }
-    written
 }
 
 // To standard output: what isn't written ends the run.

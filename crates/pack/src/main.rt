@@ -183,7 +183,7 @@ fn say_failure<I, O, E: Write>(streams: &mut Streams<I, O, E>, terminal: bool, f
         }
         Failure::Unwritten(why) => {
             let what = b"pack: a picture's blocks could not be written";
-            recording::say_failure(streams, terminal, what, why);
+            recording::say_unwritten(streams, terminal, what, why);
         }
     }
 }

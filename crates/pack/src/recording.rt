@@ -38,10 +38,11 @@ pub fn open(sender: Sender, terminal: bool) -> Recording {
 // ---- what is said
 
 // The line that a terminal shows last makes room for another.
-fn clear<I, O, E: Write>(streams: &mut Streams<I, O, E>, terminal: bool) {
+fn clear<I, O, E: Write>(streams: &mut Streams<I, O, E>, terminal: bool) -> io::Result<()> {
     if terminal {
-        let _ = account::streams::say(streams, b"\r\x1b[K");
+        return account::streams::say(streams, b"\r\x1b[K");
     }
+    Ok(())
 }
 
 fn say_progress<I, O, E: Write>(
@@ -70,7 +71,7 @@ fn say_refused<I, O, E: Write>(
     offset: usize,
     why: Refusal,
 ) {
-    clear(streams, terminal);
+    let _ = clear(streams, terminal);
     let mut text = [0u8; 128];
     let count = text::remarks::refused(offset as u64, why, &mut text);
     let _ = account::streams::say(streams, &text[..count]);
@@ -78,7 +79,7 @@ fn say_refused<I, O, E: Write>(
 
 // What stands before the first picture.
 fn say_before<I, O, E: Write>(streams: &mut Streams<I, O, E>, terminal: bool, bytes: usize) {
-    clear(streams, terminal);
+    let _ = clear(streams, terminal);
     let mut text = [0u8; 128];
     let count = account::remarks::before(bytes as u64, &mut text);
     let _ = account::streams::say(streams, &text[..count]);
@@ -293,8 +294,22 @@ pub fn say_failure<I, O, E: Write>(
     what: &[u8],
     why: io::Error,
 ) {
-    clear(streams, terminal);
+    let _ = clear(streams, terminal);
     account::streams::fail(streams, what, Some(why));
+}
+
+// Why a picture's blocks were not written. The reason told is that of the last write that failed, which may be the one that makes room for the line.
+pub fn say_unwritten<I, O, E: Write>(
+    streams: &mut Streams<I, O, E>,
+    terminal: bool,
+    what: &[u8],
+    why: io::Error,
+) {
+    let last = match clear(streams, terminal) {
+        Ok(()) => why,
+        Err(last) => last,
+    };
+    account::streams::fail(streams, what, Some(last));
 }
 
 // A stream of so many bytes, in which a picture has begun or none has.
