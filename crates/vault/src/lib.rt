@@ -241,7 +241,7 @@ pub fn judge(size: Size, standard: Standard, clip: u16, block: &[u8]) -> Result<
     ensures { told_checked result ≡ judge_of size standard clip block.now }
 {
     let header = of_clip(size, clip, block)?;
-    if header.standard != standard {
+    if !same_standard(header.standard, standard) {
         return refused(Reason::OtherFormat);
     }
     Ok(header)

@@ -1,30 +1,13 @@
 -- `vault::judge` meets its contract: by what `of_clip` found. Assumes nothing.
-use denote.Enum.Bare.{differs_true, differs_false}
-use Rattle.std.proofs.Common.{rules}
-use mathlib.Core.Path.{◌≡◌, refl, sym, ap, ◌∙◌}
+use mathlib.Core.Path.{◌≡◌, sym, ap, ◌∙◌}
 use mathlib.Core.Bool.{true, false}
 use Rattle.std.proofs.lemmas.Result.{err_from_is_err_and}
 use Rattle.refusals.specs.Number.{number, read_table}
 use Rattle.refusals.specs.Told.{Told, accepted, refused}
 use Rattle.vault.specs.declared.Standard.{Standard}
-use Rattle.vault.specs.declared.Standard.TheVariants.{H261, H263}
-use Rattle.vault.specs.contracts.Standard.{the_type}
 use Rattle.vault.specs.declared.Header.{Header}
 use Rattle.vault.specs.Block.{told_checked, same_standard, of_standard, judge_of}
 use Rattle.vault.proofs.judge.Goals as goal
-
-apart : (a b : Standard) → (a ≡ b → ⊥) → same_standard a b ≡ false
-apart H261 H261 h = absurd (h refl)
-apart H261 H263 h = refl
-apart H263 H261 h = refl
-apart H263 H263 h = absurd (h refl)
-
-one : (a b : Standard) → a ≡ b → same_standard a b ≡ true
-one a b e = sym (ap (same_standard a) e) ∙ itself a
-  where
-    itself : (a : Standard) → same_standard a a ≡ true
-    itself H261 = refl
-    itself H263 = refl
 
 module _ (standard : Standard) {found : Told Header} (header : Header) (e : accepted header ≡ found) where
   own : same_standard header.standard standard ≡ true → accepted header ≡ of_standard standard found
@@ -39,11 +22,11 @@ module _ (standard : Standard) {found : Told Header} (header : Header) (e : acce
       is : of_standard standard (accepted header) ≡ refused 5 0
       is = rw differs
 
-pub returns-then-ne : goal.returns-then-ne
+pub returns-then-not-same_standard : goal.returns-then-not-same_standard
 unfolding judge_of number read_table
-returns-then-ne c =
+returns-then-not-same_standard c =
     ap told_checked c.refused.ensures
-    ∙ other c.args.standard _ (sym (ap told_checked c.in_ok-header.was) ∙ c.of_clip.ensures) (apart _ _ (differs_true the_type _ _ (sym c.ne.ensures ∙ c.if-ne.true)))
+    ∙ other c.args.standard _ (sym (ap told_checked c.in_ok-header.was) ∙ c.of_clip.ensures) (sym c.same_standard.ensures ∙ c.if-not-same_standard.true)
 
 pub returns-in_err-header : goal.returns-in_err-header
 unfolding judge_of
@@ -53,4 +36,4 @@ returns-in_err-header c =
 
 pub returns : goal.returns
 unfolding judge_of
-returns c = own c.args.standard _ (sym (ap told_checked c.in_ok-header.was) ∙ c.of_clip.ensures) (one _ _ (differs_false the_type (search rules) _ _ (sym c.ne.ensures ∙ c.if-ne.false)))
+returns c = own c.args.standard _ (sym (ap told_checked c.in_ok-header.was) ∙ c.of_clip.ensures) (sym c.same_standard.ensures ∙ c.if-not-same_standard.false)
