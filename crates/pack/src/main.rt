@@ -179,11 +179,14 @@ fn say_failure<I, O, E: Write>(streams: &mut Streams<I, O, E>, terminal: bool, f
         }
         Failure::Unread(why) => {
             let what = b"pack: the stream could not be read";
-            recording::say_failure(streams, terminal, what, why);
+            let _ = recording::clear(streams, terminal);
+            account::streams::fail(streams, what, Some(why));
         }
+        // The reason told is that of the last write that failed, which may be the one that makes room for the line.
         Failure::Unwritten(why) => {
             let what = b"pack: a picture's blocks could not be written";
-            recording::say_unwritten(streams, terminal, what, why);
+            let last = recording::clear(streams, terminal).err().unwrap_or(why);
+            account::streams::fail(streams, what, Some(last));
         }
     }
 }

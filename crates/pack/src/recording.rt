@@ -38,7 +38,7 @@ pub fn open(sender: Sender, terminal: bool) -> Recording {
 // ---- what is said
 
 // The line that a terminal shows last makes room for another.
-fn clear<I, O, E: Write>(streams: &mut Streams<I, O, E>, terminal: bool) -> io::Result<()> {
+pub fn clear<I, O, E: Write>(streams: &mut Streams<I, O, E>, terminal: bool) -> io::Result<()> {
     if terminal {
         return account::streams::say(streams, b"\r\x1b[K");
     }
@@ -286,31 +286,6 @@ pub fn begin<I, O, E: Write>(
 }
 
 // ---- the end
-
-// Why the stream was not packed to its end: the line that a terminal shows makes room for it.
-pub fn say_failure<I, O, E: Write>(
-    streams: &mut Streams<I, O, E>,
-    terminal: bool,
-    what: &[u8],
-    why: io::Error,
-) {
-    let _ = clear(streams, terminal);
-    account::streams::fail(streams, what, Some(why));
-}
-
-// Why a picture's blocks were not written. The reason told is that of the last write that failed, which may be the one that makes room for the line.
-pub fn say_unwritten<I, O, E: Write>(
-    streams: &mut Streams<I, O, E>,
-    terminal: bool,
-    what: &[u8],
-    why: io::Error,
-) {
-    let last = match clear(streams, terminal) {
-        Ok(()) => why,
-        Err(last) => last,
-    };
-    account::streams::fail(streams, what, Some(last));
-}
 
 // A stream of so many bytes, in which a picture has begun or none has.
 pub fn end<I, O, E: Write>(
